@@ -1,0 +1,19 @@
+-- Document 01, "What a call returns": the first column of the table.
+use Prim.Native.Nat.{ℕ}
+use Rattle.refusal.specs.declared.Refusal.{Refusal}
+use Rattle.refusal.specs.declared.Refusal.the-variants.{Short, Kind, Place, Count, Object, Size, Buffer, Setting, Schedule, Graph, Large, File}
+
+-- the number that is returned for each cause
+abbrev pub number : Refusal → ℕ
+number Short = 1
+number Kind = 2
+number Place = 3
+number Count = 4
+number Object = 5
+number Size = 6
+number Buffer = 7
+number Setting = 8
+number Schedule = 9
+number Graph = 10
+number Large = 11
+number File = 12
