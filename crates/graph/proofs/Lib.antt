@@ -1,0 +1,5 @@
+pub mod Formed
+pub mod Reached
+pub mod Scan
+pub mod View
+pub mod OverMarked

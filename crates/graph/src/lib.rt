@@ -1,0 +1,94 @@
+// The store as a graph: offsets and targets. Check 10 of them, and the view of one object's
+// references. Any offsets and any targets may come in.
+ghost use mathlib.Core.Path.{_≡_};
+ghost use mathlib.Core.List.{List};
+ghost use Prim.Native.Nat.{ℕ};
+ghost use lib.ListN.{length};
+ghost use Rattle.graph.specs.Graph.{rising, allBelow, wellFormed, referencesOf, IsPart, graph};
+
+// Whether no offset is above the one after it.
+pub fn is_rising(offsets: &[u32]) -> bool
+    ensures { λ r. ⌜ r ≡ rising (now (offsets .entry)) ⌝ }
+{
+    let mut i: usize = 1;
+    while i < offsets.len() {
+        if offsets[i] < offsets[i - 1] {
+            return false;
+        }
+        i += 1;
+    }
+    true
+}
+
+// Whether every number is below n.
+pub fn is_below(n: usize, numbers: &[u32]) -> bool
+    ensures { λ r. ⌜ r ≡ allBelow n (now (numbers .entry)) ⌝ }
+{
+    let mut i: usize = 0;
+    while i < numbers.len() {
+        if n <= numbers[i] as usize {
+            return false;
+        }
+        i += 1;
+    }
+    true
+}
+
+// Check 10: whether the offsets and targets are a graph.
+pub fn well_formed(offsets: &[u32], targets: &[u32]) -> bool
+    ensures { λ r. ⌜ r ≡ wellFormed (graph (now (offsets .entry)) (now (targets .entry))) ⌝ }
+{
+    if offsets.len() == 0 {
+        return false;
+    }
+    if offsets[0] != 0 {
+        return false;
+    }
+    let n = offsets.len() - 1;
+    if !is_rising(offsets) {
+        return false;
+    }
+    if offsets[n] as usize != targets.len() {
+        return false;
+    }
+    is_below(n, targets)
+}
+
+// A part of the targets: from `start` up to `end`.
+pub struct Part {
+    pub start: usize,
+    pub end: usize,
+}
+
+// Where object v's references stand among so many targets; the empty part at 0 for none.
+pub fn part_of(offsets: &[u32], count: usize, v: u32) -> Part
+    ensures { λ r. ⌜ ((ts : List ℕ) → length ts ≡ count → IsPart (graph (now (offsets .entry)) ts) v (r .start) (r .end)) ⌝ }
+{
+    let i = v as usize;
+    if offsets.len() <= i {
+        return Part { start: 0, end: 0 };
+    }
+    // The last offset begins no object's part.
+    if offsets.len() - i <= 1 {
+        return Part { start: 0, end: 0 };
+    }
+    let start = offsets[i] as usize;
+    let end = offsets[i + 1] as usize;
+    if end < start {
+        return Part { start: 0, end: 0 };
+    }
+    if count < end {
+        return Part { start: 0, end: 0 }; // past the targets
+    }
+    Part { start, end }
+}
+
+// The view: the references of object v as that part of the targets, or the empty part.
+pub fn references_of<'a>(offsets: &[u32], targets: &'a [u32], v: u32) -> &'a [u32]
+    ensures { λ r. ⌜ now r ≡ referencesOf (graph (now (offsets .entry)) (now (targets .entry))) v ⌝ }
+{
+    let part = part_of(offsets, targets.len(), v);
+    let start = part.start;
+    let end = part.end;
+    &targets[start..end]
+}
