@@ -1,0 +1,74 @@
+-- What the reader fills in is a graph without fault 10, and the view on it is what the catalogue says.
+use mathlib.Core.Path.{_≡_, sym, subst, _∙_}
+use mathlib.Core.List.{List, [], _∷_, map}
+use Prim.Native.Nat.{ℕ, suc, _-_, _≤_, _<_}
+use native.Mathlib.Omega.{arith}
+use lib.ListN.{length-map}
+use Rattle.laws.specs.Every.{Every}
+use Rattle.laws.specs.Grouping.{count, grouped, below}
+use Rattle.laws.proofs.Grouping.{length-starts, length-grouped, getD-starts, below-zero, below-suc, below-all, below-le, every-grouped, mapped-part}
+use Rattle.graph.specs.Graph.{referencesOf, objects as graph-objects, references as graph-references, first, after}
+use Rattle.graph.specs.Formed.{Formed}
+use Rattle.graph.proofs.Formed.{well-formed}
+use Rattle.graph.proofs.View.{view-part}
+use Rattle.catalogue.specs.Store.{Store, Pair, Ends, InRange, objects, references, targetsOf}
+use Rattle.catalogue.specs.Fill.{fromOf, toOf}
+use Rattle.catalogue.specs.Reading.{reading, accepted, catalogueFault, storeOf}
+use Rattle.catalogue.specs.ReadGraph.{ReadGraph, readGraph, targetsFrom}
+use Rattle.catalogue.proofs.Filling.{every-at}
+use Rattle.catalogue.proofs.Accepted.{whole-bytes, whole-range}
+use Rattle.catalogue.proofs.Acceptance.{outcome-store}
+
+from-ends : (n : ℕ) (l : List Pair) → Every (Ends n) l → Every (λ (p : Pair). p .from < n) l
+from-ends n [] h = tt
+from-ends n (p ∷ l) h = (h .0 .from-below, from-ends n l (h .1))
+
+to-ends : (n : ℕ) (l : List Pair) → Every (Ends n) l → Every (λ (x : ℕ). x < n) (map toOf l)
+to-ends n [] h = tt
+to-ends n (p ∷ l) h = (h .0 .to-below, to-ends n l (h .1))
+
+module _ (s : Store) (r : InRange s) where
+  counts : below fromOf (objects s) (s .pairs) ≡ references s
+  counts = below-all fromOf (objects s) (s .pairs) (from-ends (objects s) (s .pairs) (r .ends-below))
+
+  objects-is : graph-objects (readGraph s) ≡ objects s
+  objects-is = omega (arith, length-starts fromOf (objects s) (s .pairs))
+
+  references-is : graph-references (readGraph s) ≡ references s
+  references-is = length-map (grouped fromOf (objects s) (s .pairs)) toOf ∙ length-grouped fromOf (objects s) (s .pairs) ∙ counts
+
+  first-is : (v : ℕ) → v ≤ objects s → first (readGraph s) v ≡ below fromOf v (s .pairs)
+  first-is v h = getD-starts fromOf (objects s) v (s .pairs) h
+
+  is-formed : Formed (readGraph s)
+  is-formed =
+      record {
+        some = omega (arith, length-starts fromOf (objects s) (s .pairs));
+        from-zero = first-is 0 (omega arith) ∙ below-zero fromOf (s .pairs);
+        rises = λ v h.
+            omega (arith, objects-is, first-is v (omega (arith, objects-is)), first-is (suc v) (omega (arith, objects-is)), below-suc fromOf v (s .pairs));
+        to-all = rw objects-is (first-is (objects s) (omega arith) ∙ counts ∙ sym references-is);
+        inside = λ e h.
+            rw objects-is
+            (every-at (λ (x : ℕ). x < objects s) (targetsOf s) e 0
+            (to-ends (objects s) (grouped fromOf (objects s) (s .pairs)) (every-grouped fromOf (Ends (objects s)) (objects s) (s .pairs) (r .ends-below))) h);
+      }
+
+  view-is : (v : ℕ) → v < objects s → referencesOf (readGraph s) v ≡ targetsFrom s v
+  view-is v h =
+      let a = first-is v (omega arith) in
+      let z = first-is (suc v) (omega arith) in
+      let q : after (readGraph s) v - first (readGraph s) v ≡ count fromOf v (s .pairs) = omega (arith, a, z, below-suc fromOf v (s .pairs)) in
+      view-part (readGraph s) v (omega (arith, objects-is)) (omega (arith, a, z, below-suc fromOf v (s .pairs)))
+      (omega (arith, z, references-is, below-le fromOf (suc v) (s .pairs)))
+      ∙ rw (q, a) (mapped-part fromOf toOf (objects s) v (s .pairs) h)
+
+  pub store-graph : ReadGraph s
+  store-graph = record { n-is = objects-is; m-is = references-is; passes = well-formed (readGraph s) is-formed; view = view-is }
+
+-- of every accepted catalogue
+pub read-graph : (b : List ℕ) (s : Store) → reading b ≡ accepted s → ReadGraph s
+unfolding reading
+read-graph b s e =
+    let o = outcome-store (catalogueFault b) (storeOf b) s e in
+    store-graph s (subst InRange (o .1) (whole-range b (whole-bytes b (o .0))))

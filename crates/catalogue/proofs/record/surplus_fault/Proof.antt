@@ -1,0 +1,20 @@
+-- `catalogue::record::surplus_fault` meets its contract: nothing is left, or a record where none is due.
+use Rattle.catalogue.proofs.Checking.{surplus-none, surplus-some}
+use mathlib.Core.Path.{_∙_}
+use native.Mathlib.Omega.{arith}
+use borrow.Author.Needs.{needs}
+use Rattle.catalogue.proofs.record.surplus_fault.Statement.{statement}
+use Rattle.catalogue.proofs.record.surplus_fault.Tie as tie
+
+returns : tie.Need-returns
+returns c = let a = c .before .before .args in surplus-none (a .n) (a .at) (a .bytes .now) (c .if1 .taken)
+
+fault-at-requires : tie.Need-fault-at-requires
+fault-at-requires c κs = search needs
+
+returns-2 : tie.Need-returns-2
+returns-2 c = let a = c .before .before .before .args in
+    c .fault-at .ensures ∙ surplus-some (a .n) (a .at) (a .bytes .now) (omega (arith, c .before .if1 .left))
+
+pub surplus-fault-spec : {M : Type 1} → statement M
+surplus-fault-spec = tie.close (tie.spec returns fault-at-requires returns-2)

@@ -1,0 +1,86 @@
+-- Document 01, "What a call returns": the answers of the header call and of the reader, and the buffers afterwards.
+use mathlib.Core.List.{List}
+use mathlib.Core.Bool.{Bool, true, false, not, _||_}
+use Prim.Native.Nat.{ℕ, zero, suc, _+_}
+use mathlib.Core.Path.{_≡_}
+use lib.ListN.{length}
+use lib.Dec.{eqb}
+use Rattle.refusal.specs.Number.{number}
+use Rattle.catalogue.specs.declared.Answer.{Answer}
+use Rattle.catalogue.specs.declared.Answer.the-variants.{Found, Refused}
+use Rattle.catalogue.specs.declared.record.Fault.{Fault}
+use Rattle.catalogue.specs.declared.record.Fault.the-variants.{Clear, Flaw}
+use Rattle.catalogue.specs.Store.{Store, objects, references, offsetsOf, targetsOf}
+use Rattle.catalogue.specs.Layout.{header}
+use Rattle.catalogue.specs.Reading.{Reading, refused, accepted, reading, recordFault, n-field, m-field, index-field}
+
+-- the number returned, n, m and the index
+pub record Row : Type 0 where
+  pub refusal : ℕ
+  pub n : ℕ
+  pub m : ℕ
+  pub index : ℕ
+
+-- beside a refusal all other result fields are 0
+abbrev pub refusal-row : ℕ → Row
+refusal-row k = record { refusal = k; n = 0; m = 0; index = 0 }
+
+-- the paper's number and values for each case of an answer
+abbrev pub row : Answer → Row
+row (Found n m index) = record { refusal = 0; n = n; m = m; index = index }
+row (Refused r) = refusal-row (number r)
+
+-- the number of a fault in a record, 0 for none
+abbrev pub faultNumber : Fault → ℕ
+faultNumber Clear = 0
+faultNumber (Flaw r) = number r
+
+abbrev pub header-values : ℕ → List ℕ → Row
+header-values zero b = record { refusal = 0; n = n-field b; m = m-field b; index = index-field b }
+header-values (suc k) b = refusal-row (suc k)
+
+-- a header call reads only the header record and returns n, m and the index
+unfoldable pub headerRow : List ℕ → Row
+headerRow b = header-values (recordFault header (n-field b) b) b
+
+-- lengths are exact: n + 1 offsets, m targets, n sizes
+abbrev pub misfitting : Store → ℕ → ℕ → ℕ → Bool
+misfitting s offsets targets sizes =
+    not (eqb offsets (objects s + 1)) || not (eqb targets (references s)) || not (eqb sizes (objects s))
+
+abbrev pub lentTo : Bool → Store → Reading
+lentTo true s = refused 7
+lentTo false s = accepted s
+
+-- 7 comes after the whole catalogue
+abbrev pub lent : Reading → ℕ → ℕ → ℕ → Reading
+lent (refused k) offsets targets sizes = refused k
+lent (accepted s) offsets targets sizes = lentTo (misfitting s offsets targets sizes) s
+
+abbrev pub readRow : Reading → Row
+readRow (refused k) = refusal-row k
+readRow (accepted s) = record { refusal = 0; n = objects s; m = references s; index = s .index }
+
+-- every lent word afterwards: unchanged beside a refusal
+abbrev pub offsetsAfter : Reading → List ℕ → List ℕ
+offsetsAfter (refused k) before = before
+offsetsAfter (accepted s) before = offsetsOf s
+
+abbrev pub targetsAfter : Reading → List ℕ → List ℕ
+targetsAfter (refused k) before = before
+targetsAfter (accepted s) before = targetsOf s
+
+abbrev pub sizesAfter : Reading → List ℕ → List ℕ
+sizesAfter (refused k) before = before
+sizesAfter (accepted s) before = s .sizes
+
+-- what the reader makes of the bytes and the lent lengths
+abbrev pub taken : List ℕ → List ℕ → List ℕ → List ℕ → Reading
+taken b offsets targets sizes = lent (reading b) (length offsets) (length targets) (length sizes)
+
+-- what the reader returns, and every lent word afterwards
+pub record Reads (b o t s : List ℕ) (r : Row) (o′ t′ s′ : List ℕ) : Type 0 where
+  pub returned : r ≡ readRow (taken b o t s)
+  pub offsets-are : o′ ≡ offsetsAfter (taken b o t s) o
+  pub targets-are : t′ ≡ targetsAfter (taken b o t s) t
+  pub sizes-are : s′ ≡ sizesAfter (taken b o t s) s

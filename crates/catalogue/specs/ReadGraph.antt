@@ -1,0 +1,23 @@
+-- What the reader fills in as a graph: it passes the marker's check 10, and the view of an object on it is the object's
+-- references in catalogue order.
+use mathlib.Core.Path.{_≡_}
+use mathlib.Core.Bool.{true}
+use mathlib.Core.List.{List, map}
+use Prim.Native.Nat.{ℕ, _<_}
+use Rattle.laws.specs.Grouping.{part}
+use Rattle.graph.specs.Graph.{Graph, graph, wellFormed, referencesOf, objects as graph-objects, references as graph-references}
+use Rattle.catalogue.specs.Store.{Store, Pair, objects, references, offsetsOf, targetsOf}
+
+-- the graph that the filled offsets and targets are
+abbrev pub readGraph : Store → Graph
+readGraph s = graph (offsetsOf s) (targetsOf s)
+
+-- the targets of v's references, in catalogue order
+abbrev pub targetsFrom : Store → ℕ → List ℕ
+targetsFrom s v = map (λ (p : Pair). p .to) (part (λ (p : Pair). p .from) v (s .pairs))
+
+pub record ReadGraph (s : Store) : Type 0 where
+  pub n-is : graph-objects (readGraph s) ≡ objects s
+  pub m-is : graph-references (readGraph s) ≡ references s
+  pub passes : wellFormed (readGraph s) ≡ true
+  pub view : (v : ℕ) → v < objects s → referencesOf (readGraph s) v ≡ targetsFrom s v

@@ -1,0 +1,155 @@
+-- Document 01, "What a call returns", 1 to 6: what the reader makes of any bytes.
+use mathlib.Core.List.{List, [], _∷_, _++_}
+use mathlib.Core.Bool.{Bool, true, false, not, _||_}
+use Prim.Native.Nat.{ℕ, zero, suc, _+_, _*_}
+use lib.ListN.{length, drop, replicate}
+use lib.Dec.{ltb, eqb}
+use Rattle.laws.specs.Choice.{pick}
+use Rattle.laws.specs.Words.{word}
+use Rattle.refusal.specs.Order.{raise, first}
+use Rattle.graph.specs.Limits.{most-objects, most-references, largest-size}
+use Rattle.catalogue.specs.Store.{Pair, Store}
+use Rattle.catalogue.specs.Layout.{header, object, reference, header-length, entry-length}
+
+-- the word of so many bytes at a place
+abbrev pub field : ℕ → ℕ → List ℕ → ℕ
+field width place b = word width (drop place b)
+
+-- of a record: its length and its kind; of a header: n, m and the index; of an object: its size; of a reference: its pair
+abbrev pub length-field : List ℕ → ℕ
+length-field b = field 2 0 b
+
+abbrev pub kind-field : List ℕ → ℕ
+kind-field b = field 2 2 b
+
+abbrev pub n-field : List ℕ → ℕ
+n-field b = field 4 4 b
+
+abbrev pub m-field : List ℕ → ℕ
+m-field b = field 4 8 b
+
+abbrev pub index-field : List ℕ → ℕ
+index-field b = field 4 12 b
+
+abbrev pub size-field : List ℕ → ℕ
+size-field b = field 8 4 b
+
+abbrev pub pair-field : List ℕ → Pair
+pair-field b = record { from = field 4 4 b; to = field 4 8 b }
+
+pub data Kind : Type 0 where
+  header-kind object-kind reference-kind unknown : Kind
+
+abbrev pub kindOf : ℕ → Kind
+kindOf zero = unknown
+kindOf (suc zero) = header-kind
+kindOf (suc (suc zero)) = object-kind
+kindOf (suc (suc (suc zero))) = reference-kind
+kindOf (suc (suc (suc (suc k)))) = unknown
+
+-- 1: fewer than 4 bytes left for a record, or fewer than its length says
+abbrev pub short : List ℕ → Bool
+short b = ltb (length b) 4 || ltb (length b) (length-field b)
+
+-- 2: kind unknown, or length not that of the kind
+abbrev pub misfit : Kind → List ℕ → Bool
+misfit header-kind b = not (eqb (length-field b) header-length)
+misfit object-kind b = not (eqb (length-field b) entry-length)
+misfit reference-kind b = not (eqb (length-field b) entry-length)
+misfit unknown b = true
+
+-- what is due where the catalogue is complete: no kind
+abbrev pub nothing : ℕ
+nothing = 0
+
+-- 3: record of a known kind out of its place, or one too many
+abbrev pub misplaced : ℕ → Kind → Bool
+misplaced due header-kind = not (eqb due header)
+misplaced due object-kind = not (eqb due object)
+misplaced due reference-kind = not (eqb due reference)
+misplaced due unknown = false
+
+-- 4: n or m outside its range
+abbrev pub miscounted : Kind → List ℕ → Bool
+miscounted header-kind b = ltb (n-field b) 1 || ltb most-objects (n-field b) || ltb most-references (m-field b)
+miscounted object-kind b = false
+miscounted reference-kind b = false
+miscounted unknown b = false
+
+-- 5: index, from or to not below n
+abbrev pub misnamed : Kind → ℕ → List ℕ → Bool
+misnamed header-kind n b = not (ltb (index-field b) (n-field b))
+misnamed object-kind n b = false
+misnamed reference-kind n b = not (ltb (pair-field b .from) n) || not (ltb (pair-field b .to) n)
+misnamed unknown n b = false
+
+-- 6: a size above the largest
+abbrev pub oversized : Kind → List ℕ → Bool
+oversized header-kind b = false
+oversized object-kind b = ltb largest-size (size-field b)
+oversized reference-kind b = false
+oversized unknown b = false
+
+-- within one record the order is 1, 2, 3, 4, 5, 6
+abbrev pub contentsFault : Kind → ℕ → ℕ → List ℕ → ℕ
+contentsFault k due n b =
+    raise (misfit k b) 2
+    (raise (misplaced due k) 3 (raise (miscounted k b) 4 (raise (misnamed k n b) 5 (raise (oversized k b) 6 0))))
+
+-- the fault of the record with which the bytes begin, where a kind is due and there are n objects; 0 for none
+unfoldable pub recordFault : ℕ → ℕ → List ℕ → ℕ
+recordFault due n b = raise (short b) 1 (contentsFault (kindOf (kind-field b)) due n b)
+
+-- then nothing: what still stands there is one too many, or no record at all
+abbrev pub surplusFault : ℕ → List ℕ → ℕ
+surplusFault n [] = 0
+surplusFault n (x ∷ b) = recordFault nothing n (x ∷ b)
+
+abbrev pub lengthOf : Kind → ℕ
+lengthOf header-kind = header-length
+lengthOf object-kind = entry-length
+lengthOf reference-kind = entry-length
+lengthOf unknown = 0
+
+-- the reader goes record by record, by the kinds that are due
+unfoldable pub faults : ℕ → List ℕ → List ℕ → ℕ
+faults n [] b = surplusFault n b
+faults n (due ∷ later) b = first (recordFault due n b) (faults n later (drop (lengthOf (kindOf due)) b))
+
+-- after the header n objects are due, then m references
+abbrev pub dues : ℕ → ℕ → List ℕ
+dues n m = replicate n object ++ replicate m reference
+
+-- the kind that is due with so many records between it and the header
+abbrev pub dueAt : ℕ → ℕ → ℕ
+dueAt n i = pick (ltb i n) object reference
+
+-- one header stands first
+unfoldable pub catalogueFault : List ℕ → ℕ
+catalogueFault b = faults (n-field b) (header ∷ dues (n-field b) (m-field b)) b
+
+-- what so many objects or references say, one record after the other
+unfoldable pub entries : {A : Type 0} → (List ℕ → A) → ℕ → List ℕ → List A
+entries f zero b = []
+entries f (suc k) b = f b ∷ entries f k (drop entry-length b)
+
+-- the store that the bytes tell, where they have no fault
+unfoldable pub storeOf : List ℕ → Store
+storeOf b =
+    record {
+      index = index-field b;
+      sizes = entries size-field (n-field b) (drop header-length b);
+      pairs = entries pair-field (m-field b) (drop (header-length + entry-length * n-field b) b);
+    }
+
+pub data Reading : Type 0 where
+  refused : ℕ → Reading
+  accepted : Store → Reading
+
+abbrev pub outcome : ℕ → Store → Reading
+outcome zero s = accepted s
+outcome (suc k) s = refused (suc k)
+
+-- what the reader makes of bytes: the number of the first fault, or the store
+unfoldable pub reading : List ℕ → Reading
+reading b = outcome (catalogueFault b) (storeOf b)

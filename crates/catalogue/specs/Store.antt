@@ -1,0 +1,47 @@
+-- Document 01, "The catalogue": what a catalogue says, and what the reader makes of it.
+use mathlib.Core.List.{List, map}
+use Prim.Native.Nat.{ℕ, _≤_, _<_}
+use lib.ListN.{length}
+use Rattle.laws.specs.Every.{Every}
+use Rattle.graph.specs.Limits.{most-objects, most-references, largest-size}
+use Rattle.laws.specs.Grouping.{grouped, starts}
+
+-- a reference leads from one object to another
+pub record Pair : Type 0 where
+  pub from : ℕ
+  pub to : ℕ
+
+-- the index object, the size of each object, and the references in catalogue order
+pub record Store : Type 0 where
+  pub index : ℕ
+  pub sizes : List ℕ
+  pub pairs : List Pair
+
+-- document 01's n and m
+abbrev pub objects : Store → ℕ
+objects s = length (s .sizes)
+
+abbrev pub references : Store → ℕ
+references s = length (s .pairs)
+
+-- both ends of a reference are objects
+pub record Ends (n : ℕ) (p : Pair) : Type 0 where
+  pub from-below : p .from < n
+  pub to-below : p .to < n
+
+-- n is 1 to 65,536, m is 0 to 1,048,576, a size is 0 to 1,099,511,627,776; every object number is below n
+pub record InRange (s : Store) : Type 0 where
+  pub some : 1 ≤ objects s
+  pub few : objects s ≤ most-objects
+  pub few-references : references s ≤ most-references
+  pub index-below : s .index < objects s
+  pub sizes-small : Every (λ (x : ℕ). x ≤ largest-size) (s .sizes)
+  pub ends-below : Every (Ends (objects s)) (s .pairs)
+
+-- the n + 1 offsets: offset v says where v's references begin among the targets
+abbrev pub offsetsOf : Store → List ℕ
+offsetsOf s = starts (λ (p : Pair). p .from) (objects s) (s .pairs)
+
+-- the m targets: the references of object 0, of object 1, .., each object's in catalogue order
+abbrev pub targetsOf : Store → List ℕ
+targetsOf s = map (λ (p : Pair). p .to) (grouped (λ (p : Pair). p .from) (objects s) (s .pairs))
