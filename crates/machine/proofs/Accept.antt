@@ -1,0 +1,76 @@
+-- A call without a fault is accepted.
+use mathlib.Core.Path.{_≡_}
+use mathlib.Core.Bool.{true, false, not, _||_}
+use mathlib.Core.List.{[], _∷_}
+use Prim.Native.Nat.{ℕ, _*_, _≤_, _<_}
+use native.Mathlib.Omega.{arith}
+use lib.ListN.{length}
+use lib.Dec.{ltb, eqb}
+use borrow.Author.Tests.{ltb-true, ltb-false, eqb-true, not-false}
+use Rattle.laws.specs.Sum.{sum, hit}
+use Rattle.laws.proofs.Sum.{hit-equal}
+use Rattle.refusal.proofs.None.{raise-none, first-none, or-none}
+use Rattle.graph.specs.Graph.{objects, references}
+use Rattle.graph.specs.Limits.{most-objects, most-references}
+use Rattle.graph.proofs.Formed.{formed}
+use Rattle.machine.specs.Machine.{stretchLength}
+use Rattle.machine.specs.Accepted.{Accepted}
+use Rattle.machine.specs.Call.{Call, graphOf, settingOf, startsOf, most-workers, most-setting, outside, settingFault, countFault, bufferFault, graphFault, indexFault, scheduleFits, fault}
+
+inside : (most x : ℕ) → outside most x ≡ false → (1 ≤ x) × (x ≤ most)
+inside most x e =
+    let p = or-none (ltb x 1) (ltb most x) e in
+    (ltb-false x 1 (p .0), ltb-false most x (p .1))
+
+-- what the checks establish, as plain facts
+pub record Checked (c : Call) (marks work : ℕ) : Type 0 where
+  pub accepted : Accepted (graphOf c) (startsOf c) (c .workers) (settingOf c)
+  pub offsets-some : 2 ≤ length (c .offsets)
+  pub objects-limit : objects (graphOf c) ≤ most-objects
+  pub references-limit : references (graphOf c) ≤ most-references
+  pub marks-exact : marks ≡ objects (graphOf c)
+  pub work-exact : work ≡ c .workers * stretchLength (objects (graphOf c))
+  pub schedule-fits : scheduleFits (c .workers) (c .schedule) ≡ true
+
+one-start : (i n : ℕ) → i < n → (v : ℕ) → 0 < sum (hit v) (i ∷ []) → v < n
+unfolding sum
+one-start i n h v q = let e = hit-equal v i (omega arith) in omega arith
+
+pub checked : (c : Call) (marks work : ℕ) → fault c marks work ≡ 0 → Checked c marks work
+unfolding fault
+checked c marks work e =
+    let f8 = first-none (settingFault (c .workers) (c .batch) (c .cutoff)) _ e in
+    let f4 = first-none (countFault (c .offsets) (c .targets)) _ (f8 .1) in
+    let f7 = first-none (bufferFault (objects (graphOf c)) (c .workers) marks work) _ (f4 .1) in
+    let f10 = first-none (graphFault (graphOf c)) _ (f7 .1) in
+    let f5 = first-none (indexFault (objects (graphOf c)) (c .index)) _ (f10 .1) in
+    let s = or-none (outside most-workers (c .workers) || outside most-setting (c .batch)) (outside most-setting (c .cutoff)) (raise-none _ 7 0 (f8 .0) .0) in
+    let t = or-none (outside most-workers (c .workers)) (outside most-setting (c .batch)) (s .0) in
+    let w = inside most-workers (c .workers) (t .0) in
+    let d = inside most-setting (c .batch) (t .1) in
+    let k = inside most-setting (c .cutoff) (s .1) in
+    let n = or-none (ltb (length (c .offsets)) 2 || ltb most-objects (objects (graphOf c))) (ltb most-references (length (c .targets))) (raise-none _ 3 0 (f4 .0) .0) in
+    let o = or-none (ltb (length (c .offsets)) 2) (ltb most-objects (objects (graphOf c))) (n .0) in
+    let two = ltb-false (length (c .offsets)) 2 (o .0) in
+    let b = or-none (not (eqb marks (objects (graphOf c)))) (not (eqb work (c .workers * stretchLength (objects (graphOf c))))) (raise-none _ 6 0 (f7 .0) .0) in
+    let i = ltb-true (c .index) (objects (graphOf c)) (not-false _ (raise-none _ 4 0 (f5 .0) .0)) in
+    record {
+      accepted =
+          record {
+            formed = formed (graphOf c) (not-false _ (raise-none _ 9 0 (f10 .0) .0));
+            some-object = omega arith;
+            some-worker = w .0;
+            workers-limit = w .1;
+            some-batch = d .0;
+            batch-limit = d .1;
+            some-cutoff = k .0;
+            cutoff-limit = k .1;
+            starts-below = one-start (c .index) (objects (graphOf c)) i;
+          };
+      offsets-some = two;
+      objects-limit = ltb-false most-objects (objects (graphOf c)) (o .1);
+      references-limit = ltb-false most-references (length (c .targets)) (n .1);
+      marks-exact = eqb-true marks (objects (graphOf c)) (not-false _ (b .0));
+      work-exact = eqb-true work (c .workers * stretchLength (objects (graphOf c))) (not-false _ (b .1));
+      schedule-fits = not-false _ (raise-none _ 8 0 (f5 .1) .0);
+    }

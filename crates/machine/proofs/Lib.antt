@@ -1,0 +1,15 @@
+pub mod Accept
+pub mod CaseA
+pub mod Runs
+pub mod Facts
+pub mod Marks
+pub mod Move
+pub mod Change
+pub mod Kept
+pub mod Start
+pub mod Counts
+pub mod Ended
+pub mod Demand2
+pub mod Progress
+pub mod Demand3
+pub mod Instances

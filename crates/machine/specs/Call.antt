@@ -1,0 +1,141 @@
+-- Document 01, "What a call returns": the marker's checks in their order, its answer, and the lent buffers afterwards.
+-- "The marker checks 8, 4 (n is one less than the offsets' length, m the targets' length), 7, 10, 5, 9."
+use Prim.Native.Nat.{ℕ, zero, suc, _*_}
+use mathlib.Core.Bool.{Bool, true, false, not, _||_}
+use mathlib.Core.List.{List, [], _∷_}
+use lib.ListN.{length}
+use lib.Dec.{ltb, eqb}
+use Rattle.laws.specs.Choice.{both}
+use Rattle.refusal.specs.Order.{raise, first}
+use Rattle.graph.specs.Graph.{Graph, graph, objects, wellFormed}
+use Rattle.graph.specs.Limits.{most-objects, most-references}
+use Rattle.machine.specs.Machine.{Setting, State, Entry, Result, result, entries, memory, stretchLength}
+use Rattle.machine.specs.Demand2.{outcome}
+
+-- what the marker is given, beside the buffers that it writes
+pub record Call : Type 0 where
+  pub offsets : List ℕ
+  pub targets : List ℕ
+  pub index : ℕ
+  pub workers : ℕ
+  pub batch : ℕ
+  pub cutoff : ℕ
+  pub schedule : List ℕ
+
+abbrev pub graphOf : Call → Graph
+graphOf c = graph (c .offsets) (c .targets)
+
+abbrev pub settingOf : Call → Setting
+settingOf c = record { batch = c .batch; cutoff = c .cutoff }
+
+-- the base starts at the index alone
+abbrev pub startsOf : Call → List ℕ
+startsOf c = c .index ∷ []
+
+-- ---- the checks
+
+abbrev pub most-workers : ℕ
+most-workers = 16
+
+abbrev pub most-setting : ℕ
+most-setting = 65535
+
+-- not 1 to the largest
+abbrev pub outside : ℕ → ℕ → Bool
+outside most x = ltb x 1 || ltb most x
+
+-- 8: "boxes not 1 to 16, or batch D or cutoff K not 1 to 65,535"
+abbrev pub settingFault : ℕ → ℕ → ℕ → ℕ
+settingFault W D K = raise (outside most-workers W || outside most-setting D || outside most-setting K) 8 0
+
+-- 4: "n or m outside its range"; offsets of length 0 or 1 give no n of 1 or more
+abbrev pub countFault : List ℕ → List ℕ → ℕ
+countFault offsets targets = raise (ltb (length offsets) 2 || ltb (most-objects) (objects (graph offsets targets)) || ltb most-references (length targets)) 4 0
+
+-- 7: "Lengths are exact: n marks, W × (2n + 4) work words"
+abbrev pub bufferFault : ℕ → ℕ → ℕ → ℕ → ℕ
+bufferFault n W marks work = raise (not (eqb marks n) || not (eqb work (W * stretchLength n))) 7 0
+
+-- 10
+abbrev pub graphFault : Graph → ℕ
+graphFault G = raise (not (wellFormed G)) 10 0
+
+-- 5: "index not below n"
+abbrev pub indexFault : ℕ → ℕ → ℕ
+indexFault n index = raise (not (ltb index n)) 5 0
+
+-- whole entries, each with a worker below W
+unfoldable pub scheduleFits : ℕ → List ℕ → Bool
+scheduleFits W [] = true
+scheduleFits W (b ∷ []) = false
+scheduleFits W (b ∷ v ∷ l) = both (ltb b W) (scheduleFits W l)
+
+-- 9: "schedule of odd length, or an entry whose box is not below W"
+abbrev pub scheduleFault : ℕ → List ℕ → ℕ
+scheduleFault W schedule = raise (not (scheduleFits W schedule)) 9 0
+
+-- the number of the first fault of a call with so many marks and work words, or 0
+unfoldable pub fault : Call → ℕ → ℕ → ℕ
+fault c marks work =
+    first (settingFault (c .workers) (c .batch) (c .cutoff))
+    (first (countFault (c .offsets) (c .targets))
+    (first (bufferFault (objects (graphOf c)) (c .workers) marks work)
+    (first (graphFault (graphOf c))
+    (first (indexFault (objects (graphOf c)) (c .index))
+    (scheduleFault (c .workers) (c .schedule))))))
+
+-- ---- the answer
+
+-- the state that the turns leave
+abbrev pub final : Call → State
+final c = outcome (graphOf c) (startsOf c) (c .workers) (settingOf c) (entries (c .schedule))
+
+-- a row of the table: the number returned (0 for none), and the result
+pub record Row : Type 0 where
+  pub number : ℕ
+  pub finished : Bool
+  pub live : ℕ
+  pub followed : ℕ
+  pub handed : ℕ
+  pub refused : ℕ
+  pub moved : ℕ
+
+-- "Beside a refusal all other result fields are 0."
+abbrev pub refusedRow : ℕ → Row
+refusedRow k = record { number = k; finished = false; live = 0; followed = 0; handed = 0; refused = 0; moved = 0 }
+
+abbrev pub resultRow : Result → Row
+resultRow r =
+    record {
+      number = 0;
+      finished = r .finished;
+      live = r .live;
+      followed = r .followed;
+      handed = r .handed;
+      refused = r .refused;
+      moved = r .moved;
+    }
+
+-- by the number of the fault
+abbrev pub answerFor : ℕ → Call → Row
+answerFor zero c = resultRow (result (final c))
+answerFor (suc k) c = refusedRow (suc k)
+
+-- what the call answers, where the buffers are these beforehand
+abbrev pub marking : Call → List ℕ → List ℕ → Row
+marking c marks work = answerFor (fault c (length marks) (length work)) c
+
+-- the marks and the work words afterwards; unchanged beside a refusal
+abbrev pub marksFor : ℕ → Call → List ℕ → List ℕ
+marksFor zero c marks = final c .marks
+marksFor (suc k) c marks = marks
+
+abbrev pub marksAfter : Call → List ℕ → List ℕ → List ℕ
+marksAfter c marks work = marksFor (fault c (length marks) (length work)) c marks
+
+abbrev pub workFor : ℕ → Call → List ℕ → List ℕ
+workFor zero c work = memory (objects (graphOf c)) (final c .workers)
+workFor (suc k) c work = work
+
+abbrev pub workAfter : Call → List ℕ → List ℕ → List ℕ
+workAfter c marks work = workFor (fault c (length marks) (length work)) c work

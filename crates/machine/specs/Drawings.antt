@@ -1,0 +1,110 @@
+-- Document 01, "Drawings to be proved", A to J and L: one statement over one table, computed. (K is the
+-- reader's: `catalogue/specs/Examples`.)
+use mathlib.Core.Path.{_≡_, refl}
+use mathlib.Core.Bool.{Bool, true, false}
+use mathlib.Core.List.{List, [], _∷_, map}
+use Prim.Native.Nat.{ℕ, _*_}
+use lib.ListN.{replicate}
+use Rattle.graph.specs.Graph.{Graph, objects, rising, allBelow, wellFormed}
+use Rattle.graph.specs.Chain.{marksAt}
+use Rattle.machine.specs.Run.{carried, keep, rest}
+use Rattle.machine.specs.Machine.{turns, start, startRuns, entries, allEnded, live, stretchLength}
+use Rattle.machine.specs.Call.{Call, Row, graphOf, final, fault, scheduleFits, refusedRow, marking}
+
+-- a call, and the row that it must give
+pub record Drawing : Type 0 where
+  pub call : Call
+  pub gives : Row
+
+-- store S: 0→1, 0→2, 1→3, 2→3, 3→0, 5→4
+abbrev pub S : Graph
+S = record { offsets = 0 ∷ 2 ∷ 3 ∷ 4 ∷ 5 ∷ 5 ∷ 6 ∷ []; targets = 1 ∷ 2 ∷ 3 ∷ 3 ∷ 0 ∷ 4 ∷ [] }
+
+-- one object without references; one that refers to itself; 0→1 twice
+abbrev pub alone : Graph
+alone = record { offsets = 0 ∷ 0 ∷ []; targets = [] }
+
+abbrev pub itself : Graph
+itself = record { offsets = 0 ∷ 1 ∷ []; targets = 0 ∷ [] }
+
+abbrev pub twice : Graph
+twice = record { offsets = 0 ∷ 2 ∷ 2 ∷ []; targets = 1 ∷ 1 ∷ [] }
+
+-- a schedule of these workers, all naming 0
+unfoldable pub naming0 : List ℕ → List ℕ
+naming0 [] = []
+naming0 (b ∷ bs) = b ∷ 0 ∷ naming0 bs
+
+-- case A's turns
+unfoldable pub turnsA : List ℕ
+unfolding naming0
+turnsA = naming0 (0 ∷ 1 ∷ 0 ∷ 0 ∷ 0 ∷ 1 ∷ 1 ∷ 0 ∷ 1 ∷ 0 ∷ 0 ∷ 0 ∷ 1 ∷ 0 ∷ 1 ∷ 1 ∷ 0 ∷ 1 ∷ [])
+
+-- no refusal; finished or not, live, followed, handed, refused, moved
+abbrev pub gives : Bool → ℕ → ℕ → ℕ → ℕ → ℕ → Row
+gives f l fo h r m = record { number = 0; finished = f; live = l; followed = fo; handed = h; refused = r; moved = m }
+
+-- the graph with W, D, K and a schedule; each has its index at 0
+abbrev pub drawing : Graph → ℕ → ℕ → ℕ → List ℕ → Row → Drawing
+drawing G W D K l r =
+    record {
+      call = record { offsets = G .offsets; targets = G .targets; index = 0; workers = W; batch = D; cutoff = K; schedule = l };
+      gives = r;
+    }
+
+-- A to J, and L
+unfoldable pub drawings : List Drawing
+unfolding turnsA naming0
+drawings =
+    drawing S 2 1 1 turnsA (gives true 4 5 1 0 18)
+    ∷ drawing S 2 1 1 (naming0 (0 ∷ 1 ∷ 0 ∷ 0 ∷ 0 ∷ [])) (gives false 2 1 1 0 5)
+    ∷ drawing S 2 1 2 (naming0 (0 ∷ 1 ∷ 0 ∷ 0 ∷ 0 ∷ [])) (gives false 2 1 0 1 5)
+    ∷ drawing S 1 2 1 (naming0 (0 ∷ 0 ∷ 0 ∷ 0 ∷ 0 ∷ 0 ∷ 0 ∷ 0 ∷ 0 ∷ 0 ∷ 0 ∷ 0 ∷ [])) (gives true 4 5 0 0 12)
+    ∷ drawing S 1 2 1 (naming0 (0 ∷ 0 ∷ 0 ∷ 0 ∷ 0 ∷ 0 ∷ 0 ∷ 0 ∷ 0 ∷ 0 ∷ 0 ∷ [])) (gives false 4 5 0 0 11)
+    ∷ drawing alone 1 1 1 [] (gives false 1 0 0 0 0)
+    ∷ drawing alone 1 1 1 (naming0 (0 ∷ [])) (gives true 1 0 0 0 1)
+    ∷ drawing alone 2 1 1 (naming0 (0 ∷ 0 ∷ [])) (gives false 1 0 0 0 1)
+    ∷ drawing itself 1 1 1 (naming0 (0 ∷ 0 ∷ 0 ∷ [])) (gives true 1 1 0 0 3)
+    ∷ drawing twice 1 2 1 (naming0 (0 ∷ 0 ∷ 0 ∷ 0 ∷ 0 ∷ [])) (gives true 2 2 0 0 5)
+    ∷ drawing S 2 1 1 (naming0 (2 ∷ [])) (refusedRow 9)
+    ∷ []
+
+-- so many ones, as a lent buffer may hold before the call
+abbrev pub ones : ℕ → List ℕ
+ones k = replicate k 1
+
+-- what the definitions give for a drawing's call, with buffers of the right lengths
+unfoldable pub drawn : Drawing → Row
+unfolding fault
+drawn d =
+    marking (d .call)
+    (ones (objects (graphOf (d .call))))
+    (ones (d .call .workers * stretchLength (objects (graphOf (d .call)))))
+
+pub drawings-hold : map drawn drawings ≡ map (λ (d : Drawing). d .gives) drawings
+unfolding drawn drawings turns start entries allEnded live startRuns carried marksAt keep rest rising allBelow wellFormed scheduleFits
+drawings-hold = refl
+
+-- the trail of a drawing's call
+unfoldable pub trailOf : Drawing → List ℕ
+unfolding turns start entries
+trailOf d = final (d .call) .trail
+
+-- the trails of these: A's second worker loses a claim and follows all the same, and D goes on with what is left of
+-- a run before the run of a claimed target
+pub trails-hold :
+    map trailOf drawings
+    ≡ (0 ∷ 1 ∷ 2 ∷ 3 ∷ 4 ∷ [])
+    ∷ (0 ∷ [])
+    ∷ (0 ∷ [])
+    ∷ (0 ∷ 1 ∷ 3 ∷ 4 ∷ 2 ∷ [])
+    ∷ (0 ∷ 1 ∷ 3 ∷ 4 ∷ 2 ∷ [])
+    ∷ []
+    ∷ []
+    ∷ []
+    ∷ (0 ∷ [])
+    ∷ (0 ∷ 1 ∷ [])
+    ∷ []
+    ∷ []
+unfolding trailOf drawings allEnded live startRuns carried marksAt keep rest
+trails-hold = refl

@@ -1,0 +1,301 @@
+-- Document 01, "One turn", rule by rule. Document 01's box is a worker here; its words "cell", "since", "batch",
+-- "carried", "followed", "handed", "refused" and "moved" are kept.
+use Prim.Native.Nat.{ℕ, zero, suc, _+_, _-_, _*_, _/_, min}
+use mathlib.Core.Bool.{Bool, true, false}
+use mathlib.Core.List.{List, [], _∷_, _++_}
+use lib.ListN.{length, getD, set, replicate}
+use lib.Dec.{leb, ltb}
+use Rattle.laws.specs.Choice.{pick, both, either}
+use Rattle.laws.specs.Sum.{sum}
+use Rattle.graph.specs.Graph.{Graph, objects, target}
+use Rattle.graph.specs.Chain.{set?, marksAt}
+use Rattle.machine.specs.Run.{Run, run, runFrom, carried, leaving, keep, rest, half, pairs}
+
+-- A busy worker's batch, and what its next turn is: batch 0, a poll; batch k + 1, a look; batch k + 1, a claim.
+pub data Phase : Type 0 where
+  poll : Phase
+  look : ℕ → Phase
+  claim : ℕ → Phase
+
+-- A query cell: empty, or the number of the asker.
+pub data Cell : Type 0 where
+  empty : Cell
+  from : ℕ → Cell
+
+-- A worker: idle; asking, with no reply yet, with a refusal (denied) or with a hand-over (given, the runs that it is
+-- owed); busy, with its cell, since, phase and runs, the run to be followed first at the head; ended.
+pub data Worker : Type 0 where
+  idle asking denied ended : Worker
+  given : List Run → Worker
+  busy : Cell → ℕ → Phase → List Run → Worker
+
+-- What the turns change. The trail is in turn order; `followed` is its length.
+pub record State : Type 0 where
+  pub marks : List ℕ
+  pub workers : List Worker
+  pub trail : List ℕ
+  pub handed : ℕ
+  pub refused : ℕ
+  pub moved : ℕ
+
+-- D and K
+pub record Setting : Type 0 where
+  pub batch : ℕ
+  pub cutoff : ℕ
+
+-- A schedule entry: the worker, and whom to ask.
+pub record Entry : Type 0 where
+  pub worker : ℕ
+  pub named : ℕ
+
+-- the mark that a claim of worker b leaves
+abbrev pub claimMark : ℕ → ℕ
+claimMark b = 1
+
+-- the runs that a worker carries; "a hand-over counts for the asker from the sharing turn on"
+abbrev pub runsOf : Worker → List Run
+runsOf idle = []
+runsOf asking = []
+runsOf denied = []
+runsOf ended = []
+runsOf (given rs) = rs
+runsOf (busy c n p rs) = rs
+
+-- how many references a worker carries
+abbrev pub carriedBy : Worker → ℕ
+carriedBy w = carried (runsOf w)
+
+-- how many references all workers carry
+abbrev pub carriedAll : State → ℕ
+carriedAll s = sum carriedBy (s .workers)
+
+-- Worker number b; one that is not there counts as ended.
+abbrev pub worker : State → ℕ → Worker
+worker s b = getD (s .workers) b ended
+
+-- Object v's mark; one that is not there counts as marked.
+abbrev pub markOf : State → ℕ → ℕ
+markOf s v = getD (s .marks) v 1
+
+-- ---- The start: only the starts are marked, worker 0 carries their runs; every cell empty, every since and batch 0.
+
+-- the run of a start that is not marked yet; a repeated start adds nothing
+abbrev pub newRun : ℕ → List Run → List Run
+newRun zero rs = rs
+newRun (suc k) rs = []
+
+-- the runs of the starts in list order, where ms is what is marked before
+unfoldable pub startRuns : Graph → List ℕ → List ℕ → List Run
+startRuns G [] ms = []
+startRuns G (v ∷ vs) ms = newRun (getD ms v 1) (leaving G v) ++ startRuns G vs (set ms v 1)
+
+-- busy with these runs, or idle with none
+abbrev pub withRuns : List Run → Worker
+withRuns [] = idle
+withRuns (r ∷ rs) = busy empty 0 poll (r ∷ rs)
+
+-- no mark is set
+abbrev pub unmarked : Graph → List ℕ
+unmarked G = replicate (objects G) 0
+
+unfoldable pub start : Graph → List ℕ → ℕ → State
+start G starts W =
+    record {
+      marks = marksAt starts (unmarked G);
+      workers = withRuns (startRuns G starts (unmarked G)) ∷ replicate (W - 1) idle;
+      trail = [];
+      handed = 0;
+      refused = 0;
+      moved = 0;
+    }
+
+-- ---- One turn. A turn that changes something goes through `moves` or `follows`, which count it.
+
+-- the state with these workers, and the counts raised by these
+abbrev pub moves : State → List Worker → ℕ → ℕ → State
+moves s ws handed⁺ refused⁺ =
+    record {
+      marks = s .marks;
+      workers = ws;
+      trail = s .trail;
+      handed = s .handed + handed⁺;
+      refused = s .refused + refused⁺;
+      moved = suc (s .moved);
+    }
+
+-- worker b becomes w, and nothing else
+abbrev pub becomes : State → ℕ → Worker → State
+becomes s b w = moves s (set (s .workers) b w) 0 0
+
+-- Batch k.
+abbrev pub phase : ℕ → Phase
+phase zero = poll
+phase (suc k) = look k
+
+-- "if the named box is another one below W, busy, with an empty query cell, it writes itself there and is asking".
+-- An idle worker is not busy, and one that is not there counts as ended, so busy is enough.
+abbrev pub asks : Worker → State → ℕ → ℕ → State
+asks idle s b v = s
+asks asking s b v = s
+asks denied s b v = s
+asks ended s b v = s
+asks (given rs) s b v = s
+asks (busy empty n p rs) s b v = moves s (set (set (s .workers) v (busy (from b) n p rs)) b asking) 0 0
+asks (busy (from a) n p rs) s b v = s
+
+-- "Idle: if no box carries anything, it ends"; the first argument is how many references all carry
+abbrev pub idleTurn : ℕ → State → ℕ → ℕ → State
+idleTurn zero s b v = becomes s b ended
+idleTurn (suc k) s b v = asks (worker s v) s b v
+
+-- "it shares when carried is above K, or when since is at least K and carried at least 2"
+abbrev pub shares : ℕ → ℕ → ℕ → Bool
+shares K n c = either (ltb K c) (both (leb K n) (leb 2 c))
+
+-- Sharing: the worker that shares, with since n before, keeps the first half of its references; the asker is owed the
+-- rest. "Both have since 0." (The asker's is set as it takes the hand-over up.)
+abbrev pub giver : Setting → ℕ → List Run → Worker
+giver g n rs =
+    let k = half (carried rs) in
+    busy empty 0 (phase (min (g .batch) (carried (keep k rs)))) (keep k rs)
+
+abbrev pub receiver : List Run → Worker
+receiver rs = given (rest (half (carried rs)) rs)
+
+-- The answer to asker a at a poll: a hand-over, or a refusal. "Then batch becomes the smaller of D and carried."
+abbrev pub answer : Bool → Setting → State → ℕ → ℕ → ℕ → List Run → State
+answer true g s b a n rs = moves s (set (set (s .workers) b (giver g n rs)) a (receiver rs)) 1 0
+answer false g s b a n rs =
+    moves s (set (set (s .workers) b (busy empty n (phase (min (g .batch) (carried rs))) rs)) a denied) 0 1
+
+-- "Busy, batch 0 (poll)"
+abbrev pub pollTurn : Cell → Setting → State → ℕ → ℕ → List Run → State
+pollTurn empty g s b n rs = becomes s b (busy empty n (phase (min (g .batch) (carried rs))) rs)
+pollTurn (from a) g s b n rs = answer (shares (g .cutoff) n (carried rs)) g s b a n rs
+
+-- A worker after following: busy with what it has left, or idle.
+abbrev pub onward : Cell → ℕ → ℕ → List Run → Worker
+onward c n k [] = idle
+onward c n k (r ∷ rs) = busy c n (phase k) (r ∷ rs)
+
+-- "A box left with nothing turns idle in that turn and refuses an asker in its cell."
+abbrev pub dismiss : Cell → List Run → List Worker → List Worker
+dismiss empty rs ws = ws
+dismiss (from a) [] ws = set ws a denied
+dismiss (from a) (r ∷ rs) ws = ws
+
+-- how many askers that refuses
+abbrev pub dismissed : Cell → List Run → ℕ
+dismissed empty rs = 0
+dismissed (from a) [] = 1
+dismissed (from a) (r ∷ rs) = 0
+
+-- "Following takes the reference off, lowers batch by 1 and raises since by 1."
+-- Worker b follows reference e with cell c, since n and batch k + 1; ms are the marks and rs the runs after it.
+abbrev pub follows : State → ℕ → Cell → ℕ → ℕ → ℕ → List ℕ → List Run → State
+follows s b c n k e ms rs =
+    record {
+      marks = ms;
+      workers = dismiss c rs (set (s .workers) b (onward c (suc n) k rs));
+      trail = s .trail ++ (e ∷ []);
+      handed = s .handed;
+      refused = s .refused + dismissed c rs;
+      moved = suc (s .moved);
+    }
+
+-- "It looks at its first reference. Target marked: followed. Target unmarked: its next turn is a claim."
+-- The first argument is the target's mark; the first run is `run e j`.
+abbrev pub lookTurn : ℕ → State → ℕ → Cell → ℕ → ℕ → ℕ → ℕ → List Run → State
+lookTurn zero s b c n k e j rs = becomes s b (busy c n (claim k) (run e j ∷ rs))
+lookTurn (suc x) s b c n k e j rs = follows s b c n k e (s .marks) (runFrom (suc e) j ++ rs)
+
+-- "The claim reads again; still unmarked, the target is marked and its run goes directly after what is left of the
+-- run being followed. No references, no run. Either way the reference is followed."
+abbrev pub claimTurn : ℕ → Graph → State → ℕ → Cell → ℕ → ℕ → ℕ → ℕ → List Run → State
+claimTurn zero G s b c n k e j rs =
+    follows s b c n k e (set (s .marks) (target G e) (claimMark b)) (runFrom (suc e) j ++ (leaving G (target G e) ++ rs))
+claimTurn (suc x) G s b c n k e j rs = follows s b c n k e (s .marks) (runFrom (suc e) j ++ rs)
+
+-- "Busy": by its phase and its first run; a busy worker always has one.
+abbrev pub busyTurn : Phase → List Run → Graph → Setting → State → ℕ → Cell → ℕ → State
+busyTurn poll rs G g s b c n = pollTurn c g s b n rs
+busyTurn (look k) [] G g s b c n = s
+busyTurn (look k) (run e j ∷ rs) G g s b c n = lookTurn (markOf s (target G e)) s b c n k e j rs
+busyTurn (claim k) [] G g s b c n = s
+busyTurn (claim k) (run e j ∷ rs) G g s b c n = claimTurn (markOf s (target G e)) G s b c n k e j rs
+
+-- Worker b's turn, naming v, by what b is.
+abbrev pub workerTurn : Worker → Graph → Setting → State → ℕ → ℕ → State
+workerTurn ended G g s b v = s
+workerTurn asking G g s b v = s
+workerTurn denied G g s b v = becomes s b idle
+workerTurn (given rs) G g s b v = becomes s b (busy empty 0 poll rs)
+workerTurn idle G g s b v = idleTurn (carriedAll s) s b v
+workerTurn (busy c n p rs) G g s b v = busyTurn p rs G g s b c n
+
+unfoldable pub turn : Graph → Setting → State → Entry → State
+turn G g s x = workerTurn (worker s (x .worker)) G g s (x .worker) (x .named)
+
+-- The turns in order: "the first acts on the start, each later one on what the turn before it left".
+unfoldable pub turns : Graph → Setting → State → List Entry → State
+unfolding turn
+turns G g s [] = s
+turns G g s (x ∷ xs) = turns G g (turn G g s x) xs
+
+-- "A schedule entry is two bytes: the box, and whom to ask (any value)."
+unfoldable pub entries : List ℕ → List Entry
+entries [] = []
+entries (b ∷ []) = []
+entries (b ∷ v ∷ l) = record { worker = b; named = v } ∷ entries l
+
+-- ---- What is left behind.
+
+-- every worker has ended
+unfoldable pub allEnded : List Worker → Bool
+allEnded [] = true
+allEnded (idle ∷ ws) = false
+allEnded (asking ∷ ws) = false
+allEnded (denied ∷ ws) = false
+allEnded (ended ∷ ws) = allEnded ws
+allEnded (given rs ∷ ws) = false
+allEnded (busy c n p rs ∷ ws) = false
+
+-- how many marks are set
+unfoldable pub live : List ℕ → ℕ
+unfolding sum
+live ms = sum set? ms
+
+-- "The result: finished (all W ended) or unfinished; live, followed, handed, refused, moved."
+pub record Result : Type 0 where
+  pub finished : Bool
+  pub live : ℕ
+  pub followed : ℕ
+  pub handed : ℕ
+  pub refused : ℕ
+  pub moved : ℕ
+
+abbrev pub result : State → Result
+result s =
+    record {
+      finished = allEnded (s .workers);
+      live = live (s .marks);
+      followed = length (s .trail);
+      handed = s .handed;
+      refused = s .refused;
+      moved = s .moved;
+    }
+
+-- how many words one worker's stretch of the work memory has
+abbrev pub stretchLength : ℕ → ℕ
+stretchLength n = 2 * n + 4
+
+-- one worker's stretch: its runs' pairs, then zeros
+unfoldable pub stretch : ℕ → Worker → List ℕ
+unfolding pairs
+stretch n w = pairs (runsOf w) ++ replicate (stretchLength n - length (pairs (runsOf w))) 0
+
+-- the work memory: the stretches laid end to end
+unfoldable pub memory : ℕ → List Worker → List ℕ
+unfolding stretch
+memory n [] = []
+memory n (w ∷ ws) = stretch n w ++ memory n ws

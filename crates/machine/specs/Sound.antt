@@ -1,0 +1,201 @@
+-- What holds of the state before and after every turn, as one record, and the two counting facts of demand 3 as
+-- another.
+use mathlib.Core.Path.{_≡_}
+use Prim.Native.Nat.{ℕ, suc, _+_, _*_, _≤_, _<_, min}
+use mathlib.Core.List.{List, [], _∷_}
+use lib.ListN.{length, getD}
+use Rattle.laws.specs.Sum.{sum, hit}
+use Rattle.laws.specs.Span.{span}
+use Rattle.graph.specs.Graph.{Graph, objects, first, after, target}
+use Rattle.graph.specs.Chain.{Reach, overMarked}
+use Rattle.graph.specs.Leaving.{leavingSum}
+use Rattle.machine.specs.Run.{Run, run, size, carried}
+use Rattle.machine.specs.Machine.{
+  Setting,
+  State,
+  Worker,
+  idle,
+  asking,
+  denied,
+  ended,
+  given,
+  busy,
+  Cell,
+  empty,
+  from,
+  Phase,
+  poll,
+  look,
+  claim,
+  worker,
+  runsOf,
+  carriedBy,
+  carriedAll,
+  live,
+}
+
+-- object v is marked
+abbrev pub Marked : List ℕ → ℕ → Type 0
+Marked ms v = 0 < getD ms v 0
+
+-- ---- one worker
+
+-- where a run begins
+abbrev pub startOf : Run → ℕ
+startOf (run f k) = f
+
+-- the run's references all leave one marked object
+pub record Within (G : Graph) (ms : List ℕ) (r : Run) : Type 0 where
+  pub object : ℕ
+  pub is-object : object < objects G
+  pub is-marked : Marked ms object
+  pub begins : first G object ≤ startOf r
+  pub ends : startOf r + size r ≤ after G object
+
+-- every run of a list is so
+abbrev pub Every : (Run → Type 0) → List Run → Type 0
+Every P [] = Unit {0}
+Every P (r ∷ rs) = P r × Every P rs
+
+-- the runs of a worker that has some; there are no more than marked objects
+pub record Carries (G : Graph) (ms : List ℕ) (rs : List Run) : Type 0 where
+  pub some : 0 < length rs
+  pub room : length rs ≤ live ms
+  pub within : Every (Within G ms) rs
+
+-- document 01's batch
+abbrev pub batchOf : Phase → ℕ
+batchOf poll = 0
+batchOf (look k) = suc k
+batchOf (claim k) = suc k
+
+-- a busy worker: "batch is at most D and at most carried"
+pub record Working (G : Graph) (g : Setting) (ms : List ℕ) (p : Phase) (rs : List Run) : Type 0 where
+  pub carries : Carries G ms rs
+  pub batch-limit : batchOf p ≤ g .batch
+  pub batch-carried : batchOf p ≤ carried rs
+
+-- a worker carries references exactly when busy or owed a hand-over
+abbrev pub WorkerSound : Graph → Setting → List ℕ → Worker → Type 0
+WorkerSound G g ms idle = Unit {0}
+WorkerSound G g ms asking = Unit {0}
+WorkerSound G g ms denied = Unit {0}
+WorkerSound G g ms ended = Unit {0}
+WorkerSound G g ms (given rs) = Carries G ms rs
+WorkerSound G g ms (busy c n p rs) = Working G g ms p rs
+
+-- ---- what is summed over the workers
+
+-- 1 for a cell that holds asker a; for a busy worker with such a cell
+abbrev pub cellHolds : ℕ → Cell → ℕ
+cellHolds a empty = 0
+cellHolds a (from b) = hit b a
+
+abbrev pub holds : ℕ → Worker → ℕ
+holds a idle = 0
+holds a asking = 0
+holds a denied = 0
+holds a ended = 0
+holds a (given rs) = 0
+holds a (busy c n p rs) = cellHolds a c
+
+-- 1 for an asker without a reply
+abbrev pub waits : Worker → ℕ
+waits idle = 0
+waits asking = 1
+waits denied = 0
+waits ended = 0
+waits (given rs) = 0
+waits (busy c n p rs) = 0
+
+-- 1 for a worker that has ended
+abbrev pub stopped : Worker → ℕ
+stopped idle = 0
+stopped asking = 0
+stopped denied = 0
+stopped ended = 1
+stopped (given rs) = 0
+stopped (busy c n p rs) = 0
+
+-- a busy worker's since
+abbrev pub sinceOf : Worker → ℕ
+sinceOf idle = 0
+sinceOf asking = 0
+sinceOf denied = 0
+sinceOf ended = 0
+sinceOf (given rs) = 0
+sinceOf (busy c n p rs) = n
+
+-- the sum of f over the reference numbers of a run, of runs, of what a worker carries
+abbrev pub runSum : (ℕ → ℕ) → Run → ℕ
+runSum f (run e k) = span f e (suc k)
+
+unfoldable pub runsSum : (ℕ → ℕ) → List Run → ℕ
+unfolding sum
+runsSum f rs = sum (runSum f) rs
+
+abbrev pub heldSum : (ℕ → ℕ) → Worker → ℕ
+heldSum f w = runsSum f (runsOf w)
+
+-- ---- the state
+
+pub record Sound (G : Graph) (starts : List ℕ) (W : ℕ) (g : Setting) (s : State) : Type 0 where
+  pub marks-length : length (s .marks) ≡ objects G
+  pub workers-length : length (s .workers) ≡ W
+  pub starts-marked : (v : ℕ) → 0 < sum (hit v) starts → Marked (s .marks) v
+  -- a marked object is reachable
+  pub only-reached : (v : ℕ) → Marked (s .marks) v → Reach G starts v
+  pub each-worker : (b : ℕ) → WorkerSound G g (s .marks) (worker s b)
+  -- an asker without a reply is in the cell of exactly one busy worker, and no one else is in a cell
+  pub cells : (a : ℕ) → sum (holds a) (s .workers) ≡ waits (worker s a)
+  -- Each reference that leaves a marked object is either in the trail or carried, once, and no other is: the two sums
+  -- over the numbers agree for every weight f. With f counting one number, it stands there as often; with f = 1, it
+  -- is document 01's sum.
+  pub once : (f : ℕ → ℕ) → sum f (s .trail) + sum (heldSum f) (s .workers) ≡ overMarked (leavingSum G f) 0 (s .marks)
+  -- a marked object's reference that nobody carries has a marked target
+  pub targets-marked : (e : ℕ) → 0 < sum (hit e) (s .trail) → Marked (s .marks) (target G e)
+  -- no worker has ended while references are carried
+  pub stopped-empty : 0 < sum stopped (s .workers) → carriedAll s ≡ 0
+  -- the sinces sum to at most followed
+  pub since-followed : sum sinceOf (s .workers) ≤ length (s .trail)
+  pub refused-moved : s .refused ≤ s .moved
+  pub handed-moved : s .handed ≤ s .moved
+  pub followed-moved : length (s .trail) ≤ s .moved
+
+-- ---- the counts
+
+-- 1 for a worker that is asking, with a reply or without
+abbrev pub asks? : Worker → ℕ
+asks? idle = 0
+asks? asking = 1
+asks? denied = 1
+asks? ended = 0
+asks? (given rs) = 1
+asks? (busy c n p rs) = 0
+
+-- the turns that a worker may still make without following: 3 with a batch and 1 with a claim, 2 with an asker in the
+-- cell, 1 for having ended
+abbrev pub cellTurns : Cell → ℕ
+cellTurns empty = 0
+cellTurns (from a) = 2
+
+abbrev pub phaseTurns : Phase → ℕ
+phaseTurns poll = 0
+phaseTurns (look k) = 3
+phaseTurns (claim k) = 4
+
+abbrev pub turnsOf : Worker → ℕ
+turnsOf idle = 0
+turnsOf asking = 0
+turnsOf denied = 0
+turnsOf ended = 1
+turnsOf (given rs) = 0
+turnsOf (busy c n p rs) = phaseTurns p + cellTurns c
+
+-- what a worker carries, counted twice, up to K
+abbrev pub upTo : ℕ → Worker → ℕ
+upTo K w = min (2 * carriedBy w) K
+
+pub record Counted (g : Setting) (s : State) : Type 0 where
+  pub turn-count : s .moved + sum asks? (s .workers) ≤ 7 * length (s .trail) + sum turnsOf (s .workers)
+  pub handed-count : g .cutoff * s .handed + sum sinceOf (s .workers) ≤ 3 * length (s .trail) + sum (upTo (g .cutoff)) (s .workers)
