@@ -1,0 +1,73 @@
+use Prim.Native.Nat.{_≤_, _+_, _-_, _*_}
+use mathlib.Core.Path.{sym}
+use mathlib.Core.Logic.{⊎-elim}
+use native.Mathlib.Omega.{arith}
+use lib.ListN.{length}
+use Rattle.marker.proofs.Checks.{Scan, fits-odd, scan-start, scan-wrong, scan-right, scan-end}
+use Rattle.marker.proofs.schedule_fits.Statement.{statement}
+use Rattle.marker.proofs.schedule_fits.Tie as tie
+
+abbrev Inv-loop : tie.InvT-loop
+Inv-loop schedule workers entries wrong₀ k₀ wrong k = (k ≤ entries) × Scan workers schedule k wrong
+
+abbrev μ-loop : tie.MeasureT-loop
+μ-loop schedule workers entries wrong₀ k₀ wrong k = entries - k
+
+mul-if1 : tie.Need-mul-if1 Inv-loop μ-loop
+mul-if1 c = omega arith
+
+returns : tie.Need-returns Inv-loop μ-loop
+returns c = sym (fits-odd (c .before .args .workers) (c .before .args .schedule .now) (λ k e. c .if1 .taken (omega arith)))
+
+loop-holds : tie.Need-loop-holds Inv-loop μ-loop
+loop-holds c = (omega arith, scan-start (c .before .args .workers) (c .before .args .schedule .now))
+
+mul-b : tie.Need-mul-b Inv-loop μ-loop
+mul-b c = omega arith
+
+shared-slice-read-b : tie.Need-shared-slice-read-b Inv-loop μ-loop
+shared-slice-read-b c = omega arith
+
+cast-b : tie.Need-cast-b Inv-loop μ-loop
+cast-b c = omega (arith, c .shared-slice-known .given (2 * c .before .before .loop .k))
+
+add-k : tie.Need-add-k Inv-loop μ-loop
+add-k c = omega arith
+
+loop-less : tie.Need-loop-less Inv-loop μ-loop
+loop-less c = omega arith
+
+loop-again : tie.Need-loop-again Inv-loop μ-loop
+loop-again c =
+    let a = c .before .before .before .before .before .args in
+    let l = c .before .before .before .loop in
+    let room : 2 * l .k + 2 ≤ length (a .schedule .now) = omega arith in (
+      omega arith,
+      ⊎-elim
+          (λ w. rw (w .1) (scan-wrong (a .workers) (a .schedule .now) (l .k) (l .wrong) room (l .inv .1) (w .0 .taken)))
+          (λ w. rw (w .1) (scan-right (a .workers) (a .schedule .now) (l .k) (l .wrong) room (l .inv .1) (w .0 .left)))
+          (c .if2 .came),
+    )
+
+returns-2 : tie.Need-returns-2 Inv-loop μ-loop
+returns-2 c =
+    let a = c .before .before .before .args in
+    let l = c .before .loop in
+    scan-end (a .workers) (a .schedule .now) (l .k) (l .wrong) (omega arith) (l .inv .1)
+
+pub schedule-fits-spec : {M : Type 1} → statement M
+schedule-fits-spec =
+    tie.close
+    (tie.spec
+    Inv-loop
+    μ-loop
+    mul-if1
+    returns
+    loop-holds
+    mul-b
+    shared-slice-read-b
+    cast-b
+    add-k
+    loop-less
+    loop-again
+    returns-2)
