@@ -1,0 +1,120 @@
+-- The passes of the sweep: what is left to scan is what is still to be found.
+use mathlib.Core.Path.{_≡_, refl, sym, _∙_}
+use mathlib.Core.Bool.{true, false}
+use mathlib.Core.List.{List, [], _∷_, _++_, append-assoc, append-nil}
+use Prim.Native.Nat.{ℕ, zero, suc, _+_, _-_, _*_, _≤_, _<_}
+use native.Mathlib.Omega.{arith}
+use native.Mathlib.Numerals.{add-one}
+use lib.Dec.{leb}
+use lib.ListN.{length, getD, take, drop, set, replicate, length-set, drop-of-length-le}
+use lib.Seq.{drop-cons, take-suc-set, drop-length}
+use borrow.Rule.Slice.PartMut.{putMid, post-is}
+use borrow.Author.Tests.{leb-true, le-leb, lt-leb}
+use Rattle.laws.specs.Sum.{sum}
+use Rattle.graph.specs.Limits.{largest-size}
+use Rattle.graph.proofs.Formed.{both-true}
+use Rattle.sweep.specs.Sweep.{deadFrom, dead, sizesOf, allFit, Listed}
+
+-- ---- the scan of the sizes
+
+pub fit-step : (l : List ℕ) (i : ℕ) → i < length l → getD l i 0 ≤ largest-size → allFit (drop (i + 1) l) ≡ allFit (drop i l)
+unfolding allFit
+fit-step l i h p = rw (add-one, drop-cons l i 0, le-leb _ _ p)
+
+pub fit-stop : (l : List ℕ) (i : ℕ) → i < length l → largest-size < getD l i 0 → allFit (drop i l) ≡ false
+unfolding allFit
+fit-stop l i h p = rw (drop-cons l i 0, lt-leb _ _ p)
+
+pub fit-end : (l : List ℕ) (i : ℕ) → length l ≤ i → allFit (drop i l) ≡ true
+unfolding allFit
+fit-end l i h = rw (drop-of-length-le l h)
+
+-- a size of sizes that fit
+pub fits-at : (l : List ℕ) → allFit l ≡ true → (i : ℕ) → getD l i 0 ≤ largest-size
+unfolding allFit
+fits-at [] e zero = omega arith
+fits-at [] e (suc i) = omega arith
+fits-at (x ∷ l) e zero = leb-true x largest-size (both-true (leb x largest-size) (allFit l) e .0)
+fits-at (x ∷ l) e (suc i) = fits-at l (both-true (leb x largest-size) (allFit l) e .1) i
+
+-- ---- the scan of the marks
+
+dead-at : (ms : List ℕ) (i : ℕ) → i < length ms → getD ms i 0 ≡ 0 → deadFrom i (drop i ms) ≡ i ∷ deadFrom (i + 1) (drop (i + 1) ms)
+unfolding deadFrom
+dead-at ms i h z = rw (add-one, drop-cons ms i 0, z)
+
+skip : (v x : ℕ) (ms : List ℕ) → (x ≡ 0 → ⊥) → deadFrom v (x ∷ ms) ≡ deadFrom (suc v) ms
+unfolding deadFrom
+skip v zero ms z = absurd (z refl)
+skip v (suc x) ms z = refl
+
+live-at : (ms : List ℕ) (i : ℕ) → i < length ms → (getD ms i 0 ≡ 0 → ⊥) → deadFrom i (drop i ms) ≡ deadFrom (i + 1) (drop (i + 1) ms)
+live-at ms i h z = rw (add-one, drop-cons ms i 0 h) (skip i (getD ms i 0) (drop (suc i) ms) z)
+
+-- Where the scan stands at object i: the dead ones found so far stand in front of the list, and those behind are
+-- still to come.
+pub record At (marks sizes before : List ℕ) (list : List ℕ) (count freed i : ℕ) : Type 0 where
+  pub low : i ≤ length marks
+  pub few : count ≤ i
+  pub long : length list ≡ length before
+  pub front : take count list ++ deadFrom i (drop i marks) ≡ dead marks
+  pub summed : freed + sizesOf sizes (deadFrom i (drop i marks)) ≡ sizesOf sizes (dead marks)
+  pub small : freed ≤ largest-size * i
+
+module _ (marks sizes before : List ℕ) (same : length before ≡ length marks) where
+  pub at-start : At marks sizes before before 0 0 0
+  at-start = record { low = omega arith; few = omega arith; long = refl; front = refl; summed = omega arith; small = omega arith }
+
+  module _ (list : List ℕ) (count freed i : ℕ) (h : i < length marks) (a : At marks sizes before list count freed i) where
+    pub at-live : (getD marks i 0 ≡ 0 → ⊥) → At marks sizes before list count freed (i + 1)
+    at-live z =
+        let e = live-at marks i h z in
+        let s = a .small in
+        let f = a .few in
+        record {
+          low = omega arith;
+          few = omega arith;
+          long = a .long;
+          front = rw e at (a .front);
+          summed = rw e at (a .summed);
+          small = omega arith;
+        }
+
+    pub at-dead : getD marks i 0 ≡ 0 → getD sizes i 0 ≤ largest-size → At marks sizes before (set list count i) (count + 1) (freed + getD sizes i 0) (i + 1)
+    unfolding sizesOf sum
+    at-dead z fit =
+        let e = dead-at marks i h z in
+        let s = a .small in
+        let f = a .few in
+        let n = a .long in
+        let q : count < length list = omega arith in
+        record {
+          low = omega arith;
+          few = omega arith;
+          long = rw length-set n;
+          front = rw (add-one count, take-suc-set list count i q, append-assoc) (rw e at (a .front));
+          summed = let w = rw e at (a .summed) in omega arith;
+          small = omega arith;
+        }
+
+  -- at the end
+  pub at-front : (list : List ℕ) (count freed i : ℕ) → length marks ≤ i → At marks sizes before list count freed i → take count list ≡ dead marks
+  unfolding deadFrom
+  at-front list count freed i h a =
+      let e : drop i marks ≡ [] = drop-of-length-le marks h in
+      sym (append-nil (take count list)) ∙ (rw e at (a .front))
+
+  pub at-summed : (list : List ℕ) (count freed i : ℕ) → length marks ≤ i → At marks sizes before list count freed i → freed ≡ sizesOf sizes (dead marks)
+  unfolding deadFrom sizesOf sum
+  at-summed list count freed i h a =
+      let e : drop i marks ≡ [] = drop-of-length-le marks h in
+      let w = rw e at (a .summed) in
+      omega arith
+
+-- The list once what is behind the dead numbers is cleared.
+pub cleared : (marks sizes before mid ys : List ℕ) (count freed : ℕ) → Listed marks sizes before mid count freed
+    → ys ≡ replicate (length mid - count) 0
+    → putMid count (length mid - count) mid ys ≡ dead marks ++ replicate (length before - length (dead marks)) 0
+cleared marks sizes before mid ys count freed l e =
+    let p = post-is count (length mid) mid (l .room) in
+    rw (p, drop-length mid, e, l .front, append-nil, l .long, l .counted)

@@ -1,0 +1,3 @@
+pub mod Collection
+pub mod Dead
+pub mod Fault

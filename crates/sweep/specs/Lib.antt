@@ -1,0 +1,2 @@
+pub mod Collection
+pub mod Sweep

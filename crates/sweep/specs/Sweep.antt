@@ -1,0 +1,83 @@
+-- Document 01: "The sweep takes 0 as dead and every other mark as live. The list holds dead numbers upwards, then
+-- zeros; returned are their count and the sum of their sizes." "The sweep checks 4 (n is the sizes' length), 7, 6."
+use mathlib.Core.Path.{_≡_}
+use mathlib.Core.Bool.{Bool, true}
+use mathlib.Core.List.{List, [], _∷_, _++_}
+use Prim.Native.Nat.{ℕ, zero, suc, _-_, _≤_}
+use lib.ListN.{length, getD, take, replicate}
+use lib.Dec.{leb, eqb}
+use Rattle.laws.specs.Choice.{pick, both}
+use Rattle.laws.specs.Sum.{sum}
+use Rattle.refusal.specs.Number.{number}
+use Rattle.graph.specs.Limits.{most-objects, largest-size}
+use Rattle.sweep.specs.declared.Swept.{Swept}
+use Rattle.sweep.specs.declared.Swept.the-variants.{Dead, Refused}
+
+-- the numbers of the objects whose mark is 0, upwards, the first mark being that of object v
+unfoldable pub deadFrom : ℕ → List ℕ → List ℕ
+deadFrom v [] = []
+deadFrom v (zero ∷ ms) = v ∷ deadFrom (suc v) ms
+deadFrom v (suc k ∷ ms) = deadFrom (suc v) ms
+
+-- the dead objects
+abbrev pub dead : List ℕ → List ℕ
+dead ms = deadFrom 0 ms
+
+-- the sum of the sizes of these objects
+unfoldable pub sizesOf : List ℕ → List ℕ → ℕ
+unfolding sum
+sizesOf sizes vs = sum (λ (v : ℕ). getD sizes v 0) vs
+
+-- no size is above the largest
+unfoldable pub allFit : List ℕ → Bool
+allFit [] = true
+allFit (x ∷ xs) = both (leb x largest-size) (allFit xs)
+
+-- A row of document 01's table: the number returned (0 for none), the count and the sum.
+pub record Row : Type 0 where
+  pub number : ℕ
+  pub count : ℕ
+  pub freed : ℕ
+
+-- a refusal: its number, and zeros beside it
+abbrev pub refusedRow : ℕ → Row
+refusedRow k = record { number = k; count = 0; freed = 0 }
+
+-- an answer as such a row
+abbrev pub row : Swept → Row
+row (Dead c f) = record { number = 0; count = c; freed = f }
+row (Refused k) = refusedRow (number k)
+
+-- the number of the first check that finds a fault, or 0: 4, 7 (marks and list have n places), 6
+unfoldable pub fault : List ℕ → List ℕ → List ℕ → ℕ
+unfolding allFit
+fault marks sizes list =
+    pick (both (leb 1 (length sizes)) (leb (length sizes) most-objects))
+    (pick (both (eqb (length marks) (length sizes)) (eqb (length list) (length sizes)))
+    (pick (allFit sizes) 0 6)
+    7)
+    4
+
+-- What the sweep answers, by the fault found.
+abbrev pub answerFor : ℕ → List ℕ → List ℕ → Row
+answerFor zero marks sizes = record { number = 0; count = length (dead marks); freed = sizesOf sizes (dead marks) }
+answerFor (suc k) marks sizes = refusedRow (suc k)
+
+abbrev pub sweeping : List ℕ → List ℕ → List ℕ → Row
+sweeping marks sizes list = answerFor (fault marks sizes list) marks sizes
+
+-- The list afterwards: the dead numbers, then zeros; unchanged beside a refusal.
+abbrev pub listFor : ℕ → List ℕ → List ℕ → List ℕ
+listFor zero marks list = dead marks ++ replicate (length list - length (dead marks)) 0
+listFor (suc k) marks list = list
+
+abbrev pub listAfter : List ℕ → List ℕ → List ℕ → List ℕ
+listAfter marks sizes list = listFor (fault marks sizes list) marks list
+
+-- What the first pass leaves: the dead numbers in front, their count and the sum of their sizes.
+pub record Listed (marks sizes before after : List ℕ) (count freed : ℕ) : Type 0 where
+  pub front : take count after ≡ dead marks
+  pub long : length after ≡ length before
+  pub counted : count ≡ length (dead marks)
+  pub room : count ≤ length after
+  pub summed : freed ≡ sizesOf sizes (dead marks)
