@@ -1,0 +1,64 @@
+-- What a sweep of buffers that it takes leaves: the dead numbers in front of the list, their count and their sum.
+use mathlib.Core.Path.{_≡_, refl, ap}
+use mathlib.Core.List.{List, [], _∷_}
+use Prim.Native.Nat.{ℕ, zero, suc, _+_, _≤_, _<_}
+use native.Mathlib.Omega.{arith}
+use lib.ListN.{length, getD, take, length-append}
+use lib.Seq.{take-at}
+use Rattle.refusal.specs.declared.Refusal.{Refusal}
+use Rattle.refusal.specs.Number.{number}
+use Rattle.refusal.proofs.Numbers.{numbered}
+use Rattle.sweep.specs.declared.Swept.the-variants.{Dead, Refused}
+use Rattle.sweep.specs.Sweep.{Row, deadFrom, dead, sizesOf, row, sweeping, listAfter, fault}
+use Rattle.sweep.proofs.Fault.{fault-free}
+use Rattle.report.specs.Ready.{Sweepable}
+
+dead-few : (b : ℕ) (ms : List ℕ) → length (deadFrom b ms) ≤ length ms
+unfolding deadFrom
+dead-few b [] = omega arith
+dead-few b (zero ∷ ms) = omega (arith, dead-few (suc b) ms)
+dead-few b (suc k ∷ ms) = omega (arith, dead-few (suc b) ms)
+
+dead-below : (b : ℕ) (ms : List ℕ) (i : ℕ) → i < length (deadFrom b ms) → getD (deadFrom b ms) i 0 < b + length ms
+unfolding deadFrom
+dead-below b [] i h = absurd (omega arith)
+dead-below b (zero ∷ ms) zero h = omega arith
+dead-below b (zero ∷ ms) (suc i) h = omega (arith, dead-below (suc b) ms i (omega arith))
+dead-below b (suc k ∷ ms) i h = omega (arith, dead-below (suc b) ms i h)
+
+pub record SweptTo (marks sizes list : List ℕ) (count freed : ℕ) : Type 0 where
+  pub counted : count ≡ length (dead marks)
+  pub summed : freed ≡ sizesOf sizes (dead marks)
+  pub front : take count list ≡ dead marks
+  pub few : count ≤ length sizes
+  pub inside : count ≤ length list
+  pub objects : (i : ℕ) → i < length (take count list) → getD (take count list) i 0 < length sizes
+
+module _ (marks sizes list out : List ℕ) (at : ℕ) (s : Sweepable marks sizes list out at) where
+  free : fault marks sizes list ≡ 0
+  free = fault-free marks sizes list (s .some) (omega (arith, s .few)) (s .all-marks) (s .all-list) (s .sizes-fit)
+
+  pub swept-to : (count freed : ℕ) (list′ : List ℕ) → row (Dead count freed) ≡ sweeping marks sizes list → list′ ≡ listAfter marks sizes list
+      → SweptTo marks sizes list′ count freed
+  swept-to count freed list′ r l =
+      let q = rw free at r in
+      let c : count ≡ length (dead marks) = ap (λ (x : Row). x .count) q in
+      let z = rw free at l in
+      let n = s .all-marks in
+      let few = dead-few 0 marks in
+      let front : take count list′ ≡ dead marks = rw (z, c) (take-at (dead marks) _ (length (dead marks)) refl) in
+      record {
+        counted = c;
+        summed = ap (λ (x : Row). x .freed) q;
+        front = front;
+        few = omega arith;
+        inside = rw z (simp length-append (omega arith));
+        objects = λ i h. rw front (let d = dead-below 0 marks i (rw front at h) in omega arith);
+      }
+
+  -- it is never refused
+  pub not-refused : (k : Refusal) → row (Refused k) ≡ sweeping marks sizes list → ⊥
+  not-refused k r =
+      let q = rw free at r in
+      let e : number k ≡ 0 = ap (λ (x : Row). x .number) q in
+      omega (arith, numbered k)
