@@ -1,0 +1,160 @@
+//! The calls that are measured, on both sides.
+
+use crate::graphs::Graph;
+use crate::measure::{medians, Medians};
+use kullneyra::{Schedule, Settings};
+use std::hint::black_box;
+
+/// Lent buffers, all written once before anything is measured.
+pub struct Buffers {
+    offsets: Vec<u32>,
+    targets: Vec<u32>,
+    sizes: Vec<u64>,
+    marks: Vec<u8>,
+    work: Vec<u32>,
+    list: Vec<u32>,
+    stack: Vec<(u32, u32)>,
+}
+
+impl Buffers {
+    fn new(graph: &Graph, workers: usize) -> Self {
+        let (n, m) = (graph.n(), graph.m());
+        let work = kullneyra::work_words(n, workers);
+        let mut stack = vec![(1, 1); n + 1];
+        stack.clear();
+        Buffers {
+            offsets: vec![1; n + 1],
+            targets: vec![1; m],
+            sizes: vec![1; n],
+            marks: vec![1; n],
+            work: vec![1; work],
+            list: vec![1; n],
+            stack,
+        }
+    }
+}
+
+/// Times of one measured call, in nanoseconds.
+#[derive(Clone, Copy)]
+pub struct Times {
+    pub proved: f64,
+    pub reference: f64,
+    /// Proved over reference.
+    pub ratio: f64,
+}
+
+impl Times {
+    fn of<const N: usize>(medians: &Medians<N>) -> Self {
+        Times { proved: medians.times[0], reference: medians.times[1], ratio: medians.over[1] }
+    }
+}
+
+/// The reader on the whole catalogue.
+pub fn read(graph: &Graph, repetitions: usize) -> Times {
+    let proved = |b: &mut Buffers| {
+        black_box(kullneyra::read(&graph.catalogue, &mut b.offsets, &mut b.targets, &mut b.sizes)).expect("a store");
+    };
+    let reference = |b: &mut Buffers| {
+        black_box(reference::read(&graph.catalogue, &mut b.offsets, &mut b.targets, &mut b.sizes)).expect("a store");
+    };
+    let mut buffers = Buffers::new(graph, 0);
+    Times::of(&medians(&mut buffers, repetitions, [&proved, &reference]))
+}
+
+/// The sweep, with the marks of a finished collection.
+pub fn sweep(graph: &Graph, repetitions: usize) -> Times {
+    let mut buffers = Buffers::new(graph, 0);
+    reference::depth_first(&graph.offsets, &graph.targets, 0, &mut buffers.marks, &mut buffers.stack);
+    let proved = |b: &mut Buffers| {
+        black_box(kullneyra::sweep(&b.marks, &graph.sizes, &mut b.list)).expect("sizes");
+    };
+    let reference = |b: &mut Buffers| {
+        black_box(reference::sweep(&b.marks, &graph.sizes, &mut b.list)).expect("sizes");
+    };
+    Times::of(&medians(&mut buffers, repetitions, [&proved, &reference]))
+}
+
+/// A finished marking.
+pub struct Marking {
+    pub times: Times,
+    /// A plain depth-first marking of the same graph.
+    pub floor: f64,
+    /// Proved over that.
+    pub over_floor: f64,
+    pub turns: usize,
+    pub followed: u64,
+    pub handed: u64,
+}
+
+/// Round robin: the workers in order, each naming the next.
+fn round_robin(workers: u32, turns: usize) -> Vec<u8> {
+    let workers = workers as usize;
+    (0..turns).flat_map(|i| [(i % workers) as u8, ((i + 1) % workers) as u8]).collect()
+}
+
+fn run_reference(graph: &Graph, settings: Settings, schedule: &[u8], b: &mut Buffers) -> reference::Outcome {
+    let Settings { workers, batch, cutoff } = settings;
+    let Graph { offsets, targets, .. } = graph;
+    reference::mark(offsets, targets, 0, workers, batch, cutoff, schedule, &mut b.marks, &mut b.work).expect("a call")
+}
+
+fn run_proved(graph: &Graph, settings: Settings, schedule: &[u8], b: &mut Buffers) -> kullneyra::Marked {
+    let Graph { offsets, targets, .. } = graph;
+    let schedule = Schedule::from_bytes(schedule);
+    kullneyra::mark(offsets, targets, 0, settings, schedule, &mut b.marks, &mut b.work).expect("a call")
+}
+
+/// The shortest round-robin schedule that finishes, up to one in 256 longer.
+fn schedule(graph: &Graph, settings: Settings, buffers: &mut Buffers) -> Vec<u8> {
+    let mut enough = 64;
+    let mut turns = round_robin(settings.workers, enough);
+    while !run_reference(graph, settings, &turns, buffers).finished {
+        enough *= 2;
+        turns = round_robin(settings.workers, enough);
+    }
+    let mut short = enough / 2;
+    while enough - short > enough / 256 + 1 {
+        let middle = short + (enough - short) / 2;
+        if run_reference(graph, settings, &turns[..2 * middle], buffers).finished {
+            enough = middle;
+        } else {
+            short = middle;
+        }
+    }
+    turns.truncate(2 * enough);
+    turns
+}
+
+/// Both sides finish, with the same counts.
+fn agree(graph: &Graph, settings: Settings, turns: &[u8], buffers: &mut Buffers) -> reference::Outcome {
+    let wanted = run_reference(graph, settings, turns, buffers);
+    let got = run_proved(graph, settings, turns, buffers);
+    let got = (got.finished, got.live, got.followed, got.handed, got.refused, got.moved);
+    assert_eq!(got, (true, wanted.live, wanted.followed, wanted.handed, wanted.refused, wanted.moved));
+    wanted
+}
+
+/// The marker, from the start to the end of the collection.
+pub fn mark(graph: &Graph, settings: Settings, repetitions: usize) -> Marking {
+    let mut buffers = Buffers::new(graph, settings.workers as usize);
+    let turns = schedule(graph, settings, &mut buffers);
+    let outcome = agree(graph, settings, &turns, &mut buffers);
+    let proved = |b: &mut Buffers| {
+        black_box(run_proved(graph, settings, &turns, b));
+    };
+    let reference = |b: &mut Buffers| {
+        black_box(run_reference(graph, settings, &turns, b));
+    };
+    let floor = |b: &mut Buffers| {
+        black_box(reference::depth_first(&graph.offsets, &graph.targets, 0, &mut b.marks, &mut b.stack));
+    };
+    let medians = medians(&mut buffers, repetitions, [&proved, &reference, &floor]);
+    Marking {
+        times: Times::of(&medians),
+        floor: medians.times[2],
+        over_floor: medians.over[2],
+        turns: turns.len() / 2,
+        followed: outcome.followed,
+        handed: outcome.handed,
+    }
+}

@@ -1,0 +1,87 @@
+//! Measures reader, marker and sweep: the proved library and document 01 in plain Rust, interleaved in
+//! one run on the same input, and a plain depth-first marking as the floor.
+//!
+//! ```text
+//! bench [FOLDER [REPETITIONS]]
+//! ```
+//! The tables are printed and written to the folder as Markdown, with two plots.
+
+mod calls;
+mod graphs;
+mod measure;
+mod plot;
+mod table;
+
+use graphs::Graph;
+use kullneyra::Settings;
+use std::path::PathBuf;
+use std::{env, fs, io};
+use table::{CallRow, GrowthRow, MarkRow};
+
+const REPETITIONS: usize = 21;
+const WORKERS: [u32; 3] = [1, 4, 16];
+const BATCH_AND_CUTOFF: [(u32, u32); 3] = [(1, 1), (64, 64), (1024, 4096)];
+const GROWTH: [usize; 7] = [1_000, 3_162, 10_000, 31_623, 100_000, 316_228, 1_000_000];
+
+fn mark_row(graph: &Graph, settings: Settings, repetitions: usize) -> MarkRow {
+    MarkRow { graph: graph.name, settings, marking: calls::mark(graph, settings, repetitions) }
+}
+
+fn mark_rows(graphs: &[Graph], repetitions: usize) -> Vec<MarkRow> {
+    let mut rows = Vec::new();
+    for graph in graphs {
+        for workers in WORKERS {
+            for (batch, cutoff) in BATCH_AND_CUTOFF {
+                rows.push(mark_row(graph, Settings { workers, batch, cutoff }, repetitions));
+            }
+        }
+        eprintln!("bench: marked {}", graph.name);
+    }
+    rows
+}
+
+fn growth_rows(repetitions: usize) -> Vec<GrowthRow> {
+    let settings = Settings { workers: 4, batch: 64, cutoff: 64 };
+    let row = |references| {
+        let graph = graphs::uniform(references / 16, references);
+        let read = calls::read(&graph, repetitions);
+        GrowthRow { references, read, mark: mark_row(&graph, settings, repetitions) }
+    };
+    GROWTH.map(row).into()
+}
+
+fn call_rows(graphs: &[Graph], count: fn(&Graph) -> usize, times: impl Fn(&Graph) -> calls::Times) -> Vec<CallRow> {
+    graphs.iter().map(|graph| CallRow { graph: graph.name, count: count(graph), times: times(graph) }).collect()
+}
+
+fn main() -> io::Result<()> {
+    let mut arguments = env::args().skip(1);
+    let folder = PathBuf::from(arguments.next().unwrap_or_else(|| "target/bench".into()));
+    let repetitions = arguments.next().and_then(|text| text.parse().ok()).unwrap_or(REPETITIONS);
+    fs::create_dir_all(&folder)?;
+
+    let graphs = graphs::all();
+    let read = call_rows(&graphs, Graph::m, |graph| calls::read(graph, repetitions));
+    let sweep = call_rows(&graphs, Graph::n, |graph| calls::sweep(graph, repetitions));
+    eprintln!("bench: read and swept");
+    let marks = mark_rows(&graphs, repetitions);
+    let growth = growth_rows(repetitions);
+
+    let text = [
+        format!(
+            "Medians of {repetitions} interleaved runs, release builds, buffers written beforehand (not cleared).\n\n"
+        ),
+        table::calls("Reader", "reference", &read),
+        table::marks(&marks),
+        table::calls("Sweep", "object", &sweep),
+        table::growth(&growth),
+        table::goals(&marks),
+    ]
+    .concat();
+    print!("{text}");
+    fs::write(folder.join("table.md"), text)?;
+    fs::write(folder.join("marker.svg"), plot::marks(&marks))?;
+    fs::write(folder.join("growth.svg"), plot::growth(&growth))?;
+    println!("\nbench: table.md, marker.svg and growth.svg are in {}", folder.display());
+    Ok(())
+}

@@ -1,0 +1,45 @@
+//! Medians of interleaved runs.
+
+use std::time::Instant;
+
+/// At least this long is measured at a time, in nanoseconds; short calls are repeated.
+const LEAST: f64 = 2_000_000.0;
+
+fn nanoseconds<B>(buffers: &mut B, side: &dyn Fn(&mut B), times: usize) -> f64 {
+    let start = Instant::now();
+    for _ in 0..times {
+        side(buffers);
+    }
+    start.elapsed().as_nanos() as f64 / times as f64
+}
+
+fn median(mut all: Vec<f64>) -> f64 {
+    all.sort_by(f64::total_cmp);
+    all[all.len() / 2]
+}
+
+/// Medians over the repetitions.
+pub struct Medians<const N: usize> {
+    /// Each side's time, in nanoseconds.
+    pub times: [f64; N],
+    /// The first side's time over each side's time in the same repetition: a slow phase of the machine
+    /// slows both.
+    pub over: [f64; N],
+}
+
+/// Measures. Every repetition runs all sides, one after the other, in an order that turns; the buffers
+/// are the same for all and were written before the first.
+pub fn medians<B, const N: usize>(buffers: &mut B, repetitions: usize, sides: [&dyn Fn(&mut B); N]) -> Medians<N> {
+    let once = nanoseconds(buffers, sides[0], 1);
+    let times = (LEAST / once.max(1.0)).clamp(1.0, 100_000.0) as usize;
+    let mut all = vec![[0.0; N]; repetitions];
+    for (repetition, row) in all.iter_mut().enumerate() {
+        for i in 0..N {
+            let side = (i + repetition) % N;
+            row[side] = nanoseconds(buffers, sides[side], times);
+        }
+    }
+    let over = |side: usize| median(all.iter().map(|row| row[0] / row[side]).collect());
+    let time = |side: usize| median(all.iter().map(|row| row[side]).collect());
+    Medians { times: std::array::from_fn(time), over: std::array::from_fn(over) }
+}

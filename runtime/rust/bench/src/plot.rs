@@ -1,0 +1,133 @@
+//! Plots as SVG, written by hand.
+
+use crate::table::{GrowthRow, MarkRow};
+use std::fmt::Write;
+
+const PROVED: &str = "#1b6ca8";
+const REFERENCE: &str = "#d08c2f";
+const FLOOR: &str = "#555555";
+
+fn start(width: f64, height: f64, title: &str) -> String {
+    let mut svg = format!(
+        "<svg xmlns=\"http://www.w3.org/2000/svg\" viewBox=\"0 0 {width} {height}\" width=\"{width}\" height=\"{height}\" \
+         font-family=\"sans-serif\" font-size=\"11\">\n<rect width=\"100%\" height=\"100%\" fill=\"white\"/>\n"
+    );
+    label(&mut svg, width / 2.0, 20.0, "middle", "14", title);
+    svg
+}
+
+fn label(svg: &mut String, x: f64, y: f64, anchor: &str, size: &str, text: &str) {
+    writeln!(svg, "<text x=\"{x:.1}\" y=\"{y:.1}\" text-anchor=\"{anchor}\" font-size=\"{size}\">{text}</text>")
+        .expect("text");
+}
+
+fn bar(svg: &mut String, x: f64, y: f64, width: f64, height: f64, color: &str) {
+    writeln!(svg, "<rect x=\"{x:.1}\" y=\"{y:.1}\" width=\"{width:.1}\" height=\"{height:.1}\" fill=\"{color}\"/>")
+        .expect("text");
+}
+
+fn line(svg: &mut String, from: (f64, f64), to: (f64, f64), color: &str) {
+    let ((x1, y1), (x2, y2)) = (from, to);
+    writeln!(svg, "<line x1=\"{x1:.1}\" y1=\"{y1:.1}\" x2=\"{x2:.1}\" y2=\"{y2:.1}\" stroke=\"{color}\"/>")
+        .expect("text");
+}
+
+fn legend(svg: &mut String, x: f64, y: f64, entries: &[(&str, &str)]) {
+    for (i, (name, color)) in entries.iter().enumerate() {
+        let x = x + 170.0 * i as f64;
+        bar(svg, x, y - 9.0, 10.0, 10.0, color);
+        label(svg, x + 15.0, y, "start", "11", name);
+    }
+}
+
+/// Bars of ns per reference, one pair for each marking, with a line where depth-first marking stands.
+/// The scale is logarithmic, from 1 ns.
+pub fn marks(rows: &[MarkRow]) -> String {
+    let (left, top, step, width) = (190.0, 55.0, 24.0, 620.0);
+    let highest = rows
+        .iter()
+        .flat_map(|row| [row.marking.times.proved, row.marking.times.reference].map(|t| row.per_reference(t)));
+    let highest = highest.fold(10.0, f64::max);
+    let across = |value: f64| width * value.max(1.0).log10() / highest.log10();
+    let height = top + step * rows.len() as f64 + 30.0;
+    let mut svg = start(left + width + 40.0, height, "Marker: ns per reference (logarithmic)");
+    legend(&mut svg, left, 42.0, &[("proved library", PROVED), ("Rust machine", REFERENCE), ("depth-first", FLOOR)]);
+    for power in 0..=highest.log10() as i32 {
+        let x = left + across(10f64.powi(power));
+        line(&mut svg, (x, top), (x, height - 25.0), "#dddddd");
+        label(&mut svg, x, height - 12.0, "middle", "11", &format!("{}", 10f64.powi(power)));
+    }
+    for (i, row) in rows.iter().enumerate() {
+        let y = top + step * i as f64;
+        let s = row.settings;
+        let name = format!("{}, W {}, D {}, K {}", row.graph, s.workers, s.batch, s.cutoff);
+        label(&mut svg, left - 6.0, y + 14.0, "end", "10", &name);
+        bar(&mut svg, left, y + 3.0, across(row.per_reference(row.marking.times.proved)), 8.0, PROVED);
+        bar(&mut svg, left, y + 11.0, across(row.per_reference(row.marking.times.reference)), 8.0, REFERENCE);
+        let x = left + across(row.per_reference(row.marking.floor));
+        line(&mut svg, (x, y + 1.0), (x, y + 21.0), FLOOR);
+    }
+    svg + "</svg>\n"
+}
+
+/// One line of the growth plot.
+struct Curve {
+    name: &'static str,
+    color: &'static str,
+    dashed: bool,
+    time: fn(&GrowthRow) -> f64,
+}
+
+const CURVES: [Curve; 5] = [
+    Curve { name: "mark, proved", color: PROVED, dashed: false, time: |row| row.mark.marking.times.proved },
+    Curve { name: "mark, Rust", color: REFERENCE, dashed: false, time: |row| row.mark.marking.times.reference },
+    Curve { name: "depth-first", color: FLOOR, dashed: false, time: |row| row.mark.marking.floor },
+    Curve { name: "read, proved", color: PROVED, dashed: true, time: |row| row.read.proved },
+    Curve { name: "read, Rust", color: REFERENCE, dashed: true, time: |row| row.read.reference },
+];
+
+/// Time over references, both logarithmic: a straight line of slope 1 is time in proportion.
+pub fn growth(rows: &[GrowthRow]) -> String {
+    let (left, top, width, height) = (80.0, 40.0, 560.0, 440.0);
+    let across = |references: f64| left + width * (references.log10() - 3.0) / 3.0;
+    let up = |time: f64| top + height - height * (time.log10() - 3.0) / 5.0;
+    let mut svg = start(left + width + 140.0, top + height + 50.0, "Time over references (both logarithmic)");
+    for power in 3..=6 {
+        let x = across(10f64.powi(power));
+        line(&mut svg, (x, top), (x, top + height), "#dddddd");
+        label(&mut svg, x, top + height + 18.0, "middle", "11", &format!("10^{power} references"));
+    }
+    for power in 3..=8 {
+        let y = up(10f64.powi(power));
+        line(&mut svg, (left, y), (left + width, y), "#dddddd");
+        label(&mut svg, left - 8.0, y + 4.0, "end", "11", &format!("{} µs", 10f64.powi(power - 3)));
+    }
+    let mut names = Vec::new();
+    for curve in &CURVES {
+        let points: Vec<(f64, f64)> =
+            rows.iter().map(|row| (across(row.references as f64), up((curve.time)(row)))).collect();
+        draw(&mut svg, curve, &points);
+        names.extend(points.last().map(|&(_, y)| (y + 4.0, curve.name)));
+    }
+    name_curves(&mut svg, left + width + 8.0, names);
+    svg + "</svg>\n"
+}
+
+/// The curves' names beside their ends, one below the other where the ends are close.
+fn name_curves(svg: &mut String, x: f64, mut names: Vec<(f64, &str)>) {
+    names.sort_by(|one, other| one.0.total_cmp(&other.0));
+    let mut free = 0.0;
+    for (y, name) in names {
+        let y = y.max(free);
+        label(svg, x, y, "start", "11", name);
+        free = y + 14.0;
+    }
+}
+
+fn draw(svg: &mut String, curve: &Curve, points: &[(f64, f64)]) {
+    let text: Vec<String> = points.iter().map(|(x, y)| format!("{x:.1},{y:.1}")).collect();
+    let dashes = if curve.dashed { " stroke-dasharray=\"5 4\"" } else { "" };
+    let (color, points_text) = (curve.color, text.join(" "));
+    writeln!(svg, "<polyline points=\"{points_text}\" fill=\"none\" stroke=\"{color}\" stroke-width=\"2\"{dashes}/>")
+        .expect("text");
+}

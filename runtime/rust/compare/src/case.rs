@@ -1,0 +1,150 @@
+//! One call with its inputs. Lent buffers that are written are given by their lengths.
+
+use std::fmt;
+
+/// A call and what it is given.
+#[derive(Clone, Debug, PartialEq, Eq)]
+pub enum Call {
+    Header { bytes: Vec<u8> },
+    Read { bytes: Vec<u8>, offsets: usize, targets: usize, sizes: usize },
+    References { offsets: Vec<u32>, targets: Vec<u32>, object: u32 },
+    Mark(Mark),
+    Sweep { marks: Vec<u8>, sizes: Vec<u64>, list: usize },
+}
+
+#[derive(Clone, Debug, PartialEq, Eq)]
+pub struct Mark {
+    pub offsets: Vec<u32>,
+    pub targets: Vec<u32>,
+    pub index: u32,
+    pub workers: u32,
+    pub batch: u32,
+    pub cutoff: u32,
+    pub schedule: Vec<u8>,
+    pub marks: usize,
+    pub work: usize,
+}
+
+#[derive(Clone, Debug, PartialEq, Eq)]
+pub struct Case {
+    pub call: Call,
+    /// The length of the result buffer.
+    pub result: usize,
+    /// What the written buffers hold beforehand is made from this.
+    pub fill: u64,
+}
+
+impl Case {
+    /// The same for the buffer of this number.
+    pub fn fill(&self, buffer: u64) -> u64 {
+        self.fill.wrapping_add(8 * buffer)
+    }
+
+    /// Whether the call can be made by the functions with Rust's own types.
+    pub fn has_right_result(&self) -> bool {
+        self.result == self.call.result_words()
+    }
+}
+
+impl Call {
+    pub const NAMES: [&'static str; 5] = ["header", "read", "references", "mark", "sweep"];
+
+    pub fn place(&self) -> usize {
+        match self {
+            Call::Header { .. } => 0,
+            Call::Read { .. } => 1,
+            Call::References { .. } => 2,
+            Call::Mark(_) => 3,
+            Call::Sweep { .. } => 4,
+        }
+    }
+
+    /// The right length of the result buffer.
+    pub fn result_words(&self) -> usize {
+        [3, 3, 2, 6, 2][self.place()]
+    }
+
+    /// The answers that document 01 has for this call.
+    pub fn answers(place: usize) -> &'static [u32] {
+        const ANSWERS: [&[u32]; 5] =
+            [&[0, 1, 2, 3, 4, 5, 7], &[0, 1, 2, 3, 4, 5, 6, 7], &[0, 7], &[0, 4, 5, 7, 8, 9, 10], &[0, 4, 6, 7]];
+        ANSWERS[place]
+    }
+}
+
+/// How many elements of a list are printed.
+const SHOWN: usize = 2_000;
+
+fn list<T: fmt::Display>(f: &mut fmt::Formatter<'_>, name: &str, all: &[T]) -> fmt::Result {
+    write!(f, "  {name} ({}):", all.len())?;
+    for one in all.iter().take(SHOWN) {
+        write!(f, " {one}")?;
+    }
+    writeln!(f, "{}", if all.len() > SHOWN { " .." } else { "" })
+}
+
+/// One record to a line, in hex, as far as the lengths can be followed.
+fn catalogue(f: &mut fmt::Formatter<'_>, bytes: &[u8]) -> fmt::Result {
+    writeln!(f, "  catalogue ({} bytes, hex, one record to a line):", bytes.len())?;
+    let mut rest = bytes;
+    for _ in 0..SHOWN {
+        if rest.is_empty() {
+            return Ok(());
+        }
+        let told = if rest.len() < 2 { 0 } else { usize::from(u16::from_le_bytes([rest[0], rest[1]])) };
+        let length = if (4..=rest.len()).contains(&told) { told } else { rest.len() };
+        write!(f, "   ")?;
+        for byte in &rest[..length.min(SHOWN)] {
+            write!(f, " {byte:02x}")?;
+        }
+        writeln!(f)?;
+        rest = &rest[length..];
+    }
+    writeln!(f, "    ..")
+}
+
+fn schedule(f: &mut fmt::Formatter<'_>, bytes: &[u8]) -> fmt::Result {
+    write!(f, "  schedule ({} bytes, worker>named):", bytes.len())?;
+    for turn in bytes.chunks(2).take(SHOWN) {
+        match turn {
+            [worker, named] => write!(f, " {worker}>{named}")?,
+            rest => write!(f, " {}", rest[0])?,
+        }
+    }
+    writeln!(f, "{}", if bytes.len() > 2 * SHOWN { " .." } else { "" })
+}
+
+impl fmt::Display for Mark {
+    fn fmt(&self, f: &mut fmt::Formatter<'_>) -> fmt::Result {
+        list(f, "offsets", &self.offsets)?;
+        list(f, "targets", &self.targets)?;
+        writeln!(f, "  index {}, W {}, D {}, K {}", self.index, self.workers, self.batch, self.cutoff)?;
+        schedule(f, &self.schedule)?;
+        writeln!(f, "  lengths: marks {}, work {}", self.marks, self.work)
+    }
+}
+
+impl fmt::Display for Case {
+    fn fmt(&self, f: &mut fmt::Formatter<'_>) -> fmt::Result {
+        writeln!(f, "call {}", Call::NAMES[self.call.place()])?;
+        match &self.call {
+            Call::Header { bytes } => catalogue(f, bytes)?,
+            Call::Read { bytes, offsets, targets, sizes } => {
+                catalogue(f, bytes)?;
+                writeln!(f, "  lengths: offsets {offsets}, targets {targets}, sizes {sizes}")?;
+            }
+            Call::References { offsets, targets, object } => {
+                list(f, "offsets", offsets)?;
+                list(f, "targets", targets)?;
+                writeln!(f, "  object {object}")?;
+            }
+            Call::Mark(mark) => write!(f, "{mark}")?,
+            Call::Sweep { marks, sizes, list: length } => {
+                list(f, "marks", marks)?;
+                list(f, "sizes", sizes)?;
+                writeln!(f, "  length: list {length}")?;
+            }
+        }
+        writeln!(f, "  length: result {}", self.result)
+    }
+}

@@ -1,0 +1,184 @@
+//! Small cases, drawn.
+
+use crate::case::{Call, Case, Mark};
+use crate::damage;
+use crate::judge::reached;
+use crate::rng::Rng;
+use crate::store::{self, Store};
+use reference::LARGEST_SIZE;
+
+/// A small case.
+pub fn small(rng: &mut Rng) -> Case {
+    let call = match rng.below(20) {
+        0 | 1 => Call::Header { bytes: catalogue(rng).0 },
+        2..=8 => read(rng),
+        9 | 10 => references(rng),
+        11..=17 => Call::Mark(mark(rng)),
+        _ => sweep(rng),
+    };
+    let result = damage::length_once_in(rng, 30, call.result_words());
+    Case { result, fill: rng.word(), call }
+}
+
+fn small_store(rng: &mut Rng) -> Store {
+    let most = rng.pick(&[3, 12, 40, 150]);
+    let n = rng.between(1, most);
+    let m = rng.below(4 * n + 2);
+    let shape = rng.below(store::SHAPES);
+    let mut store = store::store(rng, shape, n, m);
+    if rng.once_in(3) {
+        store.index = rng.below(n) as u32;
+    }
+    if rng.once_in(2) {
+        rng.shuffle(&mut store.pairs);
+    }
+    store
+}
+
+/// A catalogue, often damaged, and the n and m that its buffers are made for.
+fn catalogue(rng: &mut Rng) -> (Vec<u8>, usize, usize) {
+    let store = small_store(rng);
+    let sizes = store::sizes(rng, store.n);
+    let mut records = store.records(&sizes);
+    for _ in 0..rng.pick(&[0, 0, 0, 1, 1, 1, 2, 3]) {
+        damage::records(rng, &mut records, store.n as u32);
+    }
+    let mut bytes = store::bytes(&records);
+    if rng.once_in(4) {
+        damage::bytes(rng, &mut bytes);
+    }
+    (bytes, store.n, store.m())
+}
+
+fn read(rng: &mut Rng) -> Call {
+    let (bytes, n, m) = catalogue(rng);
+    let once_in = rng.pick(&[4, 1_000, 1_000]);
+    Call::Read {
+        bytes,
+        offsets: damage::length_once_in(rng, once_in, n + 1),
+        targets: damage::length_once_in(rng, once_in, m),
+        sizes: damage::length_once_in(rng, once_in, n),
+    }
+}
+
+fn references(rng: &mut Rng) -> Call {
+    let store = small_store(rng);
+    let (mut offsets, mut targets) = store.lists();
+    for _ in 0..rng.below(3) {
+        damage::graph(rng, &mut offsets, &mut targets);
+    }
+    let n = store.n as u32;
+    let any = rng.word() as u32;
+    let object = match rng.below(3) {
+        0 => rng.pick(&[0, n - 1, n, n + 1, u32::MAX, u32::MAX - 1, any]),
+        _ => rng.below(store.n) as u32,
+    };
+    Call::References { offsets, targets, object }
+}
+
+fn sweep(rng: &mut Rng) -> Call {
+    let n = rng.below(40);
+    let mut sizes = store::sizes(rng, n);
+    if n > 0 && rng.once_in(5) {
+        sizes[rng.below(n)] = rng.pick(&[LARGEST_SIZE + 1, u64::MAX, LARGEST_SIZE]);
+    }
+    let marks = damage::length_once_in(rng, 8, n);
+    let values: &[u8] = rng.pick(&[&[0, 1][..], &[0], &[1], &[0, 0, 1, 2, 128, 255]]);
+    Call::Sweep {
+        marks: (0..marks).map(|_| rng.pick(values)).collect(),
+        sizes,
+        list: damage::length_once_in(rng, 8, n),
+    }
+}
+
+/// A marker's call, accepted more often than not.
+fn mark(rng: &mut Rng) -> Mark {
+    let store = small_store(rng);
+    let (offsets, targets) = store.lists();
+    let workers = rng.pick(&[1, 2, 3, 4, 8, 15, 16]);
+    let mut call = Mark {
+        schedule: Vec::new(),
+        index: store.index,
+        workers: workers as u32,
+        batch: setting(rng),
+        cutoff: setting(rng),
+        marks: store.n,
+        work: workers * (2 * store.n + 4),
+        offsets,
+        targets,
+    };
+    call.schedule = schedule(rng, &call);
+    if rng.once_in(3) {
+        for _ in 0..rng.pick(&[1, 1, 1, 2, 3]) {
+            damage::mark(rng, &mut call);
+        }
+    }
+    call
+}
+
+/// D or K, within the range.
+fn setting(rng: &mut Rng) -> u32 {
+    let any = rng.between(1, 65_535) as u32;
+    match rng.below(8) {
+        0 => rng.pick(&[65_535, any]),
+        1 | 2 => rng.between(1, 100) as u32,
+        _ => rng.pick(&[1, 1, 2, 3, 4, 7]),
+    }
+}
+
+/// The turns: none, few, some, or as many full rounds as finish every collection.
+fn schedule(rng: &mut Rng, call: &Mark) -> Vec<u8> {
+    let (workers, m) = (call.workers as usize, call.targets.len());
+    let turns = match rng.below(8) {
+        0 => rng.below(3),
+        1 | 2 => rng.below(40),
+        3..=5 => rng.below(workers * (2 * m + 8)),
+        _ => {
+            let (_, leaving) = reached(&call.offsets, &call.targets, call.index);
+            workers * (7 * leaving + workers)
+        }
+    };
+    let (order, naming) = (rng.below(6), rng.below(6));
+    let mut schedule = Vec::with_capacity(2 * turns);
+    for worker in workers_in_turn(rng, order, workers, turns) {
+        schedule.extend([worker, named(rng, naming, worker, call.workers as u8)]);
+    }
+    schedule
+}
+
+/// Whose turn it is, in the order of this number.
+fn workers_in_turn(rng: &mut Rng, order: usize, workers: usize, turns: usize) -> Vec<u8> {
+    let mut round: Vec<u8> = (0..workers as u8).collect();
+    let mut all = Vec::with_capacity(turns);
+    let mut current = 0;
+    for i in 0..turns {
+        let at = i % workers;
+        if at == 0 && order == 1 {
+            rng.shuffle(&mut round);
+        }
+        current = match order {
+            // Full rounds, in order or shuffled.
+            0 | 1 => round[at],
+            // Any worker.
+            2 | 3 => rng.below(workers) as u8,
+            // The same one for a while.
+            4 if !rng.once_in(9) => current,
+            // The first ones more often.
+            _ => rng.below(workers).min(rng.below(workers)) as u8,
+        };
+        all.push(current);
+    }
+    all
+}
+
+/// Whom a turn names: the next, any worker, worker 0, the one before, itself, or none that there is.
+fn named(rng: &mut Rng, naming: usize, current: u8, workers: u8) -> u8 {
+    let any = rng.word() as u8;
+    match naming {
+        0 => (current + 1) % workers,
+        1 | 2 => rng.below(workers as usize) as u8,
+        3 => rng.pick(&[0, 0, 0, current, workers]),
+        4 => current.checked_sub(1).unwrap_or(workers - 1),
+        _ => rng.pick(&[workers, workers + 1, 255, 0, current, any]),
+    }
+}

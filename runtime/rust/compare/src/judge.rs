@@ -1,0 +1,134 @@
+//! What is asked of every case: both sides agree, and what document 01 demands holds of the answer.
+
+use crate::case::{Call, Case, Mark};
+use crate::sides::{after, place, After, Proved, Reference, Side, Typed, Untouched};
+
+/// What the proved library answered and left, or what is wrong with it.
+pub fn judge(case: &Case) -> Result<After, String> {
+    let wanted = after(case, &Reference);
+    let got = same(case, &Proved, &wanted).map_err(|what| format!("library against reference: {what}"))?;
+    if case.has_right_result() {
+        same(case, &Typed, &wanted).map_err(|what| format!("library by its Rust types against reference: {what}"))?;
+    }
+    demands(case, &got)?;
+    Ok(got)
+}
+
+/// What a side answers and leaves, if it is what is wanted.
+pub fn same(case: &Case, side: &dyn Side, wanted: &After) -> Result<After, String> {
+    let got = after(case, side);
+    match difference(&got, wanted) {
+        None => Ok(got),
+        Some(what) => Err(what),
+    }
+}
+
+/// The first thing in which two sides differ.
+fn difference(got: &After, wanted: &After) -> Option<String> {
+    if got.number != wanted.number {
+        return Some(format!("answer {} against {}", got.number, wanted.number));
+    }
+    for ((name, one), (_, other)) in got.buffers.iter().zip(&wanted.buffers) {
+        if one != other {
+            let i = (0..one.len()).find(|&i| one.at(i) != other.at(i))?;
+            return Some(format!("{name}[{}] is {} against {}", place(i), one.at(i), other.at(i)));
+        }
+    }
+    None
+}
+
+/// The demands that can be tested on an answer.
+pub fn demands(case: &Case, got: &After) -> Result<(), String> {
+    if got.number != 0 && got.buffers != after(case, &Untouched).buffers {
+        return Err(format!("a buffer is changed beside refusal {}", got.number));
+    }
+    match &case.call {
+        Call::Mark(call) if got.number == 0 => run_demands(call, got),
+        _ => Ok(()),
+    }
+}
+
+/// The objects that the index reaches, and how many references leave them: R.
+pub fn reached(offsets: &[u32], targets: &[u32], index: u32) -> (Vec<bool>, usize) {
+    let mut found = vec![false; offsets.len() - 1];
+    let mut leaving = 0;
+    let mut next = vec![index as usize];
+    found[index as usize] = true;
+    while let Some(v) = next.pop() {
+        let part = &targets[offsets[v] as usize..offsets[v + 1] as usize];
+        leaving += part.len();
+        for &to in part {
+            if !found[to as usize] {
+                found[to as usize] = true;
+                next.push(to as usize);
+            }
+        }
+    }
+    (found, leaving)
+}
+
+/// Into how many stretches the turns can be cut, each with a turn of every worker.
+fn stretches(schedule: &[u8], workers: u32) -> u64 {
+    let all = (1u32 << workers) - 1;
+    let (mut seen, mut count) = (0u32, 0);
+    for turn in schedule.chunks_exact(2) {
+        seen |= 1 << turn[0];
+        if seen == all {
+            seen = 0;
+            count += 1;
+        }
+    }
+    count
+}
+
+/// References carried by all workers, if each stretch of the work memory is pairs and then zeros.
+fn carried(work: &[u64], stretch: usize) -> Option<u64> {
+    let mut carried = 0;
+    for words in work.chunks_exact(stretch) {
+        let runs = words.chunks_exact(2).take_while(|pair| pair[0] < pair[1]);
+        let count = runs.clone().count();
+        carried += runs.map(|pair| pair[1] - pair[0]).sum::<u64>();
+        if words[2 * count..].iter().any(|&word| word != 0) {
+            return None;
+        }
+    }
+    Some(carried)
+}
+
+/// References that leave unmarked objects.
+fn leaving_unmarked(call: &Mark, marks: &[u64]) -> u64 {
+    let bounds = call.offsets.windows(2).map(|pair| u64::from(pair[1] - pair[0]));
+    marks.iter().zip(bounds).filter(|(&mark, _)| mark == 0).map(|(_, leaving)| leaving).sum()
+}
+
+/// What demands 2 and 3 say of every accepted run.
+fn run_demands(call: &Mark, got: &After) -> Result<(), String> {
+    let (marks, work, result) = (got.lent(0), got.lent(1), got.lent(2));
+    let (found, leaving) = reached(&call.offsets, &call.targets, call.index);
+    let (most, live, followed, handed, moved) = (leaving as u64, result[1], result[2], result[3], result[5]);
+    let bound = 7 * most + u64::from(call.workers);
+    let total = carried(&work, 2 * marks.len() + 4).map(|c| followed + c + leaving_unmarked(call, &marks));
+    let mut checks = vec![
+        ("marks are 0 or 1", marks.iter().all(|&mark| mark < 2)),
+        ("live is the number of marks", live == marks.iter().sum::<u64>()),
+        ("only reachable objects are marked", marks.iter().zip(&found).all(|(&mark, &found)| mark == 0 || found)),
+        ("the index is marked", marks[call.index as usize] == 1),
+        ("work is pairs, then zeros", total.is_some()),
+        ("followed, carried and leaving unmarked make m", total == Some(call.targets.len() as u64)),
+        ("followed is at most R", followed <= most),
+        ("handed times K is at most 3R", handed * u64::from(call.cutoff) <= 3 * most),
+        ("moved is at most 7R + W", moved <= bound),
+        ("finished is 0 or 1", result[0] < 2),
+    ];
+    if result[0] == 1 {
+        checks.push(("finished: all that is reachable is marked", live == found.iter().map(|&f| u64::from(f)).sum()));
+        checks.push(("finished: followed is R", followed == most));
+        checks.push(("finished: nothing is carried", work.iter().all(|&word| word == 0)));
+    } else {
+        checks.push(("7R + W stretches finish", stretches(&call.schedule, call.workers) < bound));
+    }
+    match checks.iter().find(|(_, holds)| !holds) {
+        Some((broken, _)) => Err(format!("does not hold: {broken} (R {leaving}, result {result:?})")),
+        None => Ok(()),
+    }
+}

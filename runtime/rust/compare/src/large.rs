@@ -1,0 +1,90 @@
+//! Large cases: at the limits and just beyond them.
+
+use crate::case::{Call, Case, Mark};
+use crate::rng::Rng;
+use crate::store;
+use reference::{LARGEST_SIZE, MOST_OBJECTS, MOST_REFERENCES};
+
+/// How many there are: the first numbers of every run.
+pub const LARGE: u64 = 24;
+
+/// The large case of this number.
+pub fn large(rng: &mut Rng, number: u64) -> Case {
+    let call = match number {
+        0..=6 => large_read(rng, number),
+        7 => large_sweep(rng, MOST_OBJECTS),
+        8 => large_sweep(rng, MOST_OBJECTS + 1),
+        _ => Call::Mark(large_mark(rng, number - 9)),
+    };
+    Case { result: call.result_words(), fill: rng.word(), call }
+}
+
+fn large_read(rng: &mut Rng, number: u64) -> Call {
+    let (n, m) = match number {
+        0 => (1, MOST_REFERENCES),
+        1 => (MOST_OBJECTS, 0),
+        _ => (MOST_OBJECTS, MOST_REFERENCES),
+    };
+    let store = store::store(rng, 0, n, m);
+    let sizes = store::sizes(rng, n);
+    let mut bytes = store::bytes(&store.records(&sizes));
+    let end = bytes.len();
+    match number {
+        // The last reference's target is not below n.
+        3 => bytes[end - 4..].copy_from_slice(&(n as u32).to_le_bytes()),
+        // A record too many.
+        4 => bytes.extend_from_within(end - 12..),
+        // A byte is missing.
+        5 => drop(bytes.pop()),
+        // The header promises one more reference than there may be.
+        6 => bytes[8..12].copy_from_slice(&(m as u32 + 1).to_le_bytes()),
+        _ => {}
+    }
+    Call::Read { bytes, offsets: n + 1, targets: m, sizes: n }
+}
+
+fn large_sweep(rng: &mut Rng, n: usize) -> Call {
+    let marks = (0..n).map(|_| rng.pick(&[0, 0, 1])).collect();
+    Call::Sweep { marks, sizes: vec![LARGEST_SIZE; n], list: n }
+}
+
+/// Shape, n, m, W, D, K and turns of each large marker's call.
+type Row = (usize, usize, usize, usize, u32, u32, usize);
+
+const ROWS: [Row; 12] = [
+    (0, MOST_OBJECTS, MOST_REFERENCES, 16, 64, 64, 1_500_000),
+    (0, MOST_OBJECTS, MOST_REFERENCES, 1, 65_535, 65_535, 1_500_000),
+    (0, MOST_OBJECTS, MOST_REFERENCES, 16, 1, 1, 2_500_000),
+    (0, MOST_OBJECTS, MOST_REFERENCES, 4, 1024, 4096, 700_000),
+    (1, MOST_OBJECTS, 0, 16, 1, 1, 4_000_000),
+    (2, MOST_OBJECTS, MOST_REFERENCES, 16, 1, 1, 2_500_000),
+    (4, MOST_OBJECTS, MOST_REFERENCES, 16, 64, 64, 1_500_000),
+    (2, 1, MOST_REFERENCES, 4, 3, 1, 1_500_000),
+    (3, MOST_OBJECTS, 0, 7, 2, 3, 1_000_000),
+    (4, 40, 100, 16, 1, 1, 3_000_000),
+    // Beyond the limits: one object, one reference too many.
+    (0, MOST_OBJECTS + 1, 10, 2, 1, 1, 10),
+    (0, 10, MOST_REFERENCES + 1, 2, 1, 1, 10),
+];
+
+fn large_mark(rng: &mut Rng, number: u64) -> Mark {
+    // The last ones are the first once more, with a work memory or schedule that is wrong at its end.
+    let (shape, n, m, workers, batch, cutoff, turns) = ROWS[number as usize % ROWS.len()];
+    let store = store::store(rng, shape, n, m);
+    let (offsets, targets) = store.lists();
+    let mut work = workers * (2 * n + 4);
+    let mut schedule = Vec::with_capacity(2 * turns);
+    for i in 0..turns {
+        let worker = if rng.once_in(8) { rng.below(workers) } else { i % workers };
+        let named = if rng.once_in(2) { rng.below(workers) } else { (worker + 1) % workers };
+        schedule.extend([worker as u8, named as u8]);
+    }
+    match number {
+        12 => work -= 1,
+        13 => schedule[2 * turns - 2] = workers as u8,
+        14 => drop(schedule.pop()),
+        _ => {}
+    }
+    let (workers, marks) = (workers as u32, n);
+    Mark { offsets, targets, index: store.index, workers, batch, cutoff, schedule, marks, work }
+}

@@ -1,0 +1,337 @@
+//! The two sides of the comparison, and what a call leaves behind.
+
+use crate::case::{Call, Case, Mark};
+use kullneyra::{raw, Schedule, Settings};
+
+/// The five calls with slices and result words, as the C header has them.
+pub trait Side {
+    fn header(&self, bytes: &[u8], result: &mut [u32]) -> u32;
+    fn read(
+        &self,
+        bytes: &[u8],
+        offsets: &mut [u32],
+        targets: &mut [u32],
+        sizes: &mut [u64],
+        result: &mut [u32],
+    ) -> u32;
+    fn references(&self, offsets: &[u32], targets: &[u32], object: u32, result: &mut [u64]) -> u32;
+    fn mark(&self, call: &Mark, marks: &mut [u8], work: &mut [u32], result: &mut [u64]) -> u32;
+    fn sweep(&self, marks: &[u8], sizes: &[u64], list: &mut [u32], result: &mut [u64]) -> u32;
+}
+
+/// The proved library by its C functions.
+pub struct Proved;
+
+impl Side for Proved {
+    fn header(&self, bytes: &[u8], result: &mut [u32]) -> u32 {
+        raw::header(bytes, result)
+    }
+
+    fn read(
+        &self,
+        bytes: &[u8],
+        offsets: &mut [u32],
+        targets: &mut [u32],
+        sizes: &mut [u64],
+        result: &mut [u32],
+    ) -> u32 {
+        raw::read(bytes, offsets, targets, sizes, result)
+    }
+
+    fn references(&self, offsets: &[u32], targets: &[u32], object: u32, result: &mut [u64]) -> u32 {
+        raw::references(offsets, targets, object, result)
+    }
+
+    fn mark(&self, c: &Mark, marks: &mut [u8], work: &mut [u32], result: &mut [u64]) -> u32 {
+        let Mark { offsets, targets, schedule, .. } = c;
+        raw::mark(offsets, targets, c.index, c.workers, c.batch, c.cutoff, schedule, marks, work, result)
+    }
+
+    fn sweep(&self, marks: &[u8], sizes: &[u64], list: &mut [u32], result: &mut [u64]) -> u32 {
+        raw::sweep(marks, sizes, list, result)
+    }
+}
+
+/// Result words for what was answered; 0, or the refusal's number with the words left alone.
+fn written<T: Copy, const N: usize, E>(answer: Result<[T; N], E>, result: &mut [T], number: impl Fn(E) -> u32) -> u32 {
+    match answer {
+        Ok(words) => {
+            result.copy_from_slice(&words);
+            0
+        }
+        Err(refusal) => number(refusal),
+    }
+}
+
+fn header_words(head: kullneyra::Header) -> [u32; 3] {
+    [head.objects, head.references, head.index]
+}
+
+/// The proved library by the functions with Rust's own types. The result buffer has the right length.
+pub struct Typed;
+
+fn number_of(refusal: kullneyra::Refusal) -> u32 {
+    u32::from(refusal.number())
+}
+
+impl Side for Typed {
+    fn header(&self, bytes: &[u8], result: &mut [u32]) -> u32 {
+        written(kullneyra::header(bytes).map(header_words), result, number_of)
+    }
+
+    fn read(
+        &self,
+        bytes: &[u8],
+        offsets: &mut [u32],
+        targets: &mut [u32],
+        sizes: &mut [u64],
+        result: &mut [u32],
+    ) -> u32 {
+        written(kullneyra::read(bytes, offsets, targets, sizes).map(header_words), result, number_of)
+    }
+
+    fn references(&self, offsets: &[u32], targets: &[u32], object: u32, result: &mut [u64]) -> u32 {
+        let part = kullneyra::references(offsets, targets, object);
+        let start = (part.as_ptr() as usize - targets.as_ptr() as usize) / size_of::<u32>();
+        result.copy_from_slice(&[start as u64, part.len() as u64]);
+        0
+    }
+
+    fn mark(&self, c: &Mark, marks: &mut [u8], work: &mut [u32], result: &mut [u64]) -> u32 {
+        let settings = Settings { workers: c.workers, batch: c.batch, cutoff: c.cutoff };
+        let schedule = Schedule::from_bytes(&c.schedule);
+        let answer = kullneyra::mark(&c.offsets, &c.targets, c.index, settings, schedule, marks, work);
+        let words = answer.map(|r| [u64::from(r.finished), r.live, r.followed, r.handed, r.refused, r.moved]);
+        written(words, result, number_of)
+    }
+
+    fn sweep(&self, marks: &[u8], sizes: &[u64], list: &mut [u32], result: &mut [u64]) -> u32 {
+        written(kullneyra::sweep(marks, sizes, list).map(|s| [s.count, s.freed]), result, number_of)
+    }
+}
+
+/// Document 01 in plain Rust; the result buffer's length is looked at first, as the C header says.
+pub struct Reference;
+
+const WRONG_LENGTH: u32 = 7;
+
+impl Side for Reference {
+    fn header(&self, bytes: &[u8], result: &mut [u32]) -> u32 {
+        if result.len() != 3 {
+            return WRONG_LENGTH;
+        }
+        written(reference::header(bytes).map(|h| [h.n, h.m, h.index]), result, u32::from)
+    }
+
+    fn read(
+        &self,
+        bytes: &[u8],
+        offsets: &mut [u32],
+        targets: &mut [u32],
+        sizes: &mut [u64],
+        result: &mut [u32],
+    ) -> u32 {
+        if result.len() != 3 {
+            return WRONG_LENGTH;
+        }
+        let answer = reference::read(bytes, offsets, targets, sizes);
+        written(answer.map(|h| [h.n, h.m, h.index]), result, u32::from)
+    }
+
+    fn references(&self, offsets: &[u32], targets: &[u32], object: u32, result: &mut [u64]) -> u32 {
+        if result.len() != 2 {
+            return WRONG_LENGTH;
+        }
+        let (start, length) = reference::part(offsets, targets, object);
+        assert_eq!(reference::references(offsets, targets, object), &targets[start..start + length]);
+        result.copy_from_slice(&[start as u64, length as u64]);
+        0
+    }
+
+    fn mark(&self, c: &Mark, marks: &mut [u8], work: &mut [u32], result: &mut [u64]) -> u32 {
+        if result.len() != 6 {
+            return WRONG_LENGTH;
+        }
+        let Mark { offsets, targets, schedule, .. } = c;
+        let answer = reference::mark(offsets, targets, c.index, c.workers, c.batch, c.cutoff, schedule, marks, work);
+        let words = answer.map(|r| [u64::from(r.finished), r.live, r.followed, r.handed, r.refused, r.moved]);
+        written(words, result, u32::from)
+    }
+
+    fn sweep(&self, marks: &[u8], sizes: &[u64], list: &mut [u32], result: &mut [u64]) -> u32 {
+        if result.len() != 2 {
+            return WRONG_LENGTH;
+        }
+        let answer = reference::sweep(marks, sizes, list);
+        written(answer.map(|s| [u64::from(s.count), s.freed]), result, u32::from)
+    }
+}
+
+/// Answers at once and writes nothing: the buffers as they were beforehand.
+pub struct Untouched;
+
+impl Side for Untouched {
+    fn header(&self, _: &[u8], _: &mut [u32]) -> u32 {
+        0
+    }
+
+    fn read(&self, _: &[u8], _: &mut [u32], _: &mut [u32], _: &mut [u64], _: &mut [u32]) -> u32 {
+        0
+    }
+
+    fn references(&self, _: &[u32], _: &[u32], _: u32, _: &mut [u64]) -> u32 {
+        0
+    }
+
+    fn mark(&self, _: &Mark, _: &mut [u8], _: &mut [u32], _: &mut [u64]) -> u32 {
+        0
+    }
+
+    fn sweep(&self, _: &[u8], _: &[u64], _: &mut [u32], _: &mut [u64]) -> u32 {
+        0
+    }
+}
+
+/// Elements on either side of a lent buffer that no call may touch.
+const GUARD: usize = 3;
+
+/// A lent buffer, filled beforehand, between its guards.
+struct Lent<T>(Vec<T>);
+
+impl<T: TryFrom<u64> + Copy> Lent<T>
+where
+    u64: From<T>,
+{
+    /// Some fills are all zeros, some all ones; in the others every element differs.
+    fn new(length: usize, fill: u64, mask: u64) -> Self {
+        let element = |i: usize| match fill % 8 {
+            0 => 0,
+            1 => u64::MAX,
+            _ => (fill ^ i as u64).wrapping_mul(0x9e37_79b9_7f4a_7c15) >> 17,
+        };
+        let all = (0..length + 2 * GUARD).map(|i| T::try_from(element(i) & mask).ok().expect("masked"));
+        Lent(all.collect())
+    }
+
+    fn part(&mut self) -> &mut [T] {
+        let end = self.0.len() - GUARD;
+        &mut self.0[GUARD..end]
+    }
+}
+
+fn bytes(length: usize, fill: u64) -> Lent<u8> {
+    Lent::new(length, fill, 0xff)
+}
+
+fn words(length: usize, fill: u64) -> Lent<u32> {
+    Lent::new(length, fill, 0xffff_ffff)
+}
+
+fn longs(length: usize, fill: u64) -> Lent<u64> {
+    Lent::new(length, fill, u64::MAX)
+}
+
+/// The whole of a buffer after the call, guards included.
+#[derive(Clone, Debug, PartialEq, Eq)]
+pub enum Whole {
+    Bytes(Vec<u8>),
+    Words(Vec<u32>),
+    Longs(Vec<u64>),
+}
+
+impl Whole {
+    pub fn len(&self) -> usize {
+        match self {
+            Whole::Bytes(all) => all.len(),
+            Whole::Words(all) => all.len(),
+            Whole::Longs(all) => all.len(),
+        }
+    }
+
+    pub fn at(&self, i: usize) -> u64 {
+        match self {
+            Whole::Bytes(all) => u64::from(all[i]),
+            Whole::Words(all) => u64::from(all[i]),
+            Whole::Longs(all) => all[i],
+        }
+    }
+}
+
+#[cfg(test)]
+impl Whole {
+    /// Changes the first lent element.
+    pub fn add_one_to_first(&mut self) {
+        match self {
+            Whole::Bytes(all) => all[GUARD] = all[GUARD].wrapping_add(1),
+            Whole::Words(all) => all[GUARD] = all[GUARD].wrapping_add(1),
+            Whole::Longs(all) => all[GUARD] = all[GUARD].wrapping_add(1),
+        }
+    }
+}
+
+/// What a call answered, and every lent word afterwards.
+#[derive(Clone, Debug, PartialEq, Eq)]
+pub struct After {
+    pub number: u32,
+    /// The buffers by name; the result words come last.
+    pub buffers: Vec<(&'static str, Whole)>,
+}
+
+/// A place in a buffer, counted without the guard.
+pub fn place(i: usize) -> isize {
+    i as isize - GUARD as isize
+}
+
+impl After {
+    /// The lent elements of a buffer, without the guards.
+    pub fn lent(&self, buffer: usize) -> Vec<u64> {
+        let all = &self.buffers[buffer].1;
+        (GUARD..all.len() - GUARD).map(|i| all.at(i)).collect()
+    }
+}
+
+/// Fresh buffers for the case, the call, and the buffers afterwards.
+pub fn after(case: &Case, side: &dyn Side) -> After {
+    match &case.call {
+        Call::Header { bytes } => {
+            let mut result = words(case.result, case.fill(0));
+            let number = side.header(bytes, result.part());
+            After { number, buffers: vec![("result", Whole::Words(result.0))] }
+        }
+        Call::Read { bytes, offsets, targets, sizes } => after_read(case, side, bytes, [*offsets, *targets, *sizes]),
+        Call::References { offsets, targets, object } => {
+            let mut result = longs(case.result, case.fill(0));
+            let number = side.references(offsets, targets, *object, result.part());
+            After { number, buffers: vec![("result", Whole::Longs(result.0))] }
+        }
+        Call::Mark(mark) => after_mark(case, side, mark),
+        Call::Sweep { marks, sizes, list } => {
+            let (mut list, mut result) = (words(*list, case.fill(1)), longs(case.result, case.fill(0)));
+            let number = side.sweep(marks, sizes, list.part(), result.part());
+            After { number, buffers: vec![("list", Whole::Words(list.0)), ("result", Whole::Longs(result.0))] }
+        }
+    }
+}
+
+fn after_read(case: &Case, side: &dyn Side, bytes: &[u8], lengths: [usize; 3]) -> After {
+    let [offsets, targets, sizes] = lengths;
+    let (mut offsets, mut targets) = (words(offsets, case.fill(1)), words(targets, case.fill(2)));
+    let (mut sizes, mut result) = (longs(sizes, case.fill(3)), words(case.result, case.fill(0)));
+    let number = side.read(bytes, offsets.part(), targets.part(), sizes.part(), result.part());
+    let buffers = vec![
+        ("offsets", Whole::Words(offsets.0)),
+        ("targets", Whole::Words(targets.0)),
+        ("sizes", Whole::Longs(sizes.0)),
+        ("result", Whole::Words(result.0)),
+    ];
+    After { number, buffers }
+}
+
+fn after_mark(case: &Case, side: &dyn Side, mark: &Mark) -> After {
+    let (mut marks, mut work) = (bytes(mark.marks, case.fill(1)), words(mark.work, case.fill(2)));
+    let mut result = longs(case.result, case.fill(0));
+    let number = side.mark(mark, marks.part(), work.part(), result.part());
+    let buffers =
+        vec![("marks", Whole::Bytes(marks.0)), ("work", Whole::Words(work.0)), ("result", Whole::Longs(result.0))];
+    After { number, buffers }
+}

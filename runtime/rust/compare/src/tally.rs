@@ -1,0 +1,55 @@
+//! How often each call gave each answer, so that a run shows what it covered.
+
+use crate::case::{Call, Case};
+use crate::sides::After;
+use std::fmt;
+
+#[derive(Default)]
+pub struct Tally {
+    /// By call, then by answer.
+    answers: [[u64; 11]; 5],
+    finished: u64,
+    handed: u64,
+    refused: u64,
+}
+
+impl Tally {
+    pub fn count(&mut self, case: &Case, after: &After) {
+        let place = case.call.place();
+        self.answers[place][after.number as usize] += 1;
+        if let (Call::Mark(_), 0) = (&case.call, after.number) {
+            let result = after.lent(2);
+            self.finished += u64::from(result[0] == 1);
+            self.handed += u64::from(result[3] > 0);
+            self.refused += u64::from(result[4] > 0);
+        }
+    }
+
+    /// A run of many cases must meet every answer of every call.
+    pub fn covers_all(&self, cases: u64) -> Result<(), String> {
+        if cases < 10_000 {
+            return Ok(());
+        }
+        for (place, name) in Call::NAMES.iter().enumerate() {
+            if let Some(answer) = Call::answers(place).iter().find(|&&answer| self.answers[place][answer as usize] == 0)
+            {
+                return Err(format!("no case of {name} was answered {answer}"));
+            }
+        }
+        Ok(())
+    }
+}
+
+impl fmt::Display for Tally {
+    fn fmt(&self, f: &mut fmt::Formatter<'_>) -> fmt::Result {
+        for (name, answers) in Call::NAMES.iter().zip(&self.answers) {
+            write!(f, "  {name:<10} accepted {}, refused", answers[0])?;
+            for (number, count) in answers.iter().enumerate().skip(1).filter(|(_, &count)| count > 0) {
+                write!(f, " {number}: {count}")?;
+            }
+            writeln!(f)?;
+        }
+        let Tally { finished, handed, refused, .. } = self;
+        writeln!(f, "  of the marker's: {finished} finished, {handed} with hand-overs, {refused} with refused asks")
+    }
+}

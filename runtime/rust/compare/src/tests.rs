@@ -1,0 +1,111 @@
+//! The comparison finds what it should: sides with one fault each, made from the reference.
+
+use crate::case::{Call, Mark};
+use crate::judge::{demands, same};
+use crate::large::LARGE;
+use crate::sides::{after, Reference, Side};
+use crate::{case_of, SEED};
+
+/// The reference with one fault.
+#[derive(Clone, Copy, PartialEq)]
+enum Fault {
+    None,
+    /// The list's zeros are left out.
+    ListNotPadded,
+    /// Marks are cleared before the schedule is checked.
+    MarksClearedBesideRefusal,
+    /// One word too far is written.
+    PastTheEnd,
+    /// A result buffer that is too long is taken.
+    LongResultTaken,
+    /// Sizes are checked before lengths.
+    ChecksExchanged,
+}
+
+impl Side for Fault {
+    fn header(&self, bytes: &[u8], result: &mut [u32]) -> u32 {
+        match self {
+            Fault::LongResultTaken if result.len() > 3 => Reference.header(bytes, &mut result[..3]),
+            _ => Reference.header(bytes, result),
+        }
+    }
+
+    fn read(&self, bytes: &[u8], o: &mut [u32], t: &mut [u32], s: &mut [u64], result: &mut [u32]) -> u32 {
+        let number = Reference.read(bytes, o, t, s, result);
+        if *self == Fault::PastTheEnd && number == 0 {
+            // SAFETY: a guard follows every lent buffer.
+            unsafe { *o.as_mut_ptr().add(o.len()) ^= 1 };
+        }
+        number
+    }
+
+    fn references(&self, offsets: &[u32], targets: &[u32], object: u32, result: &mut [u64]) -> u32 {
+        Reference.references(offsets, targets, object, result)
+    }
+
+    fn mark(&self, call: &Mark, marks: &mut [u8], work: &mut [u32], result: &mut [u64]) -> u32 {
+        let number = Reference.mark(call, marks, work, result);
+        if *self == Fault::MarksClearedBesideRefusal && number == 9 {
+            marks.fill(0);
+        }
+        number
+    }
+
+    fn sweep(&self, marks: &[u8], sizes: &[u64], list: &mut [u32], result: &mut [u64]) -> u32 {
+        let before = list.to_vec();
+        let number = Reference.sweep(marks, sizes, list, result);
+        match self {
+            Fault::ListNotPadded if number == 0 => {
+                let count = result[0] as usize;
+                list[count..].copy_from_slice(&before[count..]);
+                0
+            }
+            Fault::ChecksExchanged if number == 7 && sizes.iter().any(|&size| size > reference::LARGEST_SIZE) => 6,
+            _ => number,
+        }
+    }
+}
+
+/// The first small case in which the faulty side differs.
+fn found(fault: Fault) -> Option<u64> {
+    (LARGE..LARGE + 3_000).find(|&number| {
+        let case = case_of(SEED, number);
+        same(&case, &fault, &after(&case, &Reference)).is_err()
+    })
+}
+
+#[test]
+fn faults_are_found() {
+    assert_eq!(found(Fault::None), None);
+    assert!(found(Fault::ListNotPadded).is_some());
+    assert!(found(Fault::MarksClearedBesideRefusal).is_some());
+    assert!(found(Fault::PastTheEnd).is_some());
+    assert!(found(Fault::LongResultTaken).is_some());
+    assert!(found(Fault::ChecksExchanged).is_some());
+}
+
+#[test]
+fn a_case_depends_on_its_seed_and_number_alone() {
+    assert_eq!(case_of(7, 1_234), case_of(7, 1_234));
+    assert_ne!(case_of(7, 1_234), case_of(8, 1_234));
+    assert_ne!(case_of(7, 1_234), case_of(7, 1_235));
+}
+
+/// Demands that are broken on purpose: one mark, count or work word of a good answer changed.
+#[test]
+fn broken_demands_are_found() {
+    let accepted = |number: &u64| {
+        let case = case_of(SEED, *number);
+        matches!(case.call, Call::Mark(_)) && after(&case, &Reference).number == 0
+    };
+    for number in (LARGE..LARGE + 2_000).filter(accepted) {
+        let case = case_of(SEED, number);
+        let good = after(&case, &Reference);
+        assert_eq!(demands(&case, &good), Ok(()));
+        for buffer in 0..2 {
+            let mut bad = good.clone();
+            bad.buffers[buffer].1.add_one_to_first();
+            assert!(demands(&case, &bad).is_err(), "case {number}, buffer {buffer}");
+        }
+    }
+}

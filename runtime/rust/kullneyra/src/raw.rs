@@ -1,0 +1,155 @@
+//! The five calls as the C header has them: the answer is 0 or a refusal's number, and result words go
+//! to a lent buffer whose length is checked like any other. Most callers want the functions of the
+//! crate itself.
+
+mod c {
+    // As in include/kullneyra.h.
+    extern "C" {
+        pub fn kullneyra_header(bytes: *const u8, bytes_len: usize, result: *mut u32, result_len: usize) -> u32;
+        pub fn kullneyra_read(
+            bytes: *const u8,
+            bytes_len: usize,
+            offsets: *mut u32,
+            offsets_len: usize,
+            targets: *mut u32,
+            targets_len: usize,
+            sizes: *mut u64,
+            sizes_len: usize,
+            result: *mut u32,
+            result_len: usize,
+        ) -> u32;
+        pub fn kullneyra_references(
+            offsets: *const u32,
+            offsets_len: usize,
+            targets: *const u32,
+            targets_len: usize,
+            object: u32,
+            result: *mut u64,
+            result_len: usize,
+        ) -> u32;
+        pub fn kullneyra_mark(
+            offsets: *const u32,
+            offsets_len: usize,
+            targets: *const u32,
+            targets_len: usize,
+            index: u32,
+            workers: u32,
+            batch: u32,
+            cutoff: u32,
+            schedule: *const u8,
+            schedule_len: usize,
+            marks: *mut u8,
+            marks_len: usize,
+            work: *mut u32,
+            work_len: usize,
+            result: *mut u64,
+            result_len: usize,
+        ) -> u32;
+        pub fn kullneyra_sweep(
+            marks: *const u8,
+            marks_len: usize,
+            sizes: *const u64,
+            sizes_len: usize,
+            list: *mut u32,
+            list_len: usize,
+            result: *mut u64,
+            result_len: usize,
+        ) -> u32;
+    }
+}
+
+/// Reads only the catalogue's header record. Result words: n, m, index.
+pub fn header(bytes: &[u8], result: &mut [u32]) -> u32 {
+    // SAFETY: each pointer comes with the length of its own slice, and the slices do not overlap.
+    unsafe { c::kullneyra_header(bytes.as_ptr(), bytes.len(), result.as_mut_ptr(), result.len()) }
+}
+
+/// Checks the whole catalogue and fills offsets, targets and sizes. Result words: n, m, index.
+pub fn read(bytes: &[u8], offsets: &mut [u32], targets: &mut [u32], sizes: &mut [u64], result: &mut [u32]) -> u32 {
+    // SAFETY: as in `header`.
+    unsafe {
+        c::kullneyra_read(
+            bytes.as_ptr(),
+            bytes.len(),
+            offsets.as_mut_ptr(),
+            offsets.len(),
+            targets.as_mut_ptr(),
+            targets.len(),
+            sizes.as_mut_ptr(),
+            sizes.len(),
+            result.as_mut_ptr(),
+            result.len(),
+        )
+    }
+}
+
+/// The references of one object. Result words: where its part of the targets starts, and its length.
+pub fn references(offsets: &[u32], targets: &[u32], object: u32, result: &mut [u64]) -> u32 {
+    // SAFETY: as in `header`.
+    unsafe {
+        c::kullneyra_references(
+            offsets.as_ptr(),
+            offsets.len(),
+            targets.as_ptr(),
+            targets.len(),
+            object,
+            result.as_mut_ptr(),
+            result.len(),
+        )
+    }
+}
+
+/// Marks by the turns of the schedule. Result words: finished (1 or 0), live, followed, handed,
+/// refused, moved.
+#[allow(clippy::too_many_arguments)]
+pub fn mark(
+    offsets: &[u32],
+    targets: &[u32],
+    index: u32,
+    workers: u32,
+    batch: u32,
+    cutoff: u32,
+    schedule: &[u8],
+    marks: &mut [u8],
+    work: &mut [u32],
+    result: &mut [u64],
+) -> u32 {
+    // SAFETY: as in `header`.
+    unsafe {
+        c::kullneyra_mark(
+            offsets.as_ptr(),
+            offsets.len(),
+            targets.as_ptr(),
+            targets.len(),
+            index,
+            workers,
+            batch,
+            cutoff,
+            schedule.as_ptr(),
+            schedule.len(),
+            marks.as_mut_ptr(),
+            marks.len(),
+            work.as_mut_ptr(),
+            work.len(),
+            result.as_mut_ptr(),
+            result.len(),
+        )
+    }
+}
+
+/// Lists the objects whose mark is 0, upwards, then zeros. Result words: count, freed.
+pub fn sweep(marks: &[u8], sizes: &[u64], list: &mut [u32], result: &mut [u64]) -> u32 {
+    // SAFETY: as in `header`.
+    unsafe {
+        c::kullneyra_sweep(
+            marks.as_ptr(),
+            marks.len(),
+            sizes.as_ptr(),
+            sizes.len(),
+            list.as_mut_ptr(),
+            list.len(),
+            result.as_mut_ptr(),
+            result.len(),
+        )
+    }
+}

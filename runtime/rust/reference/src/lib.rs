@@ -1,0 +1,16 @@
+//! Document 01 in plain Rust, written from the document and not from the proved code. It serves the
+//! comparison and the benchmark, and nothing else.
+//!
+//! Every call answers `Err(number)` with document 01's number and leaves the lent buffers alone.
+
+mod catalogue;
+mod machine;
+mod sweep;
+
+pub use catalogue::{header, part, read, references, Header};
+pub use machine::{depth_first, mark, Outcome};
+pub use sweep::{sweep, Swept};
+
+pub const MOST_OBJECTS: usize = 65_536;
+pub const MOST_REFERENCES: usize = 1_048_576;
+pub const LARGEST_SIZE: u64 = 1_099_511_627_776;

@@ -1,0 +1,338 @@
+//! "One turn": the boxes, stepped by a schedule.
+
+use crate::{MOST_OBJECTS, MOST_REFERENCES};
+
+#[derive(Clone, Copy, Debug, PartialEq, Eq)]
+pub struct Outcome {
+    pub finished: bool,
+    pub live: u64,
+    pub followed: u64,
+    pub handed: u64,
+    pub refused: u64,
+    pub moved: u64,
+}
+
+/// References first..end, not yet followed.
+type Run = (u32, u32);
+
+#[derive(Clone, Copy, PartialEq, Eq)]
+enum Status {
+    Idle,
+    /// Asked another box, no reply yet.
+    Asking,
+    Refused,
+    /// Has a hand-over that it has not taken up; its runs are already its own.
+    Given,
+    Busy,
+    Ended,
+}
+
+struct Boxed {
+    status: Status,
+    cell: Option<u8>,
+    since: u32,
+    batch: u32,
+    claim: bool,
+    /// The run to be followed first is the last one.
+    runs: Vec<Run>,
+    carried: u32,
+}
+
+struct Machine<'a> {
+    offsets: &'a [u32],
+    targets: &'a [u32],
+    batch: u32,
+    cutoff: u32,
+    marks: &'a mut [u8],
+    boxes: Vec<Boxed>,
+    carried: u64,
+    followed: u64,
+    handed: u64,
+    refused: u64,
+    moved: u64,
+}
+
+impl Machine<'_> {
+    /// One turn of box b, naming another; whether it changed something.
+    fn turn(&mut self, b: usize, named: usize) -> bool {
+        match self.boxes[b].status {
+            Status::Ended | Status::Asking => false,
+            Status::Refused => {
+                self.boxes[b].status = Status::Idle;
+                true
+            }
+            Status::Given => {
+                let me = &mut self.boxes[b];
+                me.status = Status::Busy;
+                me.since = 0;
+                me.batch = 0;
+                true
+            }
+            Status::Idle => self.idle(b, named),
+            Status::Busy if self.boxes[b].batch == 0 => self.poll(b),
+            Status::Busy => self.work(b),
+        }
+    }
+
+    fn idle(&mut self, b: usize, named: usize) -> bool {
+        if self.carried == 0 {
+            self.boxes[b].status = Status::Ended;
+            return true;
+        }
+        match self.boxes.get_mut(named) {
+            Some(other) if named != b && other.status == Status::Busy && other.cell.is_none() => {
+                other.cell = Some(b as u8);
+                self.boxes[b].status = Status::Asking;
+                true
+            }
+            _ => false,
+        }
+    }
+
+    fn poll(&mut self, b: usize) -> bool {
+        if let Some(asker) = self.boxes[b].cell.take() {
+            let me = &self.boxes[b];
+            if me.carried > self.cutoff || (me.since >= self.cutoff && me.carried >= 2) {
+                self.share(b, asker as usize);
+            } else {
+                self.boxes[asker as usize].status = Status::Refused;
+                self.refused += 1;
+            }
+        }
+        let me = &mut self.boxes[b];
+        me.batch = self.batch.min(me.carried);
+        true
+    }
+
+    fn share(&mut self, b: usize, asker: usize) {
+        let me = &mut self.boxes[b];
+        let keep = me.carried.div_ceil(2);
+        let mut left = keep;
+        let mut cut = me.runs.len();
+        while left > 0 {
+            let (first, end) = me.runs[cut - 1];
+            if end - first > left {
+                break;
+            }
+            left -= end - first;
+            cut -= 1;
+        }
+        let kept = me.runs.split_off(cut);
+        let mut given = std::mem::replace(&mut me.runs, kept);
+        if left > 0 {
+            let (first, end) = given.pop().unwrap();
+            given.push((first + left, end));
+            me.runs.insert(0, (first, first + left));
+        }
+        let handed = me.carried - keep;
+        me.carried = keep;
+        me.since = 0;
+        let other = &mut self.boxes[asker];
+        other.runs = given;
+        other.carried = handed;
+        other.status = Status::Given;
+        self.handed += 1;
+    }
+
+    fn work(&mut self, b: usize) -> bool {
+        let me = &mut self.boxes[b];
+        let &(e, _) = me.runs.last().unwrap();
+        let target = self.targets[e as usize] as usize;
+        if self.marks[target] != 0 {
+            me.claim = false;
+            self.follow(b, None);
+        } else if !me.claim {
+            me.claim = true;
+        } else {
+            me.claim = false;
+            self.marks[target] = 1;
+            self.follow(b, Some(target));
+        }
+        true
+    }
+
+    fn follow(&mut self, b: usize, claimed: Option<usize>) {
+        let me = &mut self.boxes[b];
+        let (first, end) = me.runs.pop().unwrap();
+        me.carried -= 1;
+        self.carried -= 1;
+        if let Some(v) = claimed {
+            let (from, to) = (self.offsets[v], self.offsets[v + 1]);
+            if from < to {
+                me.runs.push((from, to));
+                me.carried += to - from;
+                self.carried += (to - from) as u64;
+            }
+        }
+        if first + 1 < end {
+            me.runs.push((first + 1, end));
+        }
+        me.batch -= 1;
+        me.since += 1;
+        self.followed += 1;
+        if me.carried == 0 {
+            me.status = Status::Idle;
+            if let Some(asker) = me.cell.take() {
+                self.boxes[asker as usize].status = Status::Refused;
+                self.refused += 1;
+            }
+        }
+    }
+}
+
+fn is_graph(offsets: &[u32], targets: &[u32]) -> bool {
+    let n = offsets.len() - 1;
+    offsets[0] == 0
+        && offsets.windows(2).all(|pair| pair[0] <= pair[1])
+        && offsets[n] as usize == targets.len()
+        && targets.iter().all(|&target| (target as usize) < n)
+}
+
+/// The marker's call.
+#[allow(clippy::too_many_arguments)]
+pub fn mark(
+    offsets: &[u32],
+    targets: &[u32],
+    index: u32,
+    workers: u32,
+    batch: u32,
+    cutoff: u32,
+    schedule: &[u8],
+    marks: &mut [u8],
+    work: &mut [u32],
+) -> Result<Outcome, u8> {
+    if !(1..=16).contains(&workers) || !(1..=65_535).contains(&batch) || !(1..=65_535).contains(&cutoff) {
+        return Err(8);
+    }
+    let n = offsets.len().wrapping_sub(1);
+    if offsets.len() < 2 || n > MOST_OBJECTS || targets.len() > MOST_REFERENCES {
+        return Err(4);
+    }
+    let stretch = 2 * n + 4;
+    if marks.len() != n || work.len() != workers as usize * stretch {
+        return Err(7);
+    }
+    if !is_graph(offsets, targets) {
+        return Err(10);
+    }
+    if index as usize >= n {
+        return Err(5);
+    }
+    if !schedule.len().is_multiple_of(2) || schedule.chunks(2).any(|entry| entry[0] as u32 >= workers) {
+        return Err(9);
+    }
+
+    marks.fill(0);
+    marks[index as usize] = 1;
+    let mut boxes: Vec<Boxed> = (0..workers)
+        .map(|_| Boxed {
+            status: Status::Idle,
+            cell: None,
+            since: 0,
+            batch: 0,
+            claim: false,
+            runs: Vec::new(),
+            carried: 0,
+        })
+        .collect();
+    let (from, to) = (offsets[index as usize], offsets[index as usize + 1]);
+    if from < to {
+        boxes[0].status = Status::Busy;
+        boxes[0].runs.push((from, to));
+        boxes[0].carried = to - from;
+    }
+    let mut machine = Machine {
+        offsets,
+        targets,
+        batch,
+        cutoff,
+        marks,
+        boxes,
+        carried: (to - from) as u64,
+        followed: 0,
+        handed: 0,
+        refused: 0,
+        moved: 0,
+    };
+    for entry in schedule.chunks_exact(2) {
+        if machine.turn(entry[0] as usize, entry[1] as usize) {
+            machine.moved += 1;
+        }
+    }
+
+    work.fill(0);
+    for (b, one) in machine.boxes.iter().enumerate() {
+        for (i, &(first, end)) in one.runs.iter().enumerate() {
+            work[b * stretch + 2 * i] = first;
+            work[b * stretch + 2 * i + 1] = end;
+        }
+    }
+    Ok(Outcome {
+        finished: machine.boxes.iter().all(|one| one.status == Status::Ended),
+        live: machine.marks.iter().filter(|&&mark| mark != 0).count() as u64,
+        followed: machine.followed,
+        handed: machine.handed,
+        refused: machine.refused,
+        moved: machine.moved,
+    })
+}
+
+/// The floor of the benchmark: a plain depth-first marking, with no boxes and no turns.
+pub fn depth_first(offsets: &[u32], targets: &[u32], index: u32, marks: &mut [u8], stack: &mut Vec<Run>) -> u64 {
+    marks.fill(0);
+    marks[index as usize] = 1;
+    let mut live = 1;
+    stack.clear();
+    stack.push((offsets[index as usize], offsets[index as usize + 1]));
+    while let Some((first, end)) = stack.pop() {
+        let mut e = first;
+        while e < end {
+            let target = targets[e as usize] as usize;
+            e += 1;
+            if marks[target] == 0 {
+                marks[target] = 1;
+                live += 1;
+                let run = (offsets[target], offsets[target + 1]);
+                if run.0 < run.1 {
+                    if e < end {
+                        stack.push((e, end));
+                    }
+                    stack.push(run);
+                    break;
+                }
+            }
+        }
+    }
+    live
+}
+
+#[cfg(test)]
+mod tests {
+    use super::*;
+
+    const OFFSETS: [u32; 7] = [0, 2, 3, 4, 5, 5, 6];
+    const TARGETS: [u32; 6] = [1, 2, 3, 3, 0, 4];
+
+    fn run(offsets: &[u32], targets: &[u32], w: u32, d: u32, k: u32, turns: &[u8]) -> (bool, u64, u64, u64, u64, u64) {
+        let n = offsets.len() - 1;
+        let schedule: Vec<u8> = turns.iter().flat_map(|&b| [b, 0]).collect();
+        let (mut marks, mut work) = (vec![7; n], vec![9; w as usize * (2 * n + 4)]);
+        let out = mark(offsets, targets, 0, w, d, k, &schedule, &mut marks, &mut work).unwrap();
+        (out.finished, out.live, out.followed, out.handed, out.refused, out.moved)
+    }
+
+    #[test]
+    fn drawings() {
+        let a = [0, 1, 0, 0, 0, 1, 1, 0, 1, 0, 0, 0, 1, 0, 1, 1, 0, 1];
+        assert_eq!(run(&OFFSETS, &TARGETS, 2, 1, 1, &a), (true, 4, 5, 1, 0, 18));
+        assert_eq!(run(&OFFSETS, &TARGETS, 2, 1, 1, &a[..5]), (false, 2, 1, 1, 0, 5));
+        assert_eq!(run(&OFFSETS, &TARGETS, 2, 1, 2, &a[..5]), (false, 2, 1, 0, 1, 5));
+        assert_eq!(run(&OFFSETS, &TARGETS, 1, 2, 1, &[0; 12]), (true, 4, 5, 0, 0, 12));
+        assert_eq!(run(&OFFSETS, &TARGETS, 1, 2, 1, &[0; 11]), (false, 4, 5, 0, 0, 11));
+        assert_eq!(run(&[0, 0], &[], 1, 1, 1, &[]), (false, 1, 0, 0, 0, 0));
+        assert_eq!(run(&[0, 0], &[], 1, 1, 1, &[0]), (true, 1, 0, 0, 0, 1));
+        assert_eq!(run(&[0, 0], &[], 2, 1, 1, &[0, 0]), (false, 1, 0, 0, 0, 1));
+        assert_eq!(run(&[0, 1], &[0], 1, 1, 1, &[0; 3]), (true, 1, 1, 0, 0, 3));
+        assert_eq!(run(&[0, 2, 2], &[1, 1], 1, 2, 1, &[0; 5]), (true, 2, 2, 0, 0, 5));
+    }
+}
