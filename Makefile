@@ -1,12 +1,18 @@
 # `make test` is the gate; `make run` builds what it needs and runs the main job on the sample store.
+# `make install PREFIX=/usr/local DESTDIR=` installs program, library, header and kullneyra.pc.
 # `make compare CASES=n SEED=s` compares the library with the reference for longer than the gate does.
 # `make bench` measures; its table and plots go to target/bench/.
-.PHONY: test run compare bench
+.PHONY: test run library install compare bench
 
 CASES ?= 5000000
 SEED ?= 2
 CARGO = CARGO_TARGET_DIR=$(CURDIR)/target/cargo cargo
 RELEASE = --offline --quiet --release --manifest-path runtime/rust/Cargo.toml
+
+# Where `make install` puts things; DESTDIR is put before it, for packages.
+PREFIX ?= /usr/local
+DESTDIR ?=
+INSTALLED = $(DESTDIR)$(PREFIX)
 
 # The store that `make run` collects: a folder with store.cat and order.run.
 STORE ?= target/sample
@@ -23,12 +29,25 @@ run: target/sample/store.cat
 target/sample/store.cat: samples/a.txt tools/case.py
 	@tools/case.py make samples/a.txt target/sample
 
-compare:
-	rt staticlib boundary
+# The library is made anew when a file of the crates has changed.
+library: target/staticlib/libkullneyra.a
+
+target/staticlib/libkullneyra.a: crates.txt $(shell find crates -type f)
+	@mkdir -p target && rt staticlib kullneyra >target/library.log 2>&1 || { cat target/library.log; exit 1; }
+
+install: library
+	@rt check collect >target/install.log 2>&1 || { cat target/install.log; exit 1; }
+	install -d "$(INSTALLED)/bin" "$(INSTALLED)/lib/pkgconfig" "$(INSTALLED)/include"
+	install -m 755 target/bin/collect "$(INSTALLED)/bin/collect"
+	install -m 644 target/staticlib/libkullneyra.a "$(INSTALLED)/lib/libkullneyra.a"
+	install -m 644 runtime/include/kullneyra.h "$(INSTALLED)/include/kullneyra.h"
+	sed 's|@PREFIX@|$(PREFIX)|' runtime/kullneyra.pc.in >target/kullneyra.pc
+	install -m 644 target/kullneyra.pc "$(INSTALLED)/lib/pkgconfig/kullneyra.pc"
+
+compare: library
 	$(CARGO) build $(RELEASE) --package compare
 	target/cargo/release/compare $(CASES) $(SEED)
 
-bench:
-	rt staticlib boundary
+bench: library
 	$(CARGO) build $(RELEASE) --package bench
 	target/cargo/release/bench target/bench

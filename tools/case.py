@@ -19,28 +19,40 @@ Numbers are decimal, and have only to fit their fields: a case may break the rul
 purpose, to see which number the program refuses it with.
 """
 
-import os
+import argparse
 import struct
 import sys
+from dataclasses import dataclass, field
+from pathlib import Path
+from typing import Iterator, Optional
 
+# The kinds of records, and the length of each.
 HEADER, OBJECT, REFERENCE = 1, 2, 3
+LENGTHS = {HEADER: 16, OBJECT: 12, REFERENCE: 12}
+
+# The settings in the order of order.run, and the largest number that each field holds.
 SETTINGS = {"boxes": 0xFF, "batch": 0xFFFF, "cutoff": 0xFFFF}
+SETTINGS_FORMAT = struct.Struct("<BHH")
+
+BYTE, WORD, LONG = 0xFF, 0xFFFFFFFF, 0xFFFFFFFFFFFFFFFF
 
 
 class Fault(Exception):
     """What is wrong with a case or with the two files, in words for a person."""
 
 
+@dataclass
 class Case:
-    def __init__(self):
-        self.index = None
-        self.sizes = []
-        self.references = []
-        self.settings = {}
-        self.turns = []
+    """A store and an order; pairs are (from, to) and (box, asked)."""
+
+    index: Optional[int] = None
+    sizes: list[int] = field(default_factory=list)
+    references: list[tuple[int, int]] = field(default_factory=list)
+    settings: dict[str, int] = field(default_factory=dict)
+    turns: list[tuple[int, int]] = field(default_factory=list)
 
 
-def number(word, limit, where):
+def number(word: str, limit: int, where: str) -> int:
     if not word.isascii() or not word.isdigit():
         raise Fault(f"{where}: '{word}' is not a decimal number")
     value = int(word)
@@ -49,7 +61,12 @@ def number(word, limit, where):
     return value
 
 
-def parse(text):
+def pair(words: list[str], limit: int, where: str) -> tuple[int, int]:
+    one, other = words
+    return number(one, limit, where), number(other, limit, where)
+
+
+def parse(text: str) -> Case:
     """The case that the text tells."""
     case = Case()
     for at, line in enumerate(text.splitlines(), 1):
@@ -59,18 +76,18 @@ def parse(text):
             continue
         name, rest = words[0], words[1:]
         if name == "index" and len(rest) == 1 and case.index is None:
-            case.index = number(rest[0], 0xFFFFFFFF, where)
+            case.index = number(rest[0], WORD, where)
         elif name == "object" and len(rest) == 1:
-            case.sizes.append(number(rest[0], 0xFFFFFFFFFFFFFFFF, where))
+            case.sizes.append(number(rest[0], LONG, where))
         elif name == "reference" and len(rest) == 2:
-            case.references.append(tuple(number(word, 0xFFFFFFFF, where) for word in rest))
+            case.references.append(pair(rest, WORD, where))
         elif name in SETTINGS and len(rest) == 1 and name not in case.settings:
             case.settings[name] = number(rest[0], SETTINGS[name], where)
         elif name == "turn" and len(rest) == 2:
-            case.turns.append(tuple(number(word, 0xFF, where) for word in rest))
+            case.turns.append(pair(rest, BYTE, where))
         elif name == "turns" and len(rest) >= 2 and rest[1] == ":":
-            asked = number(rest[0], 0xFF, where)
-            case.turns.extend((number(word, 0xFF, where), asked) for word in rest[2:])
+            asked = number(rest[0], BYTE, where)
+            case.turns.extend((number(word, BYTE, where), asked) for word in rest[2:])
         else:
             raise Fault(f"{where}: cannot be read here: {line.strip()}")
     if case.index is None:
@@ -81,36 +98,38 @@ def parse(text):
     return case
 
 
-def store_bytes(case):
+def record(kind: int, contents: bytes) -> bytes:
+    return struct.pack("<HH", LENGTHS[kind], kind) + contents
+
+
+def store_bytes(case: Case) -> bytes:
     """store.cat"""
-    records = [struct.pack("<HHIII", 16, HEADER, len(case.sizes), len(case.references), case.index)]
-    records += [struct.pack("<HHQ", 12, OBJECT, size) for size in case.sizes]
-    records += [struct.pack("<HHII", 12, REFERENCE, a, b) for a, b in case.references]
-    return b"".join(records)
+    header = record(HEADER, struct.pack("<III", len(case.sizes), len(case.references), case.index))
+    objects = (record(OBJECT, struct.pack("<Q", size)) for size in case.sizes)
+    references = (record(REFERENCE, struct.pack("<II", *ends)) for ends in case.references)
+    return b"".join([header, *objects, *references])
 
 
-def order_bytes(case):
+def order_bytes(case: Case) -> bytes:
     """order.run"""
-    settings = case.settings
-    head = struct.pack("<BHH", settings["boxes"], settings["batch"], settings["cutoff"])
+    head = SETTINGS_FORMAT.pack(*(case.settings[name] for name in SETTINGS))
     return head + bytes(byte for turn in case.turns for byte in turn)
 
 
-def records(data):
+def records(data: bytes) -> Iterator[tuple[int, bytes]]:
     """The records of store.cat, as (kind, contents)."""
     at = 0
     while at < len(data):
         if len(data) - at < 4:
             raise Fault(f"store.cat: {len(data) - at} stray bytes at {at}")
         length, kind = struct.unpack_from("<HH", data, at)
-        wanted = {HEADER: 16, OBJECT: 12, REFERENCE: 12}.get(kind)
-        if wanted is None or length != wanted or len(data) - at < length:
+        if length != LENGTHS.get(kind) or len(data) - at < length:
             raise Fault(f"store.cat: no record that can be shown at {at}: length {length}, kind {kind}")
         yield kind, data[at + 4 : at + length]
         at += length
 
 
-def read(store, order):
+def read(store: bytes, order: bytes) -> Case:
     """The case that the two files hold."""
     case = Case()
     counts = None
@@ -127,16 +146,17 @@ def read(store, order):
         raise Fault("store.cat: there is no header")
     if counts != [len(case.sizes), len(case.references)]:
         raise Fault("store.cat: the header promises other numbers of objects and references")
-    if len(order) < 5:
-        raise Fault("order.run: fewer than 5 bytes")
-    if len(order) % 2 == 0:
+    if len(order) < SETTINGS_FORMAT.size:
+        raise Fault(f"order.run: fewer than {SETTINGS_FORMAT.size} bytes")
+    turns = order[SETTINGS_FORMAT.size :]
+    if len(turns) % 2 == 1:
         raise Fault("order.run: half a turn at its end")
-    case.settings = dict(zip(SETTINGS, struct.unpack_from("<BHH", order)))
-    case.turns = list(zip(order[5::2], order[6::2]))
+    case.settings = dict(zip(SETTINGS, SETTINGS_FORMAT.unpack_from(order)))
+    case.turns = list(zip(turns[::2], turns[1::2]))
     return case
 
 
-def show(case):
+def show(case: Case) -> str:
     """The case as text, which `parse` reads back."""
     lines = [f"index {case.index}"]
     lines += [f"object {size}" for size in case.sizes]
@@ -146,29 +166,49 @@ def show(case):
     return "\n".join(lines) + "\n"
 
 
-def load(path):
-    with open(path, "rb") as file:
-        return file.read()
+def load_text(path: Path) -> Case:
+    """The case in a text file."""
+    return parse(path.read_bytes().decode("utf-8"))
 
 
-def save(path, data):
-    with open(path, "wb") as file:
-        file.write(data)
+def save(case: Case, folder: Path) -> None:
+    """Writes the two files; the folder is made if it is not there."""
+    folder.mkdir(parents=True, exist_ok=True)
+    (folder / "store.cat").write_bytes(store_bytes(case))
+    (folder / "order.run").write_bytes(order_bytes(case))
 
 
-def main(words):
+def load(folder: Path) -> Case:
+    """The case in the two files of a folder."""
+    return read((folder / "store.cat").read_bytes(), (folder / "order.run").read_bytes())
+
+
+class Parser(argparse.ArgumentParser):
+    """Tells the whole format where it is called wrongly."""
+
+    def error(self, message):
+        sys.stderr.write(f"{__doc__}\ncase.py: {message}\n")
+        sys.exit(2)
+
+
+def arguments(words: list[str]) -> argparse.Namespace:
+    parser = Parser(prog="case.py", description=__doc__, formatter_class=argparse.RawDescriptionHelpFormatter)
+    commands = parser.add_subparsers(dest="command", metavar="make | show", required=True)
+    make = commands.add_parser("make", help="writes store.cat and order.run")
+    make.add_argument("case", type=Path, metavar="CASE.txt")
+    make.add_argument("folder", type=Path, metavar="FOLDER")
+    shown = commands.add_parser("show", help="prints the case that the two files hold")
+    shown.add_argument("folder", type=Path, metavar="FOLDER")
+    return parser.parse_args(words)
+
+
+def main(words: list[str]) -> int:
+    chosen = arguments(words)
     try:
-        if len(words) == 3 and words[0] == "make":
-            case = parse(load(words[1]).decode("utf-8"))
-            os.makedirs(words[2], exist_ok=True)
-            save(os.path.join(words[2], "store.cat"), store_bytes(case))
-            save(os.path.join(words[2], "order.run"), order_bytes(case))
-        elif len(words) == 2 and words[0] == "show":
-            store, order = (load(os.path.join(words[1], name)) for name in ("store.cat", "order.run"))
-            sys.stdout.write(show(read(store, order)))
+        if chosen.command == "make":
+            save(load_text(chosen.case), chosen.folder)
         else:
-            sys.stderr.write(__doc__)
-            return 2
+            sys.stdout.write(show(load(chosen.folder)))
     except (Fault, OSError, UnicodeDecodeError) as fault:
         sys.stderr.write(f"case.py: {fault}\n")
         return 1

@@ -57,19 +57,19 @@ int main(void) {
     }
     uint8_t marks[KULLNEYRA_MARKS(N)];
     uint32_t work[KULLNEYRA_WORK(N, W)];
-    uint64_t run[KULLNEYRA_MARK_WORDS];
+    uint64_t counts[KULLNEYRA_MARK_WORDS];
     answer = kullneyra_mark(offsets, KULLNEYRA_OFFSETS(N), targets, KULLNEYRA_TARGETS(M), head[2], W, 1, 1, schedule,
-                            sizeof schedule, marks, KULLNEYRA_MARKS(N), work, KULLNEYRA_WORK(N, W), run,
+                            sizeof schedule, marks, KULLNEYRA_MARKS(N), work, KULLNEYRA_WORK(N, W), counts,
                             KULLNEYRA_MARK_WORDS);
     if (answer != KULLNEYRA_OK) {
         return refused(answer);
     }
     static const char *const names[] = {"live", "followed", "handed", "refused", "moved"};
-    puts(run[0] ? "finished" : "unfinished");
+    puts(counts[0] ? "finished" : "unfinished");
     for (int i = 0; i < 5; i++) {
-        printf("%s %llu\n", names[i], (unsigned long long)run[i + 1]);
+        printf("%s %llu\n", names[i], (unsigned long long)counts[i + 1]);
     }
-    if (!run[0]) {
+    if (!counts[0]) {
         return 0;
     }
 

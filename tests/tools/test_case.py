@@ -1,32 +1,32 @@
 """Tests of tools/case.py: both ways, and what it refuses."""
 
-import os
 import random
 import subprocess
 import sys
 import tempfile
 import unittest
+from pathlib import Path
 
-TOP = os.path.dirname(os.path.dirname(os.path.dirname(os.path.abspath(__file__))))
-sys.path.insert(0, os.path.join(TOP, "tools"))
+TOP = Path(__file__).resolve().parents[2]
+sys.path.insert(0, str(TOP / "tools"))
 import case  # noqa: E402
 
-SAMPLE = os.path.join(TOP, "samples", "a.txt")
+SAMPLE = TOP / "samples" / "a.txt"
 
 
 def some_case(rng):
-    made = case.Case()
-    made.index = rng.randrange(10)
-    made.sizes = [rng.randrange(2**64) for _ in range(rng.randrange(6))]
-    made.references = [(rng.randrange(2**32), rng.randrange(9)) for _ in range(rng.randrange(6))]
-    made.settings = {"boxes": rng.randrange(256), "batch": rng.randrange(65536), "cutoff": rng.randrange(65536)}
-    made.turns = [(rng.randrange(256), rng.randrange(256)) for _ in range(rng.randrange(6))]
-    return made
+    return case.Case(
+        index=rng.randrange(10),
+        sizes=[rng.randrange(2**64) for _ in range(rng.randrange(6))],
+        references=[(rng.randrange(2**32), rng.randrange(9)) for _ in range(rng.randrange(6))],
+        settings={"boxes": rng.randrange(256), "batch": rng.randrange(65536), "cutoff": rng.randrange(65536)},
+        turns=[(rng.randrange(256), rng.randrange(256)) for _ in range(rng.randrange(6))],
+    )
 
 
 class Cases(unittest.TestCase):
     def test_sample_bytes(self):
-        sample = case.parse(case.load(SAMPLE).decode())
+        sample = case.load_text(SAMPLE)
         store = case.store_bytes(sample)
         self.assertEqual(len(store), 16 + 6 * 12 + 6 * 12)
         self.assertEqual(store[:16].hex(), "10000100060000000600000000000000")
@@ -39,21 +39,21 @@ class Cases(unittest.TestCase):
         self.assertEqual(set(order[6::2]), {0})
 
     def test_program_data(self):
-        sample = case.parse(case.load(SAMPLE).decode())
-        data = os.path.join(TOP, "crates", "collect", "data")
-        self.assertEqual(case.load(os.path.join(data, "store.cat")), case.store_bytes(sample))
-        self.assertEqual(case.load(os.path.join(data, "order.run")), case.order_bytes(sample))
+        sample = case.load_text(SAMPLE)
+        data = TOP / "crates" / "collect" / "data"
+        self.assertEqual((data / "store.cat").read_bytes(), case.store_bytes(sample))
+        self.assertEqual((data / "order.run").read_bytes(), case.order_bytes(sample))
 
     def test_there_and_back(self):
         rng = random.Random(7)
         for _ in range(500):
             made = some_case(rng)
             back = case.read(case.store_bytes(made), case.order_bytes(made))
-            self.assertEqual(vars(back), vars(made))
-            self.assertEqual(vars(case.parse(case.show(made))), vars(made))
+            self.assertEqual(back, made)
+            self.assertEqual(case.parse(case.show(made)), made)
 
     def test_refused_texts(self):
-        good = case.show(case.parse(case.load(SAMPLE).decode()))
+        good = case.show(case.load_text(SAMPLE))
         for line in ("object -1", "object", "object x", "reference 1", "turn 256 0", "batch 1", "boxes 2", "index 0", "turns 0 1", "word 1"):
             with self.assertRaises(case.Fault):
                 case.parse(good + line + "\n")
@@ -62,7 +62,7 @@ class Cases(unittest.TestCase):
                 case.parse("\n".join(line for line in good.splitlines() if not line.startswith(name)))
 
     def test_refused_files(self):
-        sample = case.parse(case.load(SAMPLE).decode())
+        sample = case.load_text(SAMPLE)
         store, order = case.store_bytes(sample), case.order_bytes(sample)
         for bad in (b"", store[:-1], store + b"\0", store + store[16:28], store[16:], store[:16] + store[28:]):
             with self.assertRaises(case.Fault):
@@ -71,17 +71,32 @@ class Cases(unittest.TestCase):
             with self.assertRaises(case.Fault):
                 case.read(store, bad)
 
+    def command(self, *words):
+        tool = [sys.executable, TOP / "tools" / "case.py", *words]
+        return subprocess.run(tool, capture_output=True, text=True)
+
     def test_command(self):
-        tool = [sys.executable, os.path.join(TOP, "tools", "case.py")]
-        with tempfile.TemporaryDirectory() as folder:
-            self.assertEqual(subprocess.run(tool + ["make", SAMPLE, folder]).returncode, 0)
-            shown = subprocess.run(tool + ["show", folder], capture_output=True, text=True)
-            self.assertEqual(shown.returncode, 0)
-            self.assertEqual(vars(case.parse(shown.stdout)), vars(case.parse(case.load(SAMPLE).decode())))
-        missing = subprocess.run(tool + ["show", os.path.join(folder, "gone")], capture_output=True, text=True)
+        with tempfile.TemporaryDirectory() as work:
+            folder = Path(work) / "made" / "anew"
+            made = self.command("make", SAMPLE, folder)
+            self.assertEqual((made.returncode, made.stdout, made.stderr), (0, "", ""))
+            shown = self.command("show", folder)
+            self.assertEqual((shown.returncode, shown.stderr), (0, ""))
+            self.assertEqual(case.parse(shown.stdout), case.load_text(SAMPLE))
+        missing = self.command("show", folder)
         self.assertEqual((missing.returncode, missing.stdout), (1, ""))
         self.assertTrue(missing.stderr.startswith("case.py: "))
-        self.assertEqual(subprocess.run(tool, capture_output=True).returncode, 2)
+
+    def test_wrong_words(self):
+        for words in ((), ("turn",), ("make", SAMPLE), ("show",), ("show", "a", "b")):
+            told = self.command(*words)
+            self.assertEqual((told.returncode, told.stdout), (2, ""))
+            self.assertIn("turn BOX ASKED", told.stderr)
+
+    def test_help(self):
+        told = self.command("--help")
+        self.assertEqual((told.returncode, told.stderr), (0, ""))
+        self.assertIn("turn BOX ASKED", told.stdout)
 
 
 if __name__ == "__main__":

@@ -1,8 +1,9 @@
-//! The calls that are measured, on both sides.
+//! The calls that are measured, on every side.
 
 use crate::graphs::Graph;
 use crate::measure::{medians, Medians};
 use kullneyra::{Schedule, Settings};
+use reference::{Call, Outcome};
 use std::hint::black_box;
 
 /// Lent buffers, all written once before anything is measured.
@@ -74,13 +75,18 @@ pub fn sweep(graph: &Graph, repetitions: usize) -> Times {
     Times::of(&medians(&mut buffers, repetitions, [&proved, &reference]))
 }
 
+/// The sides of a marking, by their places in its medians.
+pub const PROVED: usize = 0;
+/// The same machine in safe Rust, as fast as we can write it.
+pub const TUNED: usize = 1;
+/// The same machine in plain Rust.
+pub const REFERENCE: usize = 2;
+/// A plain depth-first marking of the same graph.
+pub const FLOOR: usize = 3;
+
 /// A finished marking.
 pub struct Marking {
-    pub times: Times,
-    /// A plain depth-first marking of the same graph.
-    pub floor: f64,
-    /// Proved over that.
-    pub over_floor: f64,
+    pub medians: Medians<4>,
     pub turns: usize,
     pub followed: u64,
     pub handed: u64,
@@ -92,10 +98,18 @@ fn round_robin(workers: u32, turns: usize) -> Vec<u8> {
     (0..turns).flat_map(|i| [(i % workers) as u8, ((i + 1) % workers) as u8]).collect()
 }
 
-fn run_reference(graph: &Graph, settings: Settings, schedule: &[u8], b: &mut Buffers) -> reference::Outcome {
+fn call<'a>(graph: &'a Graph, settings: Settings, schedule: &'a [u8]) -> Call<'a> {
     let Settings { workers, batch, cutoff } = settings;
     let Graph { offsets, targets, .. } = graph;
-    reference::mark(offsets, targets, 0, workers, batch, cutoff, schedule, &mut b.marks, &mut b.work).expect("a call")
+    Call { offsets, targets, index: 0, workers, batch, cutoff, schedule }
+}
+
+fn run_reference(graph: &Graph, settings: Settings, schedule: &[u8], b: &mut Buffers) -> Outcome {
+    reference::mark(call(graph, settings, schedule), &mut b.marks, &mut b.work).expect("a call")
+}
+
+fn run_tuned(graph: &Graph, settings: Settings, schedule: &[u8], b: &mut Buffers) -> Outcome {
+    tuned::mark(call(graph, settings, schedule), &mut b.marks, &mut b.work).expect("a call")
 }
 
 fn run_proved(graph: &Graph, settings: Settings, schedule: &[u8], b: &mut Buffers) -> kullneyra::Marked {
@@ -125,12 +139,14 @@ fn schedule(graph: &Graph, settings: Settings, buffers: &mut Buffers) -> Vec<u8>
     turns
 }
 
-/// Both sides finish, with the same counts.
-fn agree(graph: &Graph, settings: Settings, turns: &[u8], buffers: &mut Buffers) -> reference::Outcome {
+/// All sides finish, with the same counts.
+fn agree(graph: &Graph, settings: Settings, turns: &[u8], buffers: &mut Buffers) -> Outcome {
     let wanted = run_reference(graph, settings, turns, buffers);
     let got = run_proved(graph, settings, turns, buffers);
-    let got = (got.finished, got.live, got.followed, got.handed, got.refused, got.moved);
-    assert_eq!(got, (true, wanted.live, wanted.followed, wanted.handed, wanted.refused, wanted.moved));
+    assert!(wanted.finished);
+    let got = [u64::from(got.finished), got.live, got.followed, got.handed, got.refused, got.moved];
+    assert_eq!(got, wanted.words());
+    assert_eq!(run_tuned(graph, settings, turns, buffers), wanted);
     wanted
 }
 
@@ -142,19 +158,16 @@ pub fn mark(graph: &Graph, settings: Settings, repetitions: usize) -> Marking {
     let proved = |b: &mut Buffers| {
         black_box(run_proved(graph, settings, &turns, b));
     };
+    let tuned = |b: &mut Buffers| {
+        black_box(run_tuned(graph, settings, &turns, b));
+    };
     let reference = |b: &mut Buffers| {
         black_box(run_reference(graph, settings, &turns, b));
     };
     let floor = |b: &mut Buffers| {
         black_box(reference::depth_first(&graph.offsets, &graph.targets, 0, &mut b.marks, &mut b.stack));
     };
-    let medians = medians(&mut buffers, repetitions, [&proved, &reference, &floor]);
-    Marking {
-        times: Times::of(&medians),
-        floor: medians.times[2],
-        over_floor: medians.over[2],
-        turns: turns.len() / 2,
-        followed: outcome.followed,
-        handed: outcome.handed,
-    }
+    // In the order of the sides' places.
+    let medians = medians(&mut buffers, repetitions, [&proved, &tuned, &reference, &floor]);
+    Marking { medians, turns: turns.len() / 2, followed: outcome.followed, handed: outcome.handed }
 }

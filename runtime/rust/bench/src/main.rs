@@ -1,5 +1,5 @@
-//! Measures reader, marker and sweep: the proved library and document 01 in plain Rust, interleaved in
-//! one run on the same input, and a plain depth-first marking as the floor.
+//! Measures reader, marker and sweep: the proved library and the specification in plain Rust, interleaved on the
+//! same input; for the marker also a tuned machine in safe Rust, and a plain depth-first marking as the floor.
 //!
 //! ```text
 //! bench [FOLDER [REPETITIONS]]

@@ -1,9 +1,11 @@
 //! Plots as SVG, written by hand.
 
+use crate::calls;
 use crate::table::{GrowthRow, MarkRow};
 use std::fmt::Write;
 
 const PROVED: &str = "#1b6ca8";
+const TUNED: &str = "#4c9f70";
 const REFERENCE: &str = "#d08c2f";
 const FLOOR: &str = "#555555";
 
@@ -40,18 +42,20 @@ fn legend(svg: &mut String, x: f64, y: f64, entries: &[(&str, &str)]) {
     }
 }
 
-/// Bars of ns per reference, one pair for each marking, with a line where depth-first marking stands.
+/// The machines' bars, from the top.
+const BARS: [(usize, &str); 3] = [(calls::PROVED, PROVED), (calls::TUNED, TUNED), (calls::REFERENCE, REFERENCE)];
+
+/// Bars of ns per reference, three for each marking, with a line where depth-first marking stands.
 /// The scale is logarithmic, from 1 ns.
 pub fn marks(rows: &[MarkRow]) -> String {
-    let (left, top, step, width) = (190.0, 55.0, 24.0, 620.0);
-    let highest = rows
-        .iter()
-        .flat_map(|row| [row.marking.times.proved, row.marking.times.reference].map(|t| row.per_reference(t)));
-    let highest = highest.fold(10.0, f64::max);
+    let (left, top, step, width) = (190.0, 55.0, 30.0, 620.0);
+    let highest = rows.iter().flat_map(|row| BARS.map(|(side, _)| row.per_reference(side))).fold(10.0, f64::max);
     let across = |value: f64| width * value.max(1.0).log10() / highest.log10();
     let height = top + step * rows.len() as f64 + 30.0;
     let mut svg = start(left + width + 40.0, height, "Marker: ns per reference (logarithmic)");
-    legend(&mut svg, left, 42.0, &[("proved library", PROVED), ("Rust machine", REFERENCE), ("depth-first", FLOOR)]);
+    let names =
+        [("proved library", PROVED), ("tuned machine", TUNED), ("Rust machine", REFERENCE), ("depth-first", FLOOR)];
+    legend(&mut svg, left, 42.0, &names);
     for power in 0..=highest.log10() as i32 {
         let x = left + across(10f64.powi(power));
         line(&mut svg, (x, top), (x, height - 25.0), "#dddddd");
@@ -62,10 +66,11 @@ pub fn marks(rows: &[MarkRow]) -> String {
         let s = row.settings;
         let name = format!("{}, W {}, D {}, K {}", row.graph, s.workers, s.batch, s.cutoff);
         label(&mut svg, left - 6.0, y + 14.0, "end", "10", &name);
-        bar(&mut svg, left, y + 3.0, across(row.per_reference(row.marking.times.proved)), 8.0, PROVED);
-        bar(&mut svg, left, y + 11.0, across(row.per_reference(row.marking.times.reference)), 8.0, REFERENCE);
-        let x = left + across(row.per_reference(row.marking.floor));
-        line(&mut svg, (x, y + 1.0), (x, y + 21.0), FLOOR);
+        for (place, (side, color)) in BARS.into_iter().enumerate() {
+            bar(&mut svg, left, y + 3.0 + 8.0 * place as f64, across(row.per_reference(side)), 8.0, color);
+        }
+        let x = left + across(row.per_reference(calls::FLOOR));
+        line(&mut svg, (x, y + 1.0), (x, y + 29.0), FLOOR);
     }
     svg + "</svg>\n"
 }
@@ -78,10 +83,15 @@ struct Curve {
     time: fn(&GrowthRow) -> f64,
 }
 
-const CURVES: [Curve; 5] = [
-    Curve { name: "mark, proved", color: PROVED, dashed: false, time: |row| row.mark.marking.times.proved },
-    Curve { name: "mark, Rust", color: REFERENCE, dashed: false, time: |row| row.mark.marking.times.reference },
-    Curve { name: "depth-first", color: FLOOR, dashed: false, time: |row| row.mark.marking.floor },
+const fn mark_time<const SIDE: usize>() -> fn(&GrowthRow) -> f64 {
+    |row| row.mark.marking.medians.times[SIDE]
+}
+
+const CURVES: [Curve; 6] = [
+    Curve { name: "mark, proved", color: PROVED, dashed: false, time: mark_time::<{ calls::PROVED }>() },
+    Curve { name: "mark, tuned", color: TUNED, dashed: false, time: mark_time::<{ calls::TUNED }>() },
+    Curve { name: "mark, Rust", color: REFERENCE, dashed: false, time: mark_time::<{ calls::REFERENCE }>() },
+    Curve { name: "depth-first", color: FLOOR, dashed: false, time: mark_time::<{ calls::FLOOR }>() },
     Curve { name: "read, proved", color: PROVED, dashed: true, time: |row| row.read.proved },
     Curve { name: "read, Rust", color: REFERENCE, dashed: true, time: |row| row.read.reference },
 ];

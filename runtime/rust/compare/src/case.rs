@@ -25,6 +25,14 @@ pub struct Mark {
     pub work: usize,
 }
 
+impl Mark {
+    /// The call, for the markers in plain Rust.
+    pub fn call(&self) -> reference::Call<'_> {
+        let Mark { ref offsets, ref targets, index, workers, batch, cutoff, ref schedule, .. } = *self;
+        reference::Call { offsets, targets, index, workers, batch, cutoff, schedule }
+    }
+}
+
 #[derive(Clone, Debug, PartialEq, Eq)]
 pub struct Case {
     pub call: Call,
@@ -64,7 +72,7 @@ impl Call {
         [3, 3, 2, 6, 2][self.place()]
     }
 
-    /// The answers that document 01 has for this call.
+    /// The answers that the specification has for this call.
     pub fn answers(place: usize) -> &'static [u32] {
         const ANSWERS: [&[u32]; 5] =
             [&[0, 1, 2, 3, 4, 5, 7], &[0, 1, 2, 3, 4, 5, 6, 7], &[0, 7], &[0, 4, 5, 7, 8, 9, 10], &[0, 4, 6, 7]];

@@ -1,7 +1,7 @@
-//! What is asked of every case: both sides agree, and what document 01 demands holds of the answer.
+//! What is asked of every case: both sides agree, and what the specification demands holds of the answer.
 
 use crate::case::{Call, Case, Mark};
-use crate::sides::{after, place, After, Proved, Reference, Side, Typed, Untouched};
+use crate::sides::{after, after_tuned, place, After, Proved, Reference, Side, Typed, Untouched};
 
 /// What the proved library answered and left, or what is wrong with it.
 pub fn judge(case: &Case) -> Result<After, String> {
@@ -9,6 +9,9 @@ pub fn judge(case: &Case) -> Result<After, String> {
     let got = same(case, &Proved, &wanted).map_err(|what| format!("library against reference: {what}"))?;
     if case.has_right_result() {
         same(case, &Typed, &wanted).map_err(|what| format!("library by its Rust types against reference: {what}"))?;
+    }
+    if let Some(what) = after_tuned(case).and_then(|tuned| difference(&tuned, &wanted)) {
+        return Err(format!("tuned marker against reference: {what}"));
     }
     demands(case, &got)?;
     Ok(got)

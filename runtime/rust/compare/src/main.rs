@@ -1,4 +1,4 @@
-//! Compares the proved library with document 01 in plain Rust, on drawn inputs.
+//! Compares the proved library with the specification in plain Rust, on drawn inputs.
 //!
 //! ```text
 //! compare [CASES [SEED]]       that many cases (300,000 of seed 1)

@@ -1,7 +1,7 @@
 //! The two sides of the comparison, and what a call leaves behind.
 
 use crate::case::{Call, Case, Mark};
-use kullneyra::{raw, Schedule, Settings};
+use kullneyra::{raw, Refusal, Schedule, Settings};
 
 /// The five calls with slices and result words, as the C header has them.
 pub trait Side {
@@ -70,13 +70,9 @@ fn header_words(head: kullneyra::Header) -> [u32; 3] {
 /// The proved library by the functions with Rust's own types. The result buffer has the right length.
 pub struct Typed;
 
-fn number_of(refusal: kullneyra::Refusal) -> u32 {
-    u32::from(refusal.number())
-}
-
 impl Side for Typed {
     fn header(&self, bytes: &[u8], result: &mut [u32]) -> u32 {
-        written(kullneyra::header(bytes).map(header_words), result, number_of)
+        written(kullneyra::header(bytes).map(header_words), result, Refusal::number)
     }
 
     fn read(
@@ -87,7 +83,7 @@ impl Side for Typed {
         sizes: &mut [u64],
         result: &mut [u32],
     ) -> u32 {
-        written(kullneyra::read(bytes, offsets, targets, sizes).map(header_words), result, number_of)
+        written(kullneyra::read(bytes, offsets, targets, sizes).map(header_words), result, Refusal::number)
     }
 
     fn references(&self, offsets: &[u32], targets: &[u32], object: u32, result: &mut [u64]) -> u32 {
@@ -102,15 +98,15 @@ impl Side for Typed {
         let schedule = Schedule::from_bytes(&c.schedule);
         let answer = kullneyra::mark(&c.offsets, &c.targets, c.index, settings, schedule, marks, work);
         let words = answer.map(|r| [u64::from(r.finished), r.live, r.followed, r.handed, r.refused, r.moved]);
-        written(words, result, number_of)
+        written(words, result, Refusal::number)
     }
 
     fn sweep(&self, marks: &[u8], sizes: &[u64], list: &mut [u32], result: &mut [u64]) -> u32 {
-        written(kullneyra::sweep(marks, sizes, list).map(|s| [s.count, s.freed]), result, number_of)
+        written(kullneyra::sweep(marks, sizes, list).map(|s| [s.count, s.freed]), result, Refusal::number)
     }
 }
 
-/// Document 01 in plain Rust; the result buffer's length is looked at first, as the C header says.
+/// The specification in plain Rust; the result buffer's length is looked at first, as the C header says.
 pub struct Reference;
 
 const WRONG_LENGTH: u32 = 7;
@@ -149,13 +145,7 @@ impl Side for Reference {
     }
 
     fn mark(&self, c: &Mark, marks: &mut [u8], work: &mut [u32], result: &mut [u64]) -> u32 {
-        if result.len() != 6 {
-            return WRONG_LENGTH;
-        }
-        let Mark { offsets, targets, schedule, .. } = c;
-        let answer = reference::mark(offsets, targets, c.index, c.workers, c.batch, c.cutoff, schedule, marks, work);
-        let words = answer.map(|r| [u64::from(r.finished), r.live, r.followed, r.handed, r.refused, r.moved]);
-        written(words, result, u32::from)
+        marked_by(reference::mark, c, marks, work, result)
     }
 
     fn sweep(&self, marks: &[u8], sizes: &[u64], list: &mut [u32], result: &mut [u64]) -> u32 {
@@ -164,6 +154,26 @@ impl Side for Reference {
         }
         let answer = reference::sweep(marks, sizes, list);
         written(answer.map(|s| [u64::from(s.count), s.freed]), result, u32::from)
+    }
+}
+
+/// The marker in plain Rust.
+type Marker = fn(reference::Call<'_>, &mut [u8], &mut [u32]) -> Result<reference::Outcome, u8>;
+
+fn marked_by(marker: Marker, c: &Mark, marks: &mut [u8], work: &mut [u32], result: &mut [u64]) -> u32 {
+    if result.len() != 6 {
+        return WRONG_LENGTH;
+    }
+    written(marker(c.call(), marks, work).map(reference::Outcome::words), result, u32::from)
+}
+
+/// What the tuned marker answers and leaves, where the case is a marking.
+pub fn after_tuned(case: &Case) -> Option<After> {
+    match &case.call {
+        Call::Mark(mark) => {
+            Some(after_marking(case, mark, |marks, work, result| marked_by(tuned::mark, mark, marks, work, result)))
+        }
+        _ => None,
     }
 }
 
@@ -304,7 +314,7 @@ pub fn after(case: &Case, side: &dyn Side) -> After {
             let number = side.references(offsets, targets, *object, result.part());
             After { number, buffers: vec![("result", Whole::Longs(result.0))] }
         }
-        Call::Mark(mark) => after_mark(case, side, mark),
+        Call::Mark(mark) => after_marking(case, mark, |marks, work, result| side.mark(mark, marks, work, result)),
         Call::Sweep { marks, sizes, list } => {
             let (mut list, mut result) = (words(*list, case.fill(1)), longs(case.result, case.fill(0)));
             let number = side.sweep(marks, sizes, list.part(), result.part());
@@ -327,10 +337,10 @@ fn after_read(case: &Case, side: &dyn Side, bytes: &[u8], lengths: [usize; 3]) -
     After { number, buffers }
 }
 
-fn after_mark(case: &Case, side: &dyn Side, mark: &Mark) -> After {
+fn after_marking(case: &Case, mark: &Mark, call: impl Fn(&mut [u8], &mut [u32], &mut [u64]) -> u32) -> After {
     let (mut marks, mut work) = (bytes(mark.marks, case.fill(1)), words(mark.work, case.fill(2)));
     let mut result = longs(case.result, case.fill(0));
-    let number = side.mark(mark, marks.part(), work.part(), result.part());
+    let number = call(marks.part(), work.part(), result.part());
     let buffers =
         vec![("marks", Whole::Bytes(marks.0)), ("work", Whole::Words(work.0)), ("result", Whole::Longs(result.0))];
     After { number, buffers }

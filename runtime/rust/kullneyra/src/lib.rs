@@ -1,8 +1,20 @@
 //! The box marker's proved library in safe Rust.
 //!
-//! Every call takes any values and any buffers. It answers what document 01 says, or the [`Refusal`]
-//! that its table gives, and beside a refusal no lent buffer is changed. Nothing is kept between calls
-//! and nothing is allocated.
+//! Every call takes any values and any buffers. It answers what docs/SPECIFICATION.md of the repository
+//! says, or the [`Refusal`] that its table gives, and beside a refusal no lent buffer is changed.
+//! Nothing is kept between calls and nothing is allocated.
+//!
+//! # The library
+//!
+//! The crate links `libkullneyra.a`, which `rt staticlib kullneyra` makes in the repository, as
+//! `target/staticlib/libkullneyra.a`. It is looked for there. Where it stands elsewhere, as after
+//! `make install`, the environment variable `KULLNEYRA_LIB_DIR` names its folder:
+//!
+//! ```text
+//! KULLNEYRA_LIB_DIR=/usr/local/lib cargo build
+//! ```
+//!
+//! # One collection
 //!
 //! ```
 //! use kullneyra::{header, mark, read, references, sweep, work_words, Schedule, Settings, Turn};
@@ -24,8 +36,8 @@
 //! let settings = Settings { workers: 1, batch: 64, cutoff: 64 };
 //! let turns = [Turn { worker: 0, asked: 0 }; 3];
 //! let (mut marks, mut work) = ([0; 2], [0; work_words(2, 1)]);
-//! let run = mark(&offsets, &targets, head.index, settings, Schedule::new(&turns), &mut marks, &mut work)?;
-//! assert!(run.finished);
+//! let marked = mark(&offsets, &targets, head.index, settings, Schedule::new(&turns), &mut marks, &mut work)?;
+//! assert!(marked.finished);
 //!
 //! let mut list = [0; 2];
 //! let dead = sweep(&marks, &sizes, &mut list)?;
@@ -37,32 +49,47 @@
 
 pub mod raw;
 
-/// Why a call is refused: document 01's table.
+/// The most objects that a store has.
+pub const MOST_OBJECTS: usize = 65_536;
+/// The most references that a store has.
+pub const MOST_REFERENCES: usize = 1_048_576;
+/// The largest size of an object.
+pub const LARGEST_SIZE: u64 = 1_099_511_627_776;
+/// The most workers of a marking.
+pub const MOST_WORKERS: u32 = 16;
+/// The largest batch and the largest cutoff of a marking.
+pub const MOST_SETTING: u32 = 65_535;
+
+/// Why a call is refused: the table of the specification, section 2.
 #[derive(Clone, Copy, Debug, PartialEq, Eq, Hash)]
+#[non_exhaustive]
 pub enum Refusal {
-    /// 1: too few bytes for a record, or promised records missing; also empty.
+    /// 1: the bytes end too soon for a record; also empty.
     Short,
-    /// 2: kind unknown, or length not that of the kind.
+    /// 2: unknown kind of record, or a length that its kind does not have.
     Kind,
-    /// 3: record of a known kind out of its place, or one too many.
+    /// 3: a record that is not due at its place, or one too many.
     Place,
-    /// 4: objects not 1 to 65,536, or references above 1,048,576.
+    /// 4: number of objects or of references out of range.
     Count,
-    /// 5: an object number not below the number of objects.
+    /// 5: an object number that is not below the number of objects.
     Object,
-    /// 6: a size above 1,099,511,627,776.
+    /// 6: a size above [`LARGEST_SIZE`].
     Size,
-    /// 7: a lent buffer of the wrong length.
+    /// 7: a lent buffer is not as long as it must be.
     Buffer,
-    /// 8: workers not 1 to 16, or batch or cutoff not 1 to 65,535.
+    /// 8: workers, batch or cutoff out of range.
     Setting,
-    /// 9: schedule of odd length, or an entry whose worker is not below their number.
+    /// 9: half an entry at the schedule's end, or one for a worker that is not there.
     Schedule,
     /// 10: offsets and targets that are no graph.
     Graph,
+    /// A number that this crate has no name for: the library is newer than the crate.
+    Other(u32),
 }
 
-const REFUSALS: [Refusal; 10] = [
+/// The refusals that have a name.
+const NAMED: [Refusal; 10] = [
     Refusal::Short,
     Refusal::Kind,
     Refusal::Place,
@@ -76,15 +103,37 @@ const REFUSALS: [Refusal; 10] = [
 ];
 
 impl Refusal {
-    /// The number in document 01's table.
-    pub fn number(self) -> u8 {
-        self as u8 + 1
+    /// The refusal of a number that the library answered.
+    fn of(number: u32) -> Self {
+        NAMED.into_iter().find(|named| named.number() == number).unwrap_or(Refusal::Other(number))
+    }
+
+    fn number_and_words(self) -> (u32, &'static str) {
+        match self {
+            Refusal::Short => (1, "the bytes end too soon for a record"),
+            Refusal::Kind => (2, "unknown kind of record, or a length that its kind does not have"),
+            Refusal::Place => (3, "a record that is not due at its place, or one too many"),
+            Refusal::Count => (4, "number of objects or of references out of range"),
+            Refusal::Object => (5, "an object number that is not below the number of objects"),
+            Refusal::Size => (6, "the size of an object is too large"),
+            Refusal::Buffer => (7, "a lent buffer is not as long as it must be"),
+            Refusal::Setting => (8, "workers, batch or cutoff out of range"),
+            Refusal::Schedule => (9, "half an entry at the schedule's end, or one for a worker that is not there"),
+            Refusal::Graph => (10, "offsets and targets that are no graph"),
+            Refusal::Other(number) => (number, "a number newer than this crate"),
+        }
+    }
+
+    /// The number in the specification's table.
+    pub fn number(self) -> u32 {
+        self.number_and_words().0
     }
 }
 
 impl core::fmt::Display for Refusal {
     fn fmt(&self, f: &mut core::fmt::Formatter<'_>) -> core::fmt::Result {
-        write!(f, "refusal {}", self.number())
+        let (number, words) = self.number_and_words();
+        write!(f, "refusal {number}: {words}")
     }
 }
 
@@ -93,13 +142,13 @@ impl core::error::Error for Refusal {}
 fn answer(number: u32) -> Result<(), Refusal> {
     match number {
         0 => Ok(()),
-        // The proved library answers 0 to 10, so the other way is never taken.
-        _ => Err(REFUSALS.get(number as usize - 1).copied().unwrap_or(Refusal::Buffer)),
+        _ => Err(Refusal::of(number)),
     }
 }
 
 /// What a catalogue's header says.
 #[derive(Clone, Copy, Debug, PartialEq, Eq)]
+#[non_exhaustive]
 pub struct Header {
     /// n, 1 to 65,536.
     pub objects: u32,
@@ -141,7 +190,7 @@ impl<'a> Schedule<'a> {
         Schedule(unsafe { core::slice::from_raw_parts(turns.as_ptr().cast(), 2 * turns.len()) })
     }
 
-    /// Bytes as document 01 has them, two for each turn; an odd number of them is refused by the call.
+    /// Bytes, two for each turn; an odd number of them is refused by the call.
     pub fn from_bytes(bytes: &'a [u8]) -> Self {
         Schedule(bytes)
     }
@@ -149,6 +198,7 @@ impl<'a> Schedule<'a> {
 
 /// What a marking did.
 #[derive(Clone, Copy, Debug, PartialEq, Eq)]
+#[non_exhaustive]
 pub struct Marked {
     /// Every worker has ended: the marks are exactly the reachable objects.
     pub finished: bool,
@@ -166,6 +216,7 @@ pub struct Marked {
 
 /// What a sweep found.
 #[derive(Clone, Copy, Debug, PartialEq, Eq)]
+#[non_exhaustive]
 pub struct Swept {
     /// How many objects are dead.
     pub count: u64,
@@ -231,4 +282,51 @@ pub fn sweep(marks: &[u8], sizes: &[u64], list: &mut [u32]) -> Result<Swept, Ref
     answer(raw::sweep(marks, sizes, list, &mut result))?;
     let [count, freed] = result;
     Ok(Swept { count, freed })
+}
+
+#[cfg(test)]
+mod tests {
+    use super::*;
+    extern crate std;
+    use std::string::ToString;
+
+    #[test]
+    fn numbers_are_places_in_the_table() {
+        for number in 1..=10 {
+            let refusal = Refusal::of(number);
+            assert!(!matches!(refusal, Refusal::Other(_)));
+            assert_eq!(refusal.number(), number);
+        }
+    }
+
+    #[test]
+    fn an_unknown_number_keeps_its_number() {
+        assert_eq!(answer(0), Ok(()));
+        for number in [11, 18, 255, u32::MAX] {
+            assert_eq!(answer(number), Err(Refusal::Other(number)));
+            assert_eq!(Refusal::Other(number).number(), number);
+        }
+    }
+
+    #[test]
+    fn display_is_in_words() {
+        assert_eq!(Refusal::Buffer.to_string(), "refusal 7: a lent buffer is not as long as it must be");
+        assert_eq!(Refusal::Other(13).to_string(), "refusal 13: a number newer than this crate");
+    }
+
+    #[test]
+    fn limits_are_the_library_s() {
+        let (mut marks, mut list) = ([0], [0]);
+        assert_eq!(sweep(&marks, &[LARGEST_SIZE], &mut list).map(|swept| swept.freed), Ok(LARGEST_SIZE));
+        assert_eq!(sweep(&marks, &[LARGEST_SIZE + 1], &mut list), Err(Refusal::Size));
+        let mut work = [0; work_words(1, MOST_WORKERS as usize)];
+        let mut alone = |workers: u32, setting| {
+            let settings = Settings { workers, batch: setting, cutoff: setting };
+            let words = work_words(1, workers.min(MOST_WORKERS) as usize);
+            mark(&[0, 0], &[], 0, settings, Schedule::new(&[]), &mut marks, &mut work[..words])
+        };
+        assert_eq!(alone(MOST_WORKERS, MOST_SETTING).map(|marked| marked.live), Ok(1));
+        assert_eq!(alone(MOST_WORKERS + 1, 1), Err(Refusal::Setting));
+        assert_eq!(alone(1, MOST_SETTING + 1), Err(Refusal::Setting));
+    }
 }

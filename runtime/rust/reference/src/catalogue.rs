@@ -1,4 +1,4 @@
-//! "The catalogue": header call, reader, view.
+//! The catalogue, SPECIFICATION 1 and 3: header call, reader, view.
 
 use std::ops::Range;
 

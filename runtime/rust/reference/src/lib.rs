@@ -1,14 +1,14 @@
-//! Document 01 in plain Rust, written from the document and not from the proved code. It serves the
+//! The specification in plain Rust, written from the text and not from the proved code. It serves the
 //! comparison and the benchmark, and nothing else.
 //!
-//! Every call answers `Err(number)` with document 01's number and leaves the lent buffers alone.
+//! Every call answers `Err(number)` with the specification's number and leaves the lent buffers alone.
 
 mod catalogue;
 mod machine;
 mod sweep;
 
 pub use catalogue::{header, part, read, references, Header};
-pub use machine::{depth_first, mark, Outcome};
+pub use machine::{depth_first, mark, Call, Outcome};
 pub use sweep::{sweep, Swept};
 
 pub const MOST_OBJECTS: usize = 65_536;

@@ -1,6 +1,18 @@
-//! "One turn": the boxes, stepped by a schedule.
+//! The machine, SPECIFICATION 4: workers that a schedule steps.
 
 use crate::{MOST_OBJECTS, MOST_REFERENCES};
+
+/// What the marker is given, beside the buffers that it writes.
+#[derive(Clone, Copy)]
+pub struct Call<'a> {
+    pub offsets: &'a [u32],
+    pub targets: &'a [u32],
+    pub index: u32,
+    pub workers: u32,
+    pub batch: u32,
+    pub cutoff: u32,
+    pub schedule: &'a [u8],
+}
 
 #[derive(Clone, Copy, Debug, PartialEq, Eq)]
 pub struct Outcome {
@@ -12,13 +24,20 @@ pub struct Outcome {
     pub moved: u64,
 }
 
+impl Outcome {
+    /// The result words of the C function.
+    pub fn words(self) -> [u64; 6] {
+        [u64::from(self.finished), self.live, self.followed, self.handed, self.refused, self.moved]
+    }
+}
+
 /// References first..end, not yet followed.
 type Run = (u32, u32);
 
 #[derive(Clone, Copy, PartialEq, Eq)]
 enum Status {
     Idle,
-    /// Asked another box, no reply yet.
+    /// Asked another worker, no reply yet.
     Asking,
     Refused,
     /// Has a hand-over that it has not taken up; its runs are already its own.
@@ -27,13 +46,13 @@ enum Status {
     Ended,
 }
 
-struct Boxed {
+struct Worker {
     status: Status,
     cell: Option<u8>,
     since: u32,
     batch: u32,
     claim: bool,
-    /// The run to be followed first is the last one.
+    /// In reverse: the last one is followed first.
     runs: Vec<Run>,
     carried: u32,
 }
@@ -44,7 +63,7 @@ struct Machine<'a> {
     batch: u32,
     cutoff: u32,
     marks: &'a mut [u8],
-    boxes: Vec<Boxed>,
+    workers: Vec<Worker>,
     carried: u64,
     followed: u64,
     handed: u64,
@@ -53,36 +72,36 @@ struct Machine<'a> {
 }
 
 impl Machine<'_> {
-    /// One turn of box b, naming another; whether it changed something.
+    /// One turn of worker b, naming another; whether it changed something.
     fn turn(&mut self, b: usize, named: usize) -> bool {
-        match self.boxes[b].status {
+        match self.workers[b].status {
             Status::Ended | Status::Asking => false,
             Status::Refused => {
-                self.boxes[b].status = Status::Idle;
+                self.workers[b].status = Status::Idle;
                 true
             }
             Status::Given => {
-                let me = &mut self.boxes[b];
+                let me = &mut self.workers[b];
                 me.status = Status::Busy;
                 me.since = 0;
                 me.batch = 0;
                 true
             }
             Status::Idle => self.idle(b, named),
-            Status::Busy if self.boxes[b].batch == 0 => self.poll(b),
+            Status::Busy if self.workers[b].batch == 0 => self.poll(b),
             Status::Busy => self.work(b),
         }
     }
 
     fn idle(&mut self, b: usize, named: usize) -> bool {
         if self.carried == 0 {
-            self.boxes[b].status = Status::Ended;
+            self.workers[b].status = Status::Ended;
             return true;
         }
-        match self.boxes.get_mut(named) {
+        match self.workers.get_mut(named) {
             Some(other) if named != b && other.status == Status::Busy && other.cell.is_none() => {
                 other.cell = Some(b as u8);
-                self.boxes[b].status = Status::Asking;
+                self.workers[b].status = Status::Asking;
                 true
             }
             _ => false,
@@ -90,22 +109,22 @@ impl Machine<'_> {
     }
 
     fn poll(&mut self, b: usize) -> bool {
-        if let Some(asker) = self.boxes[b].cell.take() {
-            let me = &self.boxes[b];
+        if let Some(asker) = self.workers[b].cell.take() {
+            let me = &self.workers[b];
             if me.carried > self.cutoff || (me.since >= self.cutoff && me.carried >= 2) {
                 self.share(b, asker as usize);
             } else {
-                self.boxes[asker as usize].status = Status::Refused;
+                self.workers[asker as usize].status = Status::Refused;
                 self.refused += 1;
             }
         }
-        let me = &mut self.boxes[b];
+        let me = &mut self.workers[b];
         me.batch = self.batch.min(me.carried);
         true
     }
 
     fn share(&mut self, b: usize, asker: usize) {
-        let me = &mut self.boxes[b];
+        let me = &mut self.workers[b];
         let keep = me.carried.div_ceil(2);
         let mut left = keep;
         let mut cut = me.runs.len();
@@ -127,7 +146,7 @@ impl Machine<'_> {
         let handed = me.carried - keep;
         me.carried = keep;
         me.since = 0;
-        let other = &mut self.boxes[asker];
+        let other = &mut self.workers[asker];
         other.runs = given;
         other.carried = handed;
         other.status = Status::Given;
@@ -135,7 +154,7 @@ impl Machine<'_> {
     }
 
     fn work(&mut self, b: usize) -> bool {
-        let me = &mut self.boxes[b];
+        let me = &mut self.workers[b];
         let &(e, _) = me.runs.last().unwrap();
         let target = self.targets[e as usize] as usize;
         if self.marks[target] != 0 {
@@ -152,7 +171,7 @@ impl Machine<'_> {
     }
 
     fn follow(&mut self, b: usize, claimed: Option<usize>) {
-        let me = &mut self.boxes[b];
+        let me = &mut self.workers[b];
         let (first, end) = me.runs.pop().unwrap();
         me.carried -= 1;
         self.carried -= 1;
@@ -173,7 +192,7 @@ impl Machine<'_> {
         if me.carried == 0 {
             me.status = Status::Idle;
             if let Some(asker) = me.cell.take() {
-                self.boxes[asker as usize].status = Status::Refused;
+                self.workers[asker as usize].status = Status::Refused;
                 self.refused += 1;
             }
         }
@@ -189,18 +208,8 @@ fn is_graph(offsets: &[u32], targets: &[u32]) -> bool {
 }
 
 /// The marker's call.
-#[allow(clippy::too_many_arguments)]
-pub fn mark(
-    offsets: &[u32],
-    targets: &[u32],
-    index: u32,
-    workers: u32,
-    batch: u32,
-    cutoff: u32,
-    schedule: &[u8],
-    marks: &mut [u8],
-    work: &mut [u32],
-) -> Result<Outcome, u8> {
+pub fn mark(call: Call<'_>, marks: &mut [u8], work: &mut [u32]) -> Result<Outcome, u8> {
+    let Call { offsets, targets, index, workers, batch, cutoff, schedule } = call;
     if !(1..=16).contains(&workers) || !(1..=65_535).contains(&batch) || !(1..=65_535).contains(&cutoff) {
         return Err(8);
     }
@@ -224,8 +233,8 @@ pub fn mark(
 
     marks.fill(0);
     marks[index as usize] = 1;
-    let mut boxes: Vec<Boxed> = (0..workers)
-        .map(|_| Boxed {
+    let mut all: Vec<Worker> = (0..workers)
+        .map(|_| Worker {
             status: Status::Idle,
             cell: None,
             since: 0,
@@ -237,9 +246,9 @@ pub fn mark(
         .collect();
     let (from, to) = (offsets[index as usize], offsets[index as usize + 1]);
     if from < to {
-        boxes[0].status = Status::Busy;
-        boxes[0].runs.push((from, to));
-        boxes[0].carried = to - from;
+        all[0].status = Status::Busy;
+        all[0].runs.push((from, to));
+        all[0].carried = to - from;
     }
     let mut machine = Machine {
         offsets,
@@ -247,7 +256,7 @@ pub fn mark(
         batch,
         cutoff,
         marks,
-        boxes,
+        workers: all,
         carried: (to - from) as u64,
         followed: 0,
         handed: 0,
@@ -261,14 +270,14 @@ pub fn mark(
     }
 
     work.fill(0);
-    for (b, one) in machine.boxes.iter().enumerate() {
+    for (b, one) in machine.workers.iter().enumerate() {
         for (i, &(first, end)) in one.runs.iter().enumerate() {
             work[b * stretch + 2 * i] = first;
             work[b * stretch + 2 * i + 1] = end;
         }
     }
     Ok(Outcome {
-        finished: machine.boxes.iter().all(|one| one.status == Status::Ended),
+        finished: machine.workers.iter().all(|one| one.status == Status::Ended),
         live: machine.marks.iter().filter(|&&mark| mark != 0).count() as u64,
         followed: machine.followed,
         handed: machine.handed,
@@ -277,7 +286,7 @@ pub fn mark(
     })
 }
 
-/// The floor of the benchmark: a plain depth-first marking, with no boxes and no turns.
+/// The floor of the benchmark: a plain depth-first marking, with no workers and no turns.
 pub fn depth_first(offsets: &[u32], targets: &[u32], index: u32, marks: &mut [u8], stack: &mut Vec<Run>) -> u64 {
     marks.fill(0);
     marks[index as usize] = 1;
@@ -313,26 +322,26 @@ mod tests {
     const OFFSETS: [u32; 7] = [0, 2, 3, 4, 5, 5, 6];
     const TARGETS: [u32; 6] = [1, 2, 3, 3, 0, 4];
 
-    fn run(offsets: &[u32], targets: &[u32], w: u32, d: u32, k: u32, turns: &[u8]) -> (bool, u64, u64, u64, u64, u64) {
+    fn run(offsets: &[u32], targets: &[u32], w: u32, d: u32, k: u32, turns: &[u8]) -> [u64; 6] {
         let n = offsets.len() - 1;
         let schedule: Vec<u8> = turns.iter().flat_map(|&b| [b, 0]).collect();
         let (mut marks, mut work) = (vec![7; n], vec![9; w as usize * (2 * n + 4)]);
-        let out = mark(offsets, targets, 0, w, d, k, &schedule, &mut marks, &mut work).unwrap();
-        (out.finished, out.live, out.followed, out.handed, out.refused, out.moved)
+        let call = Call { offsets, targets, index: 0, workers: w, batch: d, cutoff: k, schedule: &schedule };
+        mark(call, &mut marks, &mut work).unwrap().words()
     }
 
     #[test]
     fn drawings() {
         let a = [0, 1, 0, 0, 0, 1, 1, 0, 1, 0, 0, 0, 1, 0, 1, 1, 0, 1];
-        assert_eq!(run(&OFFSETS, &TARGETS, 2, 1, 1, &a), (true, 4, 5, 1, 0, 18));
-        assert_eq!(run(&OFFSETS, &TARGETS, 2, 1, 1, &a[..5]), (false, 2, 1, 1, 0, 5));
-        assert_eq!(run(&OFFSETS, &TARGETS, 2, 1, 2, &a[..5]), (false, 2, 1, 0, 1, 5));
-        assert_eq!(run(&OFFSETS, &TARGETS, 1, 2, 1, &[0; 12]), (true, 4, 5, 0, 0, 12));
-        assert_eq!(run(&OFFSETS, &TARGETS, 1, 2, 1, &[0; 11]), (false, 4, 5, 0, 0, 11));
-        assert_eq!(run(&[0, 0], &[], 1, 1, 1, &[]), (false, 1, 0, 0, 0, 0));
-        assert_eq!(run(&[0, 0], &[], 1, 1, 1, &[0]), (true, 1, 0, 0, 0, 1));
-        assert_eq!(run(&[0, 0], &[], 2, 1, 1, &[0, 0]), (false, 1, 0, 0, 0, 1));
-        assert_eq!(run(&[0, 1], &[0], 1, 1, 1, &[0; 3]), (true, 1, 1, 0, 0, 3));
-        assert_eq!(run(&[0, 2, 2], &[1, 1], 1, 2, 1, &[0; 5]), (true, 2, 2, 0, 0, 5));
+        assert_eq!(run(&OFFSETS, &TARGETS, 2, 1, 1, &a), [1, 4, 5, 1, 0, 18]);
+        assert_eq!(run(&OFFSETS, &TARGETS, 2, 1, 1, &a[..5]), [0, 2, 1, 1, 0, 5]);
+        assert_eq!(run(&OFFSETS, &TARGETS, 2, 1, 2, &a[..5]), [0, 2, 1, 0, 1, 5]);
+        assert_eq!(run(&OFFSETS, &TARGETS, 1, 2, 1, &[0; 12]), [1, 4, 5, 0, 0, 12]);
+        assert_eq!(run(&OFFSETS, &TARGETS, 1, 2, 1, &[0; 11]), [0, 4, 5, 0, 0, 11]);
+        assert_eq!(run(&[0, 0], &[], 1, 1, 1, &[]), [0, 1, 0, 0, 0, 0]);
+        assert_eq!(run(&[0, 0], &[], 1, 1, 1, &[0]), [1, 1, 0, 0, 0, 1]);
+        assert_eq!(run(&[0, 0], &[], 2, 1, 1, &[0, 0]), [0, 1, 0, 0, 0, 1]);
+        assert_eq!(run(&[0, 1], &[0], 1, 1, 1, &[0; 3]), [1, 1, 1, 0, 0, 3]);
+        assert_eq!(run(&[0, 2, 2], &[1, 1], 1, 2, 1, &[0; 5]), [1, 2, 2, 0, 0, 5]);
     }
 }

@@ -1,4 +1,4 @@
-//! The sweep.
+//! The sweep, SPECIFICATION 5.
 
 use crate::{LARGEST_SIZE, MOST_OBJECTS};
 

@@ -1,0 +1,347 @@
+//! The marker's call in safe Rust, as fast as we can write it: what the proved marker is measured against. It
+//! does the turns of the specification, one for each entry, with the same checks, and leaves the same marks and
+//! work words; `compare` holds it to the plain reference.
+//!
+//! What makes it fast:
+//! - A worker's block has the bounds of the run being followed and the target of its next reference, so a look
+//!   reads one mark and following touches no work memory while that run lasts.
+//! - Poll, look and claim are codes of the status, so a turn branches once on what to do.
+//! - `since` and `carried` are brought forward by a whole batch at the poll that begins it.
+//! - Nothing is counted at a turn that can be worked out at the end.
+//! - The words behind the runs are cleared once, at the end, and there are no turns after the last worker has ended.
+
+mod check;
+
+use reference::{Call, Outcome};
+
+/// What a worker is, and what its next turn does if it is busy. The busy ones are the last three.
+const IDLE: u32 = 0;
+const ASKING: u32 = 1;
+const DENIED: u32 = 2;
+const GIVEN: u32 = 3;
+const ENDED: u32 = 4;
+const POLL: u32 = 5;
+const LOOK: u32 = 6;
+const CLAIM: u32 = 7;
+
+/// One worker. Its run being followed is `first..end`; the others stand in its stretch of the work memory, `base..top`,
+/// the next one on top.
+#[derive(Clone, Copy, Default)]
+#[repr(align(64))]
+struct Worker {
+    status: u32,
+    /// The asker's number and 1, or 0.
+    cell: u32,
+    /// References that it may still follow before its next poll.
+    batch: u32,
+    first: u32,
+    end: u32,
+    /// The target of reference `first`.
+    target: u32,
+    /// References carried beyond the batch.
+    carried: u32,
+    /// As it will be when the batch is done.
+    since: u32,
+    top: u32,
+    base: u32,
+}
+
+/// W workers, the first of an array of the most: an index below 16 needs no check.
+type Workers = [Worker; 16];
+
+/// What a turn did.
+#[derive(PartialEq)]
+enum Turned {
+    Nothing,
+    Something,
+    /// The last worker has ended.
+    Last,
+}
+
+/// What is counted as the turns go.
+struct Counts {
+    /// References that leave marked objects.
+    opened: u64,
+    live: u64,
+    handed: u64,
+    refused: u64,
+    /// Workers that carry references.
+    carrying: u32,
+    /// Workers that have not ended.
+    awake: u32,
+}
+
+struct Machine<'a> {
+    offsets: &'a [u32],
+    targets: &'a [u32],
+    batch: u32,
+    cutoff: u32,
+    marks: &'a mut [u8],
+    work: &'a mut [u32],
+    workers: Workers,
+    counts: Counts,
+}
+
+impl Worker {
+    /// A new batch.
+    #[inline(always)]
+    fn begin(&mut self, most: u32) {
+        let batch = most.min(self.carried);
+        self.batch = batch;
+        self.carried -= batch;
+        self.since += batch;
+        self.status = LOOK;
+    }
+
+    /// Takes up this run.
+    #[inline(always)]
+    fn aim(&mut self, first: u32, end: u32, targets: &[u32]) {
+        self.first = first;
+        self.end = end;
+        self.target = targets[first as usize];
+    }
+}
+
+impl Machine<'_> {
+    /// One turn of worker b, naming v.
+    #[inline(always)]
+    fn turn(&mut self, b: u8, v: u8) -> Turned {
+        let worker = &mut self.workers[usize::from(b & 15)];
+        match worker.status {
+            LOOK => {
+                if self.marks[worker.target as usize] == 0 {
+                    worker.status = CLAIM;
+                } else {
+                    self.follow(b);
+                }
+            }
+            CLAIM => {
+                let target = worker.target as usize;
+                if self.marks[target] == 0 {
+                    self.marks[target] = 1;
+                    self.open(b, target);
+                } else {
+                    self.follow(b);
+                }
+            }
+            POLL if worker.cell == 0 => worker.begin(self.batch),
+            POLL => self.answer(b),
+            IDLE => return self.idle(b, v),
+            GIVEN => worker.status = POLL,
+            DENIED => worker.status = IDLE,
+            _ => return Turned::Nothing,
+        }
+        Turned::Something
+    }
+
+    /// The reference is followed and nothing is opened.
+    #[inline(always)]
+    fn follow(&mut self, b: u8) {
+        let worker = &mut self.workers[usize::from(b & 15)];
+        let next = worker.first + 1;
+        if next < worker.end {
+            worker.first = next;
+        } else if worker.base < worker.top {
+            worker.top -= 2;
+            let top = worker.top as usize;
+            worker.first = self.work[top];
+            worker.end = self.work[top + 1];
+        } else {
+            return self.stop(b);
+        }
+        worker.target = self.targets[worker.first as usize];
+        worker.batch -= 1;
+        worker.status = if worker.batch == 0 { POLL } else { LOOK };
+    }
+
+    /// The reference is followed and its target's run is carried from now on.
+    #[inline(always)]
+    fn open(&mut self, b: u8, target: usize) {
+        let (from, to) = (self.offsets[target], self.offsets[target + 1]);
+        self.counts.live += 1;
+        if from == to {
+            return self.follow(b);
+        }
+        self.counts.opened += u64::from(to - from);
+        let worker = &mut self.workers[usize::from(b & 15)];
+        worker.carried += to - from;
+        let next = worker.first + 1;
+        if next < worker.end {
+            let top = worker.top as usize;
+            self.work[top] = from;
+            self.work[top + 1] = to;
+            worker.top += 2;
+            worker.first = next;
+        } else {
+            worker.first = from;
+            worker.end = to;
+        }
+        worker.target = self.targets[worker.first as usize];
+        worker.batch -= 1;
+        worker.status = if worker.batch == 0 { POLL } else { LOOK };
+    }
+
+    /// The worker has followed its last reference: it is idle, and its asker is refused. Its batch ends with it.
+    fn stop(&mut self, b: u8) {
+        let worker = &mut self.workers[usize::from(b & 15)];
+        worker.status = IDLE;
+        worker.batch = 0;
+        worker.first = worker.end;
+        self.counts.carrying -= 1;
+        self.refuse(b);
+    }
+
+    /// The asker in the cell, if there is one, is answered no.
+    fn refuse(&mut self, b: u8) {
+        let cell = std::mem::take(&mut self.workers[usize::from(b & 15)].cell);
+        if cell != 0 {
+            self.workers[(cell - 1) as usize & 15].status = DENIED;
+            self.counts.refused += 1;
+        }
+    }
+
+    #[inline(always)]
+    fn idle(&mut self, b: u8, v: u8) -> Turned {
+        if self.counts.carrying == 0 {
+            self.workers[usize::from(b & 15)].status = ENDED;
+            self.counts.awake -= 1;
+            return if self.counts.awake == 0 { Turned::Last } else { Turned::Something };
+        }
+        match self.workers.get_mut(usize::from(v)) {
+            Some(other) if other.status >= POLL && other.cell == 0 => {
+                other.cell = u32::from(b) + 1;
+                self.workers[usize::from(b & 15)].status = ASKING;
+                Turned::Something
+            }
+            _ => Turned::Nothing,
+        }
+    }
+
+    /// A poll with an asker in the cell.
+    fn answer(&mut self, b: u8) {
+        let Worker { carried, since, .. } = self.workers[usize::from(b & 15)];
+        if carried > self.cutoff || (since >= self.cutoff && carried >= 2) {
+            self.share(b);
+        } else {
+            self.refuse(b);
+        }
+        self.workers[usize::from(b & 15)].begin(self.batch);
+    }
+
+    /// The first half of the references stays, the asker gets the rest.
+    fn share(&mut self, b: u8) {
+        let mut giver = self.workers[usize::from(b & 15)];
+        let a = (giver.cell - 1) as usize & 15;
+        let mut asker = self.workers[a];
+        let half = giver.carried.div_ceil(2);
+        asker.carried = giver.carried - half;
+        asker.since = 0;
+        asker.status = GIVEN;
+        giver.carried = half;
+        giver.since = 0;
+        giver.cell = 0;
+
+        let size = giver.end - giver.first;
+        let (base, mut top) = (giver.base as usize, giver.top as usize);
+        let below;
+        if half < size {
+            // Within the run being followed.
+            below = top;
+            asker.aim(giver.first + half, giver.end, self.targets);
+            giver.end = giver.first + half;
+            giver.top = giver.base;
+        } else {
+            let mut left = half - size;
+            let (mut first, mut end) = (self.work[top - 2], self.work[top - 1]);
+            while left >= end - first {
+                left -= end - first;
+                top -= 2;
+                (first, end) = (self.work[top - 2], self.work[top - 1]);
+            }
+            // Within the run below `top`, or between it and the next.
+            below = top - 2;
+            asker.aim(first + left, end, self.targets);
+        }
+        let given = below - base;
+        self.work.copy_within(base..below, asker.base as usize);
+        asker.top = asker.base + given as u32;
+        if half >= size {
+            // What is left of the cut run is kept, below the runs above it.
+            let kept = if asker.first > self.work[below] {
+                self.work[below + 1] = asker.first;
+                below
+            } else {
+                below + 2
+            };
+            self.work.copy_within(kept..giver.top as usize, base);
+            giver.top -= (kept - base) as u32;
+        }
+        self.workers[usize::from(b & 15)] = giver;
+        self.workers[a] = asker;
+        self.counts.handed += 1;
+        self.counts.carrying += 1;
+    }
+
+    /// All turns, or those up to the end of the last worker; how many changed something.
+    fn turns(&mut self, schedule: &[u8]) -> u64 {
+        let mut moved = 0;
+        for entry in schedule.chunks_exact(2) {
+            match self.turn(entry[0], entry[1]) {
+                Turned::Nothing => {}
+                Turned::Something => moved += 1,
+                Turned::Last => return moved + 1,
+            }
+        }
+        moved
+    }
+
+    /// Writes the run being followed on top of each stretch and clears what stands behind; how many references are
+    /// carried.
+    fn settle(&mut self, stretch: usize) -> u64 {
+        let mut carried = 0;
+        for (worker, words) in self.workers.iter().zip(self.work.chunks_exact_mut(stretch)) {
+            let mut used = (worker.top - worker.base) as usize;
+            if worker.first < worker.end {
+                words[used] = worker.first;
+                words[used + 1] = worker.end;
+                used += 2;
+            }
+            words[used..].fill(0);
+            carried += u64::from(worker.carried + worker.batch);
+        }
+        carried
+    }
+}
+
+/// The marker's call: the counts, or the number of the refusal.
+pub fn mark(call: Call<'_>, marks: &mut [u8], work: &mut [u32]) -> Result<Outcome, u8> {
+    check::call(call, marks.len(), work.len())?;
+    let Call { offsets, targets, index, workers, batch, cutoff, schedule } = call;
+    let stretch = 2 * (offsets.len() - 1) + 4;
+    let mut blocks = Workers::default();
+    for (b, worker) in blocks.iter_mut().enumerate() {
+        worker.base = (b * stretch) as u32;
+        worker.top = worker.base;
+    }
+    let (from, to) = (offsets[index as usize], offsets[index as usize + 1]);
+    if from < to {
+        blocks[0].aim(from, to, targets);
+        blocks[0].carried = to - from;
+        blocks[0].status = POLL;
+    }
+    marks.fill(0);
+    marks[index as usize] = 1;
+    let counts = Counts {
+        opened: u64::from(to - from),
+        live: 1,
+        handed: 0,
+        refused: 0,
+        carrying: u32::from(from < to),
+        awake: workers,
+    };
+    let mut machine = Machine { offsets, targets, batch, cutoff, marks, work, workers: blocks, counts };
+    let moved = machine.turns(schedule);
+    let carried = machine.settle(stretch);
+    let Counts { opened, live, handed, refused, awake, .. } = machine.counts;
+    Ok(Outcome { finished: awake == 0, live, followed: opened - carried, handed, refused, moved })
+}
