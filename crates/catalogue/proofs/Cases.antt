@@ -1,62 +1,51 @@
 -- The fault of one record, case by case.
-use mathlib.Core.Path.{_≡_, refl}
+use mathlib.Core.Path.{_≡_, refl, sym, _∙_}
 use mathlib.Core.List.{List}
 use Prim.Native.Nat.{ℕ, zero, suc, _≤_, _<_}
+use native.Mathlib.Omega.{arith}
 use borrow.Author.Tests.{lt-ltb, le-ltb, eq-eqb, ne-eqb}
 use lib.ListN.{length}
-use lib.Dec.{eqb}
-use mathlib.Core.Bool.{true, false, not}
+use lib.Dec.{eqb, ltb}
+use mathlib.Core.Bool.{false, not, _||_}
 use Rattle.refusal.specs.Order.{raise}
 use Rattle.graph.specs.Limits.{most-objects, most-references, largest-size}
-use Rattle.catalogue.specs.Reading.{Kind, header-kind, object-kind, reference-kind, unknown, kindOf, length-field, kind-field, n-field, m-field, index-field, size-field, pair-field, misfit, misplaced, miscounted, misnamed, oversized, contentsFault, recordFault}
+use Rattle.catalogue.specs.Answer.{Heads}
+use Rattle.catalogue.specs.Layout.{header, object, reference}
+use Rattle.catalogue.specs.Reading.{Kind, header-kind, object-kind, reference-kind, unknown, kindOf, lengthOf}
+use Rattle.catalogue.specs.Reading.{length-field, kind-field, size-field, pair-field}
+use Rattle.catalogue.specs.Reading.{misfit, misplaced, miscounted, misnamed, oversized, contentsFault, recordFault}
 
-module _ (b : List ℕ) where
-  abbrev pub headerContents : ℕ
-  headerContents = raise (miscounted header-kind b) 4 (raise (misnamed header-kind 0 b) 5 0)
+-- the faults 4 to 6 of a record
+abbrev pub contents : Kind → ℕ → List ℕ → ℕ
+contents k n b = raise (miscounted k b) 4 (raise (misnamed k n b) 5 (raise (oversized k b) 6 0))
 
-  pub no-objects : n-field b < 1 → 4 ≡ headerContents
-  no-objects h = simp (lt-ltb (n-field b) 1 h)
+-- of each kind, by the numbers that were read
+pub header-told : {b : List ℕ} {n m index : ℕ} → Heads b n m index
+    → raise (ltb n 1 || ltb most-objects n || ltb most-references m) 4 (raise (not (ltb index n)) 5 0) ≡ contents header-kind 0 b
+header-told e = rw (← e .n-is, ← e .m-is, ← e .index-is)
 
-  module _ (h : 1 ≤ n-field b) where
-    pub many-objects : most-objects < n-field b → 4 ≡ headerContents
-    many-objects g = simp (le-ltb (n-field b) 1 h, lt-ltb most-objects (n-field b) g)
+pub object-told : {size : ℕ} (b : List ℕ) → size ≡ size-field b → raise (ltb largest-size size) 6 0 ≡ contents object-kind 0 b
+object-told b e = rw e
 
-    module _ (g : n-field b ≤ most-objects) where
-      pub many-references : most-references < m-field b → 4 ≡ headerContents
-      many-references f = simp (le-ltb (n-field b) 1 h, le-ltb most-objects (n-field b) g, lt-ltb most-references (m-field b) f)
+pub reference-told : {from to : ℕ} (n : ℕ) (b : List ℕ) → from ≡ pair-field b .from → to ≡ pair-field b .to
+    → raise (not (ltb from n) || not (ltb to n)) 5 0 ≡ contents reference-kind n b
+reference-told n b e g = rw (e, g)
 
-      module _ (f : m-field b ≤ most-references) where
-        pub no-index : n-field b ≤ index-field b → 5 ≡ headerContents
-        no-index e =
-            simp (le-ltb (n-field b) 1 h, le-ltb most-objects (n-field b) g, le-ltb most-references (m-field b) f, le-ltb (index-field b) (n-field b) e)
+-- the number of a kind, and d for an unknown one
+abbrev pub numberFor : Kind → ℕ → ℕ
+numberFor header-kind d = header
+numberFor object-kind d = object
+numberFor reference-kind d = reference
+numberFor unknown d = d
 
-        pub good-header : index-field b < n-field b → 0 ≡ headerContents
-        good-header e =
-            simp (le-ltb (n-field b) 1 h, le-ltb most-objects (n-field b) g, le-ltb most-references (m-field b) f, lt-ltb (index-field b) (n-field b) e)
+pub kind-number : (x : ℕ) → numberFor (kindOf x) x ≡ x
+kind-number zero = refl
+kind-number (suc zero) = refl
+kind-number (suc (suc zero)) = refl
+kind-number (suc (suc (suc zero))) = refl
+kind-number (suc (suc (suc (suc x)))) = refl
 
-  abbrev pub objectContents : ℕ
-  objectContents = raise (oversized object-kind b) 6 0
-
-  pub large-size : largest-size < size-field b → 6 ≡ objectContents
-  large-size h = simp (lt-ltb largest-size (size-field b) h)
-
-  pub good-object : size-field b ≤ largest-size → 0 ≡ objectContents
-  good-object h = simp (le-ltb largest-size (size-field b) h)
-
-  module _ (n : ℕ) where
-    abbrev pub referenceContents : ℕ
-    referenceContents = raise (misnamed reference-kind n b) 5 0
-
-    pub no-from : n ≤ pair-field b .from → 5 ≡ referenceContents
-    no-from h = simp (le-ltb (pair-field b .from) n h)
-
-    pub no-to : pair-field b .from < n → n ≤ pair-field b .to → 5 ≡ referenceContents
-    no-to h g = simp (lt-ltb (pair-field b .from) n h, le-ltb (pair-field b .to) n g)
-
-    pub good-reference : pair-field b .from < n → pair-field b .to < n → 0 ≡ referenceContents
-    good-reference h g = simp (lt-ltb (pair-field b .from) n h, lt-ltb (pair-field b .to) n g)
-
--- a kind that is none of the three
+-- a number that is none of the three
 pub not-known : (k : ℕ) → (k ≡ 1 → ⊥) → (k ≡ 2 → ⊥) → (k ≡ 3 → ⊥) → kindOf k ≡ unknown
 not-known zero a b c = refl
 not-known (suc zero) a b c = absurd (a refl)
@@ -74,27 +63,49 @@ module _ (due n : ℕ) (b : List ℕ) where
     unfolding recordFault
     cut-off g = simp (le-ltb (length b) 4 h, lt-ltb (length b) (length-field b) g)
 
-    module _ (g : length-field b ≤ length b) (k : Kind) (e : kindOf (kind-field b) ≡ k) where
-      pub whole : recordFault due n b ≡ contentsFault k due n b
-      unfolding recordFault
-      whole = rw (le-ltb (length b) 4 h, le-ltb (length b) (length-field b) g, e)
+    pub whole : length-field b ≤ length b → recordFault due n b ≡ contentsFault (kindOf (kind-field b)) due n b
+    unfolding recordFault
+    whole g = rw (le-ltb (length b) 4 h, le-ltb (length b) (length-field b) g)
+
+-- a kind by its number: the length of its record, and where it is due
+pub record Known (x : ℕ) (k : Kind) : Type 0 where
+  pub kind-of : kindOf x ≡ k
+  pub number-is : (d : ℕ) → numberFor k d ≡ x
+  pub four : 4 ≤ lengthOf k
+  pub length-by : (b : List ℕ) → misfit k b ≡ not (eqb (length-field b) (lengthOf k))
+  pub place-by : (due : ℕ) → misplaced due k ≡ not (eqb due x)
+
+pub as-header : Known header header-kind
+as-header = record { kind-of = refl; number-is = λ d. refl; four = omega arith; length-by = λ b. refl; place-by = λ due. refl }
+
+pub as-object : Known object object-kind
+as-object = record { kind-of = refl; number-is = λ d. refl; four = omega arith; length-by = λ b. refl; place-by = λ due. refl }
+
+pub as-reference : Known reference reference-kind
+as-reference = record { kind-of = refl; number-is = λ d. refl; four = omega arith; length-by = λ b. refl; place-by = λ due. refl }
+
+-- a record whose kind is that one
+pub record Sort (x : ℕ) (k : Kind) (kind long : ℕ) (b : List ℕ) : Type 0 where
+  pub known : Known x k
+  pub is : kind ≡ x
+  pub length-is : long ≡ length-field b
 
 -- from the kind on
-module _ (due n : ℕ) (b : List ℕ) (x : ℕ) (k : Kind) (e : kindOf x ≡ k) where
-  pub not-fitting : misfit k b ≡ true → 2 ≡ contentsFault (kindOf x) due n b
-  not-fitting f = rw (e, f)
+module _ {x : ℕ} {k : Kind} {kind long : ℕ} {b : List ℕ} (w : Sort x k kind long b) (due n : ℕ) where
+  pub wrong-length : (long ≡ lengthOf k → ⊥) → 2 ≡ contentsFault (kindOf kind) due n b
+  wrong-length h =
+      rw (w .is, w .known .kind-of, w .known .length-by b, ne-eqb (length-field b) (lengthOf k) (λ e. h (w .length-is ∙ e)))
 
-  pub not-due : misfit k b ≡ false → misplaced due k ≡ true → 3 ≡ contentsFault (kindOf x) due n b
-  not-due f d = rw (e, f, d)
+  module _ (h : long ≡ lengthOf k) where
+    fits : misfit k b ≡ false
+    fits = rw (w .known .length-by b, eq-eqb (length-field b) (lengthOf k) (sym (w .length-is) ∙ h))
 
-  pub contents : misfit k b ≡ false
-      → misplaced due k ≡ false
-      → raise (miscounted k b) 4 (raise (misnamed k n b) 5 (raise (oversized k b) 6 0)) ≡ contentsFault (kindOf x) due n b
-  contents f d = rw (e, f, d)
+    pub wrong-place : (due ≡ x → ⊥) → 3 ≡ contentsFault (kindOf kind) due n b
+    wrong-place g = rw (w .is, w .known .kind-of, fits, w .known .place-by due, ne-eqb due x g)
 
--- a test that failed, and one that held
-pub unequal : (x y : ℕ) → (x ≡ y → ⊥) → not (eqb x y) ≡ true
-unequal x y h = rw (ne-eqb x y h)
+    pub right-frame : due ≡ x → contents k n b ≡ contentsFault (kindOf kind) due n b
+    right-frame g = rw (w .is, w .known .kind-of, fits, w .known .place-by due, eq-eqb due x g)
 
-pub equal : (x y : ℕ) → x ≡ y → not (eqb x y) ≡ false
-equal x y h = rw (eq-eqb x y h)
+-- a kind that is none of the three
+pub unknown-kind : (due n kind : ℕ) (b : List ℕ) → kindOf kind ≡ unknown → 2 ≡ contentsFault (kindOf kind) due n b
+unknown-kind due n kind b e = rw e

@@ -1,76 +1,42 @@
 -- What it means that no fault is found, record by record.
-use mathlib.Core.Path.{_≡_, refl, ap, sym, _∙_}
+use mathlib.Core.Path.{_≡_, refl, ap, sym, subst, _∙_}
 use mathlib.Core.List.{List}
 use mathlib.Core.Bool.{false, not, _||_, true≢false}
-use Prim.Native.Nat.{ℕ, zero, suc, _≤_, _<_}
+use Prim.Native.Nat.{ℕ, _≤_, _<_}
 use native.Mathlib.Omega.{arith}
 use borrow.Author.Tests.{ltb-true, ltb-false, eqb-true, not-false, lt-ltb, le-ltb}
 use lib.ListN.{length}
 use lib.Dec.{eqb, ltb}
 use Rattle.refusal.specs.Order.{raise}
 use Rattle.refusal.proofs.None.{raise-none, or-none}
-use Rattle.catalogue.proofs.Cases.{whole, contents, equal}
-use Rattle.catalogue.specs.Layout.{header, object, reference, header-length, entry-length}
+use Rattle.catalogue.proofs.Cases.{Known, as-header, as-object, as-reference, numberFor, kind-number, contents, right-frame, whole}
+use Rattle.catalogue.specs.Layout.{header, object, reference}
 use Rattle.graph.specs.Limits.{most-objects, most-references, largest-size}
 use Rattle.catalogue.specs.Store.{Ends}
-use Rattle.catalogue.specs.Reading.{Kind, header-kind, object-kind, reference-kind, unknown, kindOf, length-field, kind-field, n-field, m-field, index-field, size-field, pair-field, short, misfit, misplaced, miscounted, misnamed, oversized, contentsFault, recordFault, nothing}
+use Rattle.catalogue.specs.Reading.{Kind, header-kind, object-kind, reference-kind, unknown, kindOf, lengthOf, nothing}
+use Rattle.catalogue.specs.Reading.{length-field, kind-field, n-field, m-field, index-field, size-field, pair-field}
+use Rattle.catalogue.specs.Reading.{short, misfit, misplaced, miscounted, misnamed, oversized, contentsFault, recordFault}
 
 -- a record of a kind where one is due, with none of the faults 1 to 6
-pub record Faultless (k : Kind) (due n : ℕ) (b : List ℕ) : Type 0 where
-  pub enough : 4 ≤ length b
+record Faultless (k : Kind) (due n : ℕ) (b : List ℕ) : Type 0 where
   pub whole : length-field b ≤ length b
   pub fits : misfit k b ≡ false
   pub placed : misplaced due k ≡ false
-  pub counts : miscounted k b ≡ false
-  pub names : misnamed k n b ≡ false
-  pub small : oversized k b ≡ false
+  pub contents : contents k n b ≡ 0
 
-pub faultless : (due n : ℕ) (b : List ℕ) → recordFault due n b ≡ 0 → Faultless (kindOf (kind-field b)) due n b
+faultless : (due n : ℕ) (b : List ℕ) → recordFault due n b ≡ 0 → Faultless (kindOf (kind-field b)) due n b
 unfolding recordFault
 faultless due n b h =
     let k = kindOf (kind-field b) in
-    let s = raise-none (short b) 0 (contentsFault k due n b) h in
-    let w = or-none (ltb (length b) 4) (ltb (length b) (length-field b)) (s .0) in
-    let two = raise-none (misfit k b) 1 (raise (misplaced due k) 3 (raise (miscounted k b) 4 (raise (misnamed k n b) 5 (raise (oversized k b) 6 0)))) (s .1) in
-    let three = raise-none (misplaced due k) 2 (raise (miscounted k b) 4 (raise (misnamed k n b) 5 (raise (oversized k b) 6 0))) (two .1) in
-    let four = raise-none (miscounted k b) 3 (raise (misnamed k n b) 5 (raise (oversized k b) 6 0)) (three .1) in
-    let five = raise-none (misnamed k n b) 4 (raise (oversized k b) 6 0) (four .1) in
+    let one = raise-none (short b) 0 (contentsFault k due n b) h in
+    let two = raise-none (misfit k b) 1 (raise (misplaced due k) 3 (contents k n b)) (one .1) in
+    let three = raise-none (misplaced due k) 2 (contents k n b) (two .1) in
     record {
-      enough = ltb-false (length b) 4 (w .0);
-      whole = ltb-false (length b) (length-field b) (w .1);
+      whole = ltb-false (length b) (length-field b) (or-none (ltb (length b) 4) (ltb (length b) (length-field b)) (one .0) .1);
       fits = two .0;
       placed = three .0;
-      counts = four .0;
-      names = five .0;
-      small = raise-none (oversized k b) 5 0 (five .1) .0;
+      contents = three .1;
     }
-
-pub no-fault : (k : Kind) (due n : ℕ) (b : List ℕ) → kindOf (kind-field b) ≡ k → Faultless k due n b → recordFault due n b ≡ 0
-no-fault k due n b e f =
-    whole due n b (f .enough) (f .whole) (kindOf (kind-field b)) refl
-    ∙ sym (contents due n b (kind-field b) k e (f .fits) (f .placed)) ∙ rw (f .counts, f .names, f .small)
-
--- the kinds by their numbers
-pub is-header : (x : ℕ) → kindOf x ≡ header-kind → x ≡ 1
-is-header zero h = cc
-is-header (suc zero) h = refl
-is-header (suc (suc zero)) h = cc
-is-header (suc (suc (suc zero))) h = cc
-is-header (suc (suc (suc (suc x)))) h = cc
-
-pub is-object : (x : ℕ) → kindOf x ≡ object-kind → x ≡ 2
-is-object zero h = cc
-is-object (suc zero) h = cc
-is-object (suc (suc zero)) h = refl
-is-object (suc (suc (suc zero))) h = cc
-is-object (suc (suc (suc (suc x)))) h = cc
-
-pub is-reference : (x : ℕ) → kindOf x ≡ reference-kind → x ≡ 3
-is-reference zero h = cc
-is-reference (suc zero) h = cc
-is-reference (suc (suc zero)) h = cc
-is-reference (suc (suc (suc zero))) h = refl
-is-reference (suc (suc (suc (suc x)))) h = cc
 
 not-not : (x y : ℕ) → not (eqb x y) ≡ false → x ≡ y
 not-not x y h = eqb-true x y (not-false (eqb x y) h)
@@ -78,11 +44,43 @@ not-not x y h = eqb-true x y (not-false (eqb x y) h)
 not-less : (x y : ℕ) → not (ltb x y) ≡ false → x < y
 not-less x y h = ltb-true x y (not-false (ltb x y) h)
 
+-- a record without a fault is of the kind that is due
+same-kind : (k : Kind) (due n : ℕ) (b : List ℕ) → Faultless k due n b → k ≡ kindOf due
+same-kind header-kind due n b f = sym (ap kindOf (not-not due header (f .placed)))
+same-kind object-kind due n b f = sym (ap kindOf (not-not due object (f .placed)))
+same-kind reference-kind due n b f = sym (ap kindOf (not-not due reference (f .placed)))
+same-kind unknown due n b f = absurd (true≢false (f .fits))
+
+-- its length and its kind are what they must be
+pub record Framed (x : ℕ) (k : Kind) (b : List ℕ) : Type 0 where
+  pub long : lengthOf k ≤ length b
+  pub length-is : length-field b ≡ lengthOf k
+  pub kind-is : kind-field b ≡ x
+
+module _ {x : ℕ} {k : Kind} (w : Known x k) (n : ℕ) (b : List ℕ) where
+  framed : recordFault x n b ≡ 0 → Framed x k b × Faultless k x n b
+  framed h =
+      let f = faultless x n b h in
+      let e : kindOf (kind-field b) ≡ k = same-kind (kindOf (kind-field b)) x n b f ∙ w .kind-of in
+      let g = subst (λ (j : Kind). Faultless j x n b) e f in
+      let l = not-not (length-field b) (lengthOf k) (rw (w .length-by b) at (g .fits)) in (
+        record {
+          long = omega (arith, g .whole, l);
+          length-is = l;
+          kind-is = sym (kind-number (kind-field b)) ∙ ap (λ (j : Kind). numberFor j (kind-field b)) e ∙ w .number-is (kind-field b);
+        },
+        g,
+      )
+
+  -- so framed, and with none of the faults 4 to 6, it has no fault
+  no-fault : Framed x k b → contents k n b ≡ 0 → recordFault x n b ≡ 0
+  no-fault g e =
+      whole x n b (omega (arith, g .long, w .four)) (omega (arith, g .long, g .length-is))
+      ∙ sym (right-frame (record { known = w; is = g .kind-is; length-is = refl }) x n (g .length-is) refl) ∙ e
+
 -- a header without a fault
 pub record GoodHeader (b : List ℕ) : Type 0 where
-  pub long : header-length ≤ length b
-  pub length-is : length-field b ≡ header-length
-  pub kind-is : kind-field b ≡ header
+  pub frame : Framed header header-kind b
   pub some : 1 ≤ n-field b
   pub few : n-field b ≤ most-objects
   pub few-references : m-field b ≤ most-references
@@ -90,118 +88,65 @@ pub record GoodHeader (b : List ℕ) : Type 0 where
 
 -- an object without a fault
 pub record GoodObject (b : List ℕ) : Type 0 where
-  pub long : entry-length ≤ length b
-  pub length-is : length-field b ≡ entry-length
-  pub kind-is : kind-field b ≡ object
+  pub frame : Framed object object-kind b
   pub small : size-field b ≤ largest-size
 
 -- a reference without a fault
 pub record GoodReference (n : ℕ) (b : List ℕ) : Type 0 where
-  pub long : entry-length ≤ length b
-  pub length-is : length-field b ≡ entry-length
-  pub kind-is : kind-field b ≡ reference
+  pub frame : Framed reference reference-kind b
   pub ends : Ends n (pair-field b)
-
-header-from : (k : Kind) (n : ℕ) (b : List ℕ) → kindOf (kind-field b) ≡ k → Faultless k header n b → GoodHeader b
-header-from header-kind n b e f =
-    let l = not-not (length-field b) header-length (f .fits) in
-    let c = or-none (ltb (n-field b) 1 || ltb most-objects (n-field b)) (ltb most-references (m-field b)) (f .counts) in
-    let d = or-none (ltb (n-field b) 1) (ltb most-objects (n-field b)) (c .0) in
-    record {
-      long = omega (arith, f .whole, l);
-      length-is = l;
-      kind-is = is-header (kind-field b) e;
-      some = ltb-false (n-field b) 1 (d .0);
-      few = ltb-false most-objects (n-field b) (d .1);
-      few-references = ltb-false most-references (m-field b) (c .1);
-      index-below = not-less (index-field b) (n-field b) (f .names);
-    }
-header-from object-kind n b e f = absurd (true≢false (f .placed))
-header-from reference-kind n b e f = absurd (true≢false (f .placed))
-header-from unknown n b e f = absurd (true≢false (f .fits))
-
-object-from : (k : Kind) (n : ℕ) (b : List ℕ) → kindOf (kind-field b) ≡ k → Faultless k object n b → GoodObject b
-object-from header-kind n b e f = absurd (true≢false (f .placed))
-object-from object-kind n b e f =
-    let l = not-not (length-field b) entry-length (f .fits) in
-    record {
-      long = omega (arith, f .whole, l);
-      length-is = l;
-      kind-is = is-object (kind-field b) e;
-      small = ltb-false largest-size (size-field b) (f .small);
-    }
-object-from reference-kind n b e f = absurd (true≢false (f .placed))
-object-from unknown n b e f = absurd (true≢false (f .fits))
-
-reference-from : (k : Kind) (n : ℕ) (b : List ℕ) → kindOf (kind-field b) ≡ k → Faultless k reference n b → GoodReference n b
-reference-from header-kind n b e f = absurd (true≢false (f .placed))
-reference-from object-kind n b e f = absurd (true≢false (f .placed))
-reference-from reference-kind n b e f =
-    let l = not-not (length-field b) entry-length (f .fits) in
-    let d = or-none (not (ltb (pair-field b .from) n)) (not (ltb (pair-field b .to) n)) (f .names) in
-    record {
-      long = omega (arith, f .whole, l);
-      length-is = l;
-      kind-is = is-reference (kind-field b) e;
-      ends = record { from-below = not-less (pair-field b .from) n (d .0); to-below = not-less (pair-field b .to) n (d .1) };
-    }
-reference-from unknown n b e f = absurd (true≢false (f .fits))
 
 module _ (n : ℕ) (b : List ℕ) where
   pub good-header-record : recordFault header n b ≡ 0 → GoodHeader b
-  good-header-record h = header-from (kindOf (kind-field b)) n b refl (faultless header n b h)
+  good-header-record h =
+      let f = framed as-header n b h in
+      let four = raise-none (miscounted header-kind b) 3 (raise (misnamed header-kind n b) 5 0) (f .1 .contents) in
+      let c = or-none (ltb (n-field b) 1 || ltb most-objects (n-field b)) (ltb most-references (m-field b)) (four .0) in
+      let d = or-none (ltb (n-field b) 1) (ltb most-objects (n-field b)) (c .0) in
+      record {
+        frame = f .0;
+        some = ltb-false (n-field b) 1 (d .0);
+        few = ltb-false most-objects (n-field b) (d .1);
+        few-references = ltb-false most-references (m-field b) (c .1);
+        index-below = not-less (index-field b) (n-field b) (raise-none (misnamed header-kind n b) 4 0 (four .1) .0);
+      }
 
   pub good-object-record : recordFault object n b ≡ 0 → GoodObject b
-  good-object-record h = object-from (kindOf (kind-field b)) n b refl (faultless object n b h)
+  good-object-record h =
+      let f = framed as-object n b h in
+      record { frame = f .0; small = ltb-false largest-size (size-field b) (raise-none (oversized object-kind b) 5 0 (f .1 .contents) .0) }
 
   pub good-reference-record : recordFault reference n b ≡ 0 → GoodReference n b
-  good-reference-record h = reference-from (kindOf (kind-field b)) n b refl (faultless reference n b h)
+  good-reference-record h =
+      let f = framed as-reference n b h in
+      let five = raise-none (misnamed reference-kind n b) 4 0 (f .1 .contents) in
+      let d = or-none (not (ltb (pair-field b .from) n)) (not (ltb (pair-field b .to) n)) (five .0) in
+      record {
+        frame = f .0;
+        ends = record { from-below = not-less (pair-field b .from) n (d .0); to-below = not-less (pair-field b .to) n (d .1) };
+      }
 
   -- where nothing is due, no record is without a fault
-  nothing-due : (k : Kind) → Faultless k nothing n b → ⊥
-  nothing-due header-kind f = true≢false (f .placed)
-  nothing-due object-kind f = true≢false (f .placed)
-  nothing-due reference-kind f = true≢false (f .placed)
-  nothing-due unknown f = true≢false (f .fits)
-
   pub never-good : recordFault nothing n b ≡ 0 → ⊥
-  never-good h = nothing-due (kindOf (kind-field b)) (faultless nothing n b h)
+  never-good h =
+      let f = faultless nothing n b h in
+      let e = same-kind (kindOf (kind-field b)) nothing n b f in
+      true≢false (rw e at (f .fits))
 
   pub clear-header : GoodHeader b → recordFault header n b ≡ 0
   clear-header g =
-      no-fault header-kind header n b (ap kindOf (g .kind-is))
-      (record {
-        enough = omega (arith, g .long);
-        whole = omega (arith, g .long, g .length-is);
-        fits = equal (length-field b) header-length (g .length-is);
-        placed = refl;
-        counts = rw (le-ltb (n-field b) 1 (g .some), le-ltb most-objects (n-field b) (g .few), le-ltb most-references (m-field b) (g .few-references));
-        names = rw (lt-ltb (index-field b) (n-field b) (g .index-below));
-        small = refl;
-      })
+      no-fault as-header n b (g .frame)
+      (rw (
+        le-ltb (n-field b) 1 (g .some),
+        le-ltb most-objects (n-field b) (g .few),
+        le-ltb most-references (m-field b) (g .few-references),
+        lt-ltb (index-field b) (n-field b) (g .index-below),
+      ))
 
   pub clear-object : GoodObject b → recordFault object n b ≡ 0
-  clear-object g =
-      no-fault object-kind object n b (ap kindOf (g .kind-is))
-      (record {
-        enough = omega (arith, g .long);
-        whole = omega (arith, g .long, g .length-is);
-        fits = equal (length-field b) entry-length (g .length-is);
-        placed = refl;
-        counts = refl;
-        names = refl;
-        small = le-ltb largest-size (size-field b) (g .small);
-      })
+  clear-object g = no-fault as-object n b (g .frame) (rw (le-ltb largest-size (size-field b) (g .small)))
 
   pub clear-reference : GoodReference n b → recordFault reference n b ≡ 0
   clear-reference g =
-      no-fault reference-kind reference n b (ap kindOf (g .kind-is))
-      (record {
-        enough = omega (arith, g .long);
-        whole = omega (arith, g .long, g .length-is);
-        fits = equal (length-field b) entry-length (g .length-is);
-        placed = refl;
-        counts = refl;
-        names = rw (lt-ltb (pair-field b .from) n (g .ends .from-below), lt-ltb (pair-field b .to) n (g .ends .to-below));
-        small = refl;
-      })
+      no-fault as-reference n b (g .frame)
+      (rw (lt-ltb (pair-field b .from) n (g .ends .from-below), lt-ltb (pair-field b .to) n (g .ends .to-below)))

@@ -2,6 +2,7 @@ pub mod Cases
 pub mod Faults
 pub mod Checking
 pub mod Filling
+pub mod Forms
 pub mod Accepted
 pub mod Reader
 pub mod Acceptance

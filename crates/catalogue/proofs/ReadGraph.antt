@@ -1,11 +1,12 @@
 -- What the reader fills in is a graph without fault 10, and the view on it is what the catalogue says.
-use mathlib.Core.Path.{_≡_, sym, subst, _∙_}
+use mathlib.Core.Path.{_≡_, sym, _∙_}
 use mathlib.Core.List.{List, [], _∷_, map}
 use Prim.Native.Nat.{ℕ, suc, _-_, _≤_, _<_}
 use native.Mathlib.Omega.{arith}
 use lib.ListN.{length-map}
 use Rattle.laws.specs.Every.{Every}
 use Rattle.laws.specs.Grouping.{count, grouped, below}
+use Rattle.laws.proofs.Every.{every-at, every-map}
 use Rattle.laws.proofs.Grouping.{length-starts, length-grouped, getD-starts, below-zero, below-suc, below-all, below-le, every-grouped, mapped-part}
 use Rattle.graph.specs.Graph.{referencesOf, objects as graph-objects, references as graph-references, first, after}
 use Rattle.graph.specs.Formed.{Formed}
@@ -13,15 +14,9 @@ use Rattle.graph.proofs.Formed.{well-formed}
 use Rattle.graph.proofs.View.{view-part}
 use Rattle.catalogue.specs.Store.{Store, Pair, Ends, InRange, objects, references, targetsOf}
 use Rattle.catalogue.specs.Fill.{fromOf, toOf}
-use Rattle.catalogue.specs.Reading.{reading, accepted, catalogueFault, storeOf}
+use Rattle.catalogue.specs.Reading.{reading, accepted}
 use Rattle.catalogue.specs.ReadGraph.{ReadGraph, readGraph, targetsFrom}
-use Rattle.catalogue.proofs.Filling.{every-at}
-use Rattle.catalogue.proofs.Accepted.{whole-bytes, whole-range}
-use Rattle.catalogue.proofs.Acceptance.{outcome-store}
-
-from-ends : (n : ℕ) (l : List Pair) → Every (Ends n) l → Every (λ (p : Pair). p .from < n) l
-from-ends n [] h = tt
-from-ends n (p ∷ l) h = (h .0 .from-below, from-ends n l (h .1))
+use Rattle.catalogue.proofs.Acceptance.{accepted-range}
 
 to-ends : (n : ℕ) (l : List Pair) → Every (Ends n) l → Every (λ (x : ℕ). x < n) (map toOf l)
 to-ends n [] h = tt
@@ -29,7 +24,9 @@ to-ends n (p ∷ l) h = (h .0 .to-below, to-ends n l (h .1))
 
 module _ (s : Store) (r : InRange s) where
   counts : below fromOf (objects s) (s .pairs) ≡ references s
-  counts = below-all fromOf (objects s) (s .pairs) (from-ends (objects s) (s .pairs) (r .ends-below))
+  counts =
+      below-all fromOf (objects s) (s .pairs)
+      (every-map (Ends (objects s)) (λ (p : Pair). p .from < objects s) (s .pairs) (λ p x. x .from-below) (r .ends-below))
 
   objects-is : graph-objects (readGraph s) ≡ objects s
   objects-is = omega (arith, length-starts fromOf (objects s) (s .pairs))
@@ -63,12 +60,9 @@ module _ (s : Store) (r : InRange s) where
       (omega (arith, z, references-is, below-le fromOf (suc v) (s .pairs)))
       ∙ rw (q, a) (mapped-part fromOf toOf (objects s) v (s .pairs) h)
 
-  pub store-graph : ReadGraph s
+  store-graph : ReadGraph s
   store-graph = record { n-is = objects-is; m-is = references-is; passes = well-formed (readGraph s) is-formed; view = view-is }
 
 -- of every accepted catalogue
 pub read-graph : (b : List ℕ) (s : Store) → reading b ≡ accepted s → ReadGraph s
-unfolding reading
-read-graph b s e =
-    let o = outcome-store (catalogueFault b) (storeOf b) s e in
-    store-graph s (subst InRange (o .1) (whole-range b (whole-bytes b (o .0))))
+read-graph b s e = store-graph s (accepted-range b s e)

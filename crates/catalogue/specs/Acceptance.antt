@@ -8,6 +8,7 @@ use Rattle.catalogue.specs.Store.{Store, InRange}
 use Rattle.catalogue.specs.Layout.{layout}
 use Rattle.catalogue.specs.Reading.{reading, accepted}
 
+-- both directions
 pub record Acceptance : Type 0 where
   pub of-layout : (s : Store) → InRange s → reading (layout s) ≡ accepted s
   pub only-layout : (b : List ℕ) (s : Store) → Bytes b → reading b ≡ accepted s → InRange s × (b ≡ layout s)

@@ -1,4 +1,4 @@
--- Document 01, "What a call returns": the answers of the header call and of the reader, and the buffers afterwards.
+-- SPECIFICATION 1 and 2: the answers of the header call and of the reader, and the buffers afterwards.
 use mathlib.Core.List.{List}
 use mathlib.Core.Bool.{Bool, true, false, not, _||_}
 use Prim.Native.Nat.{ℕ, zero, suc, _+_}
@@ -7,9 +7,7 @@ use lib.ListN.{length}
 use lib.Dec.{eqb}
 use Rattle.refusal.specs.Number.{number}
 use Rattle.catalogue.specs.declared.Answer.{Answer}
-use Rattle.catalogue.specs.declared.Answer.the-variants.{Found, Refused}
-use Rattle.catalogue.specs.declared.record.Fault.{Fault}
-use Rattle.catalogue.specs.declared.record.Fault.the-variants.{Clear, Flaw}
+use Rattle.catalogue.specs.declared.Answer.the-variants.{Read, Refused}
 use Rattle.catalogue.specs.Store.{Store, objects, references, offsetsOf, targetsOf}
 use Rattle.catalogue.specs.Layout.{header}
 use Rattle.catalogue.specs.Reading.{Reading, refused, accepted, reading, recordFault, n-field, m-field, index-field}
@@ -25,16 +23,12 @@ pub record Row : Type 0 where
 abbrev pub refusal-row : ℕ → Row
 refusal-row k = record { refusal = k; n = 0; m = 0; index = 0 }
 
--- the paper's number and values for each case of an answer
+-- the number and the values of each answer
 abbrev pub row : Answer → Row
-row (Found n m index) = record { refusal = 0; n = n; m = m; index = index }
+row (Read n m index) = record { refusal = 0; n = n; m = m; index = index }
 row (Refused r) = refusal-row (number r)
 
--- the number of a fault in a record, 0 for none
-abbrev pub faultNumber : Fault → ℕ
-faultNumber Clear = 0
-faultNumber (Flaw r) = number r
-
+-- what a header says, by the number of its fault
 abbrev pub header-values : ℕ → List ℕ → Row
 header-values zero b = record { refusal = 0; n = n-field b; m = m-field b; index = index-field b }
 header-values (suc k) b = refusal-row (suc k)
@@ -44,10 +38,14 @@ unfoldable pub headerRow : List ℕ → Row
 headerRow b = header-values (recordFault header (n-field b) b) b
 
 -- lengths are exact: n + 1 offsets, m targets, n sizes
-abbrev pub misfitting : Store → ℕ → ℕ → ℕ → Bool
-misfitting s offsets targets sizes =
-    not (eqb offsets (objects s + 1)) || not (eqb targets (references s)) || not (eqb sizes (objects s))
+abbrev pub misfits : ℕ → ℕ → ℕ → ℕ → ℕ → Bool
+misfits n m offsets targets sizes = not (eqb offsets (n + 1)) || not (eqb targets m) || not (eqb sizes n)
 
+-- the same of a store's n and m
+abbrev pub misfitting : Store → ℕ → ℕ → ℕ → Bool
+misfitting s offsets targets sizes = misfits (objects s) (references s) offsets targets sizes
+
+-- 7: a buffer of another length
 abbrev pub lentTo : Bool → Store → Reading
 lentTo true s = refused 7
 lentTo false s = accepted s
@@ -57,6 +55,7 @@ abbrev pub lent : Reading → ℕ → ℕ → ℕ → Reading
 lent (refused k) offsets targets sizes = refused k
 lent (accepted s) offsets targets sizes = lentTo (misfitting s offsets targets sizes) s
 
+-- the answer to what was made of the bytes
 abbrev pub readRow : Reading → Row
 readRow (refused k) = refusal-row k
 readRow (accepted s) = record { refusal = 0; n = objects s; m = references s; index = s .index }
@@ -84,3 +83,9 @@ pub record Reads (b o t s : List ℕ) (r : Row) (o′ t′ s′ : List ℕ) : Ty
   pub offsets-are : o′ ≡ offsetsAfter (taken b o t s) o
   pub targets-are : t′ ≡ targetsAfter (taken b o t s) t
   pub sizes-are : s′ ≡ sizesAfter (taken b o t s) s
+
+-- what a header says: n, m and the index
+pub record Heads (b : List ℕ) (n m index : ℕ) : Type 0 where
+  pub n-is : n ≡ n-field b
+  pub m-is : m ≡ m-field b
+  pub index-is : index ≡ index-field b

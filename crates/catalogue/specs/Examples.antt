@@ -1,13 +1,16 @@
--- Worked examples of the definitions, computed: store S of document 01, and its drawing K.
+-- Worked examples of the definitions, computed: store S, and the empty catalogue, drawing K.
 use mathlib.Core.Path.{_≡_, refl}
 use mathlib.Core.List.{List, [], _∷_, _++_, flatMap}
 use Prim.Native.Nat.{ℕ}
 use Rattle.laws.specs.Grouping.{starts, below, under, grouped, part}
 use Rattle.laws.specs.Sum.{sum, hit}
 use Rattle.laws.specs.Words.{le, word}
-use Rattle.catalogue.specs.Store.{Store, offsetsOf, targetsOf}
+use Rattle.catalogue.specs.Store.{Store, Pair, offsetsOf, targetsOf}
 use Rattle.catalogue.specs.Layout.{layout}
-use Rattle.catalogue.specs.Reading.{reading, refused, accepted, catalogueFault, faults, recordFault, storeOf, entries}
+use Rattle.catalogue.specs.Reading.{reading, refused, accepted, catalogueFault, faults, recordFault, storeOf, records}
+
+abbrev pair : ℕ → ℕ → Pair
+pair from to = record { from = from; to = to }
 
 -- store S: six objects, index 0, references 0→1, 0→2, 1→3, 2→3, 3→0, 5→4
 abbrev pub S : Store
@@ -15,7 +18,7 @@ S =
     record {
       index = 0;
       sizes = 100 ∷ 200 ∷ 300 ∷ 400 ∷ 500 ∷ 600 ∷ [];
-      pairs = record { from = 0; to = 1 } ∷ record { from = 0; to = 2 } ∷ record { from = 1; to = 3 } ∷ record { from = 2; to = 3 } ∷ record { from = 3; to = 0 } ∷ record { from = 5; to = 4 } ∷ [];
+      pairs = pair 0 1 ∷ pair 0 2 ∷ pair 1 3 ∷ pair 2 3 ∷ pair 3 0 ∷ pair 5 4 ∷ [];
     }
 
 -- its catalogue, a record to a line
@@ -35,12 +38,13 @@ bytesOfS =
     ++ (12 ∷ 0 ∷ 3 ∷ 0 ∷ 3 ∷ 0 ∷ 0 ∷ 0 ∷ 0 ∷ 0 ∷ 0 ∷ 0 ∷ [])
     ++ (12 ∷ 0 ∷ 3 ∷ 0 ∷ 5 ∷ 0 ∷ 0 ∷ 0 ∷ 4 ∷ 0 ∷ 0 ∷ 0 ∷ [])
 
+-- S written, and read again
 pub layout-of-S : layout S ≡ bytesOfS
 unfolding layout le flatMap
 layout-of-S = refl
 
 pub reading-of-S : reading bytesOfS ≡ accepted S
-unfolding reading word catalogueFault faults recordFault storeOf entries
+unfolding reading word catalogueFault faults recordFault storeOf records
 reading-of-S = refl
 
 -- where each object's references begin, and the targets

@@ -1,4 +1,4 @@
--- Document 01, "The catalogue": a store written as bytes.
+-- SPECIFICATION 1: a store written as bytes.
 use mathlib.Core.List.{List, _++_, flatMap}
 use Prim.Native.Nat.{ℕ}
 use Rattle.laws.specs.Words.{le}
@@ -14,16 +14,16 @@ object = 2
 abbrev pub reference : ℕ
 reference = 3
 
--- the length of a header, and of the other two
+-- the length of a header's record, and of an object's or a reference's
 abbrev pub header-length : ℕ
 header-length = 16
 
-abbrev pub entry-length : ℕ
-entry-length = 12
+abbrev pub record-length : ℕ
+record-length = 12
 
 -- a record is a length (2 bytes, the whole record counted), a kind (2 bytes) and contents
 abbrev pub recordOf : ℕ → ℕ → List ℕ → List ℕ
-recordOf length kind contents = le 2 length ++ (le 2 kind ++ contents)
+recordOf long kind contents = le 2 long ++ (le 2 kind ++ contents)
 
 -- header: objects n, references m, index object (4 bytes each)
 abbrev pub headerRecord : Store → List ℕ
@@ -31,11 +31,11 @@ headerRecord s = recordOf header-length header (le 4 (objects s) ++ (le 4 (refer
 
 -- object: size in bytes (8)
 abbrev pub objectRecord : ℕ → List ℕ
-objectRecord size = recordOf entry-length object (le 8 size)
+objectRecord size = recordOf record-length object (le 8 size)
 
 -- reference: from, to (4 bytes each)
 abbrev pub referenceRecord : Pair → List ℕ
-referenceRecord p = recordOf entry-length reference (le 4 (p .from) ++ le 4 (p .to))
+referenceRecord p = recordOf record-length reference (le 4 (p .from) ++ le 4 (p .to))
 
 -- one header stands first, then n objects, numbered from 0, then m references, then nothing
 unfoldable pub layout : Store → List ℕ

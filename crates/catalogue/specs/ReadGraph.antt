@@ -16,6 +16,7 @@ readGraph s = graph (offsetsOf s) (targetsOf s)
 abbrev pub targetsFrom : Store → ℕ → List ℕ
 targetsFrom s v = map (λ (p : Pair). p .to) (part (λ (p : Pair). p .from) v (s .pairs))
 
+-- n, m, check 10 and the view of the graph that was read
 pub record ReadGraph (s : Store) : Type 0 where
   pub n-is : graph-objects (readGraph s) ≡ objects s
   pub m-is : graph-references (readGraph s) ≡ references s

@@ -1,4 +1,4 @@
--- Document 01, "What a call returns", 1 to 6: what the reader makes of any bytes.
+-- SPECIFICATION 1 and 2: what the reader makes of any bytes, and the faults 1 to 6.
 use mathlib.Core.List.{List, [], _∷_, _++_}
 use mathlib.Core.Bool.{Bool, true, false, not, _||_}
 use Prim.Native.Nat.{ℕ, zero, suc, _+_, _*_}
@@ -9,37 +9,39 @@ use Rattle.laws.specs.Words.{word}
 use Rattle.refusal.specs.Order.{raise, first}
 use Rattle.graph.specs.Limits.{most-objects, most-references, largest-size}
 use Rattle.catalogue.specs.Store.{Pair, Store}
-use Rattle.catalogue.specs.Layout.{header, object, reference, header-length, entry-length}
+use Rattle.catalogue.specs.Layout.{header, object, reference, header-length, record-length}
 
--- the word of so many bytes at a place
-abbrev pub field : ℕ → ℕ → List ℕ → ℕ
-field width place b = word width (drop place b)
+-- the little-endian number of so many bytes at a place
+abbrev pub number : ℕ → ℕ → List ℕ → ℕ
+number width place b = word width (drop place b)
 
 -- of a record: its length and its kind; of a header: n, m and the index; of an object: its size; of a reference: its pair
 abbrev pub length-field : List ℕ → ℕ
-length-field b = field 2 0 b
+length-field b = number 2 0 b
 
 abbrev pub kind-field : List ℕ → ℕ
-kind-field b = field 2 2 b
+kind-field b = number 2 2 b
 
 abbrev pub n-field : List ℕ → ℕ
-n-field b = field 4 4 b
+n-field b = number 4 4 b
 
 abbrev pub m-field : List ℕ → ℕ
-m-field b = field 4 8 b
+m-field b = number 4 8 b
 
 abbrev pub index-field : List ℕ → ℕ
-index-field b = field 4 12 b
+index-field b = number 4 12 b
 
 abbrev pub size-field : List ℕ → ℕ
-size-field b = field 8 4 b
+size-field b = number 8 4 b
 
 abbrev pub pair-field : List ℕ → Pair
-pair-field b = record { from = field 4 4 b; to = field 4 8 b }
+pair-field b = record { from = number 4 4 b; to = number 4 8 b }
 
+-- what a record is
 pub data Kind : Type 0 where
   header-kind object-kind reference-kind unknown : Kind
 
+-- by the number of its kind
 abbrev pub kindOf : ℕ → Kind
 kindOf zero = unknown
 kindOf (suc zero) = header-kind
@@ -54,8 +56,8 @@ short b = ltb (length b) 4 || ltb (length b) (length-field b)
 -- 2: kind unknown, or length not that of the kind
 abbrev pub misfit : Kind → List ℕ → Bool
 misfit header-kind b = not (eqb (length-field b) header-length)
-misfit object-kind b = not (eqb (length-field b) entry-length)
-misfit reference-kind b = not (eqb (length-field b) entry-length)
+misfit object-kind b = not (eqb (length-field b) record-length)
+misfit reference-kind b = not (eqb (length-field b) record-length)
 misfit unknown b = true
 
 -- what is due where the catalogue is complete: no kind
@@ -105,10 +107,11 @@ abbrev pub surplusFault : ℕ → List ℕ → ℕ
 surplusFault n [] = 0
 surplusFault n (x ∷ b) = recordFault nothing n (x ∷ b)
 
+-- how long a record of each kind is
 abbrev pub lengthOf : Kind → ℕ
 lengthOf header-kind = header-length
-lengthOf object-kind = entry-length
-lengthOf reference-kind = entry-length
+lengthOf object-kind = record-length
+lengthOf reference-kind = record-length
 lengthOf unknown = 0
 
 -- the reader goes record by record, by the kinds that are due
@@ -129,27 +132,29 @@ unfoldable pub catalogueFault : List ℕ → ℕ
 catalogueFault b = faults (n-field b) (header ∷ dues (n-field b) (m-field b)) b
 
 -- what so many objects or references say, one record after the other
-unfoldable pub entries : {A : Type 0} → (List ℕ → A) → ℕ → List ℕ → List A
-entries f zero b = []
-entries f (suc k) b = f b ∷ entries f k (drop entry-length b)
+unfoldable pub records : {A : Type 0} → (List ℕ → A) → ℕ → List ℕ → List A
+records f zero b = []
+records f (suc k) b = f b ∷ records f k (drop record-length b)
 
 -- the store that the bytes tell, where they have no fault
 unfoldable pub storeOf : List ℕ → Store
 storeOf b =
     record {
       index = index-field b;
-      sizes = entries size-field (n-field b) (drop header-length b);
-      pairs = entries pair-field (m-field b) (drop (header-length + entry-length * n-field b) b);
+      sizes = records size-field (n-field b) (drop header-length b);
+      pairs = records pair-field (m-field b) (drop (header-length + record-length * n-field b) b);
     }
 
+-- a number of a refusal, or the store
 pub data Reading : Type 0 where
   refused : ℕ → Reading
   accepted : Store → Reading
 
-abbrev pub outcome : ℕ → Store → Reading
-outcome zero s = accepted s
-outcome (suc k) s = refused (suc k)
+-- by the number of the first fault
+abbrev pub judged : ℕ → Store → Reading
+judged zero s = accepted s
+judged (suc k) s = refused (suc k)
 
 -- what the reader makes of bytes: the number of the first fault, or the store
 unfoldable pub reading : List ℕ → Reading
-reading b = outcome (catalogueFault b) (storeOf b)
+reading b = judged (catalogueFault b) (storeOf b)

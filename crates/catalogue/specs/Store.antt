@@ -1,4 +1,4 @@
--- Document 01, "The catalogue": what a catalogue says, and what the reader makes of it.
+-- SPECIFICATION 1: what a catalogue says, and the words that the reader makes of it.
 use mathlib.Core.List.{List, map}
 use Prim.Native.Nat.{ℕ, _≤_, _<_}
 use lib.ListN.{length}
@@ -17,7 +17,7 @@ pub record Store : Type 0 where
   pub sizes : List ℕ
   pub pairs : List Pair
 
--- document 01's n and m
+-- n and m
 abbrev pub objects : Store → ℕ
 objects s = length (s .sizes)
 

@@ -1,17 +1,32 @@
-// Document 01's catalogue: the header call and the reader.
+// The catalogue of SPECIFICATION 1: the header call and the reader.
 mod fill;
 mod record;
 
 ghost use mathlib.Core.Path.{_≡_};
-ghost use Rattle.catalogue.specs.Answer.{row, headerRow, Reads};
-use record::Fault;
+ghost use Prim.Native.Nat.{_≤_};
+ghost use Rattle.graph.specs.Limits.{most-objects};
+ghost use Rattle.catalogue.specs.Answer.{row, headerRow, misfits, Reads};
 use refusal::Refusal;
-use words::word4;
+use refusal::Verdict;
 
 // What a call answers: n, m and the index, or why it refuses.
 pub enum Answer {
-    Found { n: u32, m: u32, index: u32 },
+    Read { n: u32, m: u32, index: u32 },
     Refused(Refusal),
+}
+
+// The number of a refusal, 0 where the catalogue was read.
+pub fn refusal_of(answer: Answer) -> u8
+    ensures { λ r. ⌜ r ≡ row answer .refusal ⌝ }
+{
+    match answer {
+        Answer::Read {
+            n: _,
+            m: _,
+            index: _,
+        } => 0,
+        Answer::Refused(refusal) => refusal::number_of(refusal),
+    }
 }
 
 // Reads only the header record.
@@ -19,35 +34,52 @@ pub fn header(bytes: &[u8]) -> Answer
     ensures { λ r. ⌜ row r ≡ headerRow (now (bytes .entry)) ⌝ }
 {
     match record::record_fault(bytes, record::HEADER, 0) {
-        Fault::Flaw(refusal) => Answer::Refused(refusal),
-        Fault::Clear => Answer::Found {
-            n: word4(bytes, 4),
-            m: word4(bytes, 8),
-            index: word4(bytes, 12),
-        },
+        Verdict::Faulty(refusal) => Answer::Refused(refusal),
+        Verdict::Fine => {
+            let head = record::header_of(bytes);
+            Answer::Read {
+                n: head.n,
+                m: head.m,
+                index: head.index,
+            }
+        }
     }
+}
+
+// Whether a lent length is not exactly the catalogue's.
+fn lent_wrong(n: u32, m: u32, offsets: usize, targets: usize, sizes: usize) -> bool
+    requires { ⌜ n ≤ most-objects ⌝ }
+    ensures { λ r. ⌜ r ≡ misfits n m offsets targets sizes ⌝ }
+{
+    if offsets != n as usize + 1 {
+        return true;
+    }
+    if targets != m as usize {
+        return true;
+    }
+    sizes != n as usize
 }
 
 // Checks the whole catalogue, then the lent lengths, and then fills the buffers.
 pub fn read(bytes: &[u8], offsets: &mut [u32], targets: &mut [u32], sizes: &mut [u64]) -> Answer
-    ensures { λ r. ⌜ Reads (now (bytes .entry)) (now (offsets .entry)) (now (targets .entry)) (now (sizes .entry)) (row r) (now (offsets .exit)) (now (targets .exit)) (now (sizes .exit)) ⌝ }
+    ensures { λ r. ⌜
+        Reads (now (bytes .entry)) (now (offsets .entry)) (now (targets .entry)) (now (sizes .entry)) (row r)
+        (now (offsets .exit)) (now (targets .exit)) (now (sizes .exit)) ⌝ }
 {
-    if let Fault::Flaw(refusal) = record::catalogue_fault(bytes) {
+    if let Verdict::Faulty(refusal) = record::catalogue_fault(bytes) {
         return Answer::Refused(refusal);
     }
-    let n = word4(bytes, 4);
-    let m = word4(bytes, 8);
-    let index = word4(bytes, 12);
-    if offsets.len() != n as usize + 1 {
-        return Answer::Refused(Refusal::Buffer);
-    }
-    if targets.len() != m as usize {
-        return Answer::Refused(Refusal::Buffer);
-    }
-    if sizes.len() != n as usize {
+    let head = record::header_of(bytes);
+    let n = head.n;
+    let m = head.m;
+    if lent_wrong(n, m, offsets.len(), targets.len(), sizes.len()) {
         return Answer::Refused(Refusal::Buffer);
     }
     fill::fill_sizes(bytes, sizes);
     fill::fill_graph(bytes, n, offsets, targets);
-    Answer::Found { n, m, index }
+    Answer::Read {
+        n,
+        m,
+        index: head.index,
+    }
 }

@@ -16,14 +16,14 @@ pub both-true : (p q : Bool) → both p q ≡ true → (p ≡ true) × (q ≡ tr
 both-true true q e = (refl, e)
 both-true false q e = let z : _≡_ {A = ℕ} 0 1 = cc in absurd (omega arith)
 
-pub rising-all : (l : List ℕ) → rising l ≡ true → (i : ℕ) → suc i < length l → getD l i 0 ≤ getD l (suc i) 0
+rising-all : (l : List ℕ) → rising l ≡ true → (i : ℕ) → suc i < length l → getD l i 0 ≤ getD l (suc i) 0
 unfolding rising
 rising-all [] e i h = absurd (omega arith)
 rising-all (a ∷ []) e i h = absurd (omega arith)
 rising-all (a ∷ b ∷ l) e zero h = leb-true a b (both-true (leb a b) (rising (b ∷ l)) e .0)
 rising-all (a ∷ b ∷ l) e (suc i) h = rising-all (b ∷ l) (both-true (leb a b) (rising (b ∷ l)) e .1) i (omega arith)
 
-pub all-rising : (l : List ℕ) → ((i : ℕ) → suc i < length l → getD l i 0 ≤ getD l (suc i) 0) → rising l ≡ true
+all-rising : (l : List ℕ) → ((i : ℕ) → suc i < length l → getD l i 0 ≤ getD l (suc i) 0) → rising l ≡ true
 unfolding rising
 all-rising [] h = refl
 all-rising (a ∷ []) h = refl
@@ -35,7 +35,7 @@ below-all n [] e i h = absurd (omega arith)
 below-all n (a ∷ l) e zero h = ltb-true a n (both-true (ltb a n) (allBelow n l) e .0)
 below-all n (a ∷ l) e (suc i) h = below-all n l (both-true (ltb a n) (allBelow n l) e .1) i (omega arith)
 
-pub all-below : (n : ℕ) (l : List ℕ) → ((i : ℕ) → i < length l → getD l i 0 < n) → allBelow n l ≡ true
+all-below : (n : ℕ) (l : List ℕ) → ((i : ℕ) → i < length l → getD l i 0 < n) → allBelow n l ≡ true
 unfolding allBelow
 all-below n [] h = refl
 all-below n (a ∷ l) h = rw (lt-ltb a n (h 0 (omega arith))) (all-below n l (λ i q. h (suc i) (omega arith)))

@@ -46,7 +46,7 @@ module _ (f : ℕ → ℕ) where
   over-none b (suc n) = over-none (suc b) n
 
   -- a marked object's share
-  pub over-at : (b : ℕ) (ms : List ℕ) (v : ℕ) → 0 < getD ms v 0 → f (b + v) ≤ overMarked f b ms
+  over-at : (b : ℕ) (ms : List ℕ) (v : ℕ) → 0 < getD ms v 0 → f (b + v) ≤ overMarked f b ms
   unfolding overMarked
   over-at b [] v h = absurd (omega arith)
   over-at b (zero ∷ ms) zero h = absurd (omega arith)
@@ -73,7 +73,7 @@ module _ (f : ℕ → ℕ) where
       omega (arith, over-below (suc b) ms ms′ (λ (v : ℕ) (p : 0 < getD ms v 0). h (suc v) p))
 
   -- a sum above 0 has a marked object whose share is
-  pub over-positive : (b : ℕ) (ms : List ℕ) → 0 < overMarked f b ms → (v : ℕ) × (0 < getD ms v 0) × (0 < f (b + v))
+  over-positive : (b : ℕ) (ms : List ℕ) → 0 < overMarked f b ms → (v : ℕ) × (0 < getD ms v 0) × (0 < f (b + v))
   unfolding overMarked
   over-positive b [] h = absurd (omega arith)
   over-positive b (zero ∷ ms) h =
@@ -91,7 +91,7 @@ module _ (f : ℕ → ℕ) where
       (either-positive (f b) (overMarked f (suc b) ms) h)
 
 -- a smaller weight
-pub over-agree : (f g : ℕ → ℕ) (b : ℕ) (ms : List ℕ) → ((v : ℕ) → f v ≡ g v) → overMarked f b ms ≡ overMarked g b ms
+over-agree : (f g : ℕ → ℕ) (b : ℕ) (ms : List ℕ) → ((v : ℕ) → f v ≡ g v) → overMarked f b ms ≡ overMarked g b ms
 unfolding overMarked
 over-agree f g b [] h = refl
 over-agree f g b (zero ∷ ms) h = over-agree f g (suc b) ms h
@@ -99,7 +99,7 @@ over-agree f g b (suc m ∷ ms) h = omega (arith, h b, over-agree f g (suc b) ms
 
 module _ (G : Graph) (F : Formed G) where
   -- offsets do not fall, also further on
-  pub offsets-rise : (v k : ℕ) → v + k ≤ objects G → first G v ≤ first G (v + k)
+  offsets-rise : (v k : ℕ) → v + k ≤ objects G → first G v ≤ first G (v + k)
   offsets-rise v zero h = rw (add-zero v) (omega arith)
   offsets-rise v (suc k) h =
       let p : v + suc k ≡ suc v + k = omega arith in
@@ -111,9 +111,6 @@ module _ (G : Graph) (F : Formed G) where
   after-limit v h =
       let p : suc v + (objects G - suc v) ≡ objects G = omega arith in
       omega (arith, F .to-all, rw p at (offsets-rise (suc v) (objects G - suc v) (omega arith)))
-
-  pub leaves-limit : (e v : ℕ) → Leaves G e v → e < references G
-  leaves-limit e v l = omega (arith, l .below, after-limit v (l .object))
 
   -- one object more
   step : (f : ℕ → ℕ) (b k : ℕ) → b + suc k ≤ objects G
@@ -128,7 +125,7 @@ module _ (G : Graph) (F : Formed G) where
       rw (p, q, span-add f (first G b) (degree G b) (first G (suc b + k) - first G (suc b)), r)
 
   -- marked and unmarked objects together: consecutive references
-  pub over-all : (f : ℕ → ℕ) (b : ℕ) (ms : List ℕ) → b + length ms ≤ objects G
+  over-all : (f : ℕ → ℕ) (b : ℕ) (ms : List ℕ) → b + length ms ≤ objects G
       → overMarked (leavingSum G f) b ms + overMarked (leavingSum G f) b (map unset? ms)
       ≡ span f (first G b) (first G (b + length ms) - first G b)
   unfolding overMarked span
@@ -140,7 +137,7 @@ module _ (G : Graph) (F : Formed G) where
 
   module _ (ms : List ℕ) (e : length ms ≡ objects G) where
     -- all references together
-    pub over-whole : (f : ℕ → ℕ)
+    over-whole : (f : ℕ → ℕ)
         → overMarked (leavingSum G f) 0 ms + overMarked (leavingSum G f) 0 (map unset? ms) ≡ span f 0 (references G)
     over-whole f =
         let p : 0 + length ms ≡ objects G = omega arith in

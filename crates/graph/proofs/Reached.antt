@@ -13,7 +13,7 @@ use Rattle.laws.specs.Sum.{sum, hit}
 use Rattle.laws.proofs.Sum.{hit-same, hit-equal}
 use Rattle.graph.specs.Graph.{Graph, Leaves, objects, references, first, after, degree, target}
 use Rattle.graph.specs.Formed.{Formed}
-use Rattle.graph.specs.Chain.{Reach, here, on, set?, overMarked, spreadRun, spreadFrom, spread, rounds, marksAt, reached}
+use Rattle.graph.specs.Chain.{Reach, here, on, set?, spreadRun, spreadFrom, spread, rounds, marksAt, reached}
 
 -- object v is marked
 abbrev pub Marked : List ℕ → ℕ → Type 0
@@ -96,7 +96,8 @@ from-grows : (G : Graph) (u x : ℕ) (ms : List ℕ) (v : ℕ) → Marked ms v �
 from-grows G u zero ms v h = h
 from-grows G u (suc x) ms v h = run-grows G (degree G u) (first G u) ms v h
 
-from-marks : (G : Graph) (u x : ℕ) (ms : List ℕ) (e : ℕ) → 0 < x → Leaves G e u → target G e < length ms → Marked (spreadFrom G u x ms) (target G e)
+from-marks : (G : Graph) (u x : ℕ) (ms : List ℕ) (e : ℕ) → 0 < x → Leaves G e u → target G e < length ms
+    → Marked (spreadFrom G u x ms) (target G e)
 from-marks G u zero ms e h l q = absurd (omega arith)
 from-marks G u (suc x) ms e h l q =
     let a : first G u ≤ e = l .from in
@@ -114,17 +115,17 @@ from-within G P cl u (suc x) ms o pu g v h =
     v
     h
 
-pub spread-length : (G : Graph) (k : ℕ) (ms : List ℕ) → length (spread G k ms) ≡ length ms
+spread-length : (G : Graph) (k : ℕ) (ms : List ℕ) → length (spread G k ms) ≡ length ms
 unfolding spread
 spread-length G zero ms = refl
 spread-length G (suc k) ms = from-length G k (getD (spread G k ms) k 0) (spread G k ms) ∙ spread-length G k ms
 
-pub spread-grows : (G : Graph) (k : ℕ) (ms : List ℕ) (v : ℕ) → Marked ms v → Marked (spread G k ms) v
+spread-grows : (G : Graph) (k : ℕ) (ms : List ℕ) (v : ℕ) → Marked ms v → Marked (spread G k ms) v
 unfolding spread
 spread-grows G zero ms v h = h
 spread-grows G (suc k) ms v h = from-grows G k (getD (spread G k ms) k 0) (spread G k ms) v (spread-grows G k ms v h)
 
-pub spread-marks : (G : Graph) (k : ℕ) (ms : List ℕ) (u e : ℕ) → u < k → Marked ms u → Leaves G e u → target G e < length ms
+spread-marks : (G : Graph) (k : ℕ) (ms : List ℕ) (u e : ℕ) → u < k → Marked ms u → Leaves G e u → target G e < length ms
     → Marked (spread G k ms) (target G e)
 unfolding spread
 spread-marks G zero ms u e h m l q = absurd (omega arith)
@@ -136,7 +137,7 @@ spread-marks G (suc k) ms u e h m l q =
     from-marks G k (getD r k 0) r e (rw z at (spread-grows G k ms u m)) (subst (λ (w : ℕ). Leaves G e w) z l) (rw (spread-length G k ms) q))
     (λ (p : k ≤ u → ⊥). from-grows G k (getD r k 0) r (target G e) (spread-marks G k ms u e (omega arith) m l q))
 
-pub spread-within : (G : Graph) (P : ℕ → Type 0) → Closed G P → (k : ℕ) (ms : List ℕ) → k ≤ objects G
+spread-within : (G : Graph) (P : ℕ → Type 0) → Closed G P → (k : ℕ) (ms : List ℕ) → k ≤ objects G
     → ((v : ℕ) → Marked ms v → P v) → (v : ℕ) → Marked (spread G k ms) v → P v
 unfolding spread
 spread-within G P cl zero ms o g v h = g v h
@@ -147,7 +148,7 @@ spread-within G P cl (suc k) ms o g v h =
 
 -- ---- rounds
 
-pub rounds-length : (G : Graph) (k : ℕ) (ms : List ℕ) → length (rounds G k ms) ≡ length ms
+rounds-length : (G : Graph) (k : ℕ) (ms : List ℕ) → length (rounds G k ms) ≡ length ms
 unfolding rounds
 rounds-length G zero ms = refl
 rounds-length G (suc k) ms = rounds-length G k (spread G (objects G) ms) ∙ spread-length G (objects G) ms
@@ -157,7 +158,7 @@ unfolding rounds
 rounds-grows G zero ms v h = h
 rounds-grows G (suc k) ms v h = rounds-grows G k (spread G (objects G) ms) v (spread-grows G (objects G) ms v h)
 
-pub rounds-within : (G : Graph) (P : ℕ → Type 0) → Closed G P → (k : ℕ) (ms : List ℕ) → ((v : ℕ) → Marked ms v → P v)
+rounds-within : (G : Graph) (P : ℕ → Type 0) → Closed G P → (k : ℕ) (ms : List ℕ) → ((v : ℕ) → Marked ms v → P v)
     → (v : ℕ) → Marked (rounds G k ms) v → P v
 unfolding rounds
 rounds-within G P cl zero ms g v h = g v h
@@ -181,7 +182,7 @@ set-back zero (suc y) h p = absurd (omega arith)
 set-back (suc x) y h p = omega arith
 
 -- a list that marks at least as much counts at least as many
-pub count-mono : (a b : List ℕ) → length a ≡ length b → ((v : ℕ) → Marked a v → Marked b v) → sum set? a ≤ sum set? b
+count-mono : (a b : List ℕ) → length a ≡ length b → ((v : ℕ) → Marked a v → Marked b v) → sum set? a ≤ sum set? b
 unfolding sum
 count-mono [] b e f = omega arith
 count-mono (x ∷ a) [] e f = absurd (omega arith)
@@ -217,7 +218,7 @@ count-full (suc x ∷ a) h (suc v) q = count-full a (omega arith) v (omega arith
 
 module _ (G : Graph) (ok : Formed G) where
   -- a reference leads to an object
-  pub target-inside : (e u : ℕ) → Leaves G e u → target G e < objects G
+  target-inside : (e u : ℕ) → Leaves G e u → target G e < objects G
   target-inside e u l = ok .inside e (below-all u l)
     where
       to-last : (k u : ℕ) → suc u + k ≡ objects G → after G u ≤ first G (objects G)
@@ -255,7 +256,7 @@ module _ (G : Graph) (ok : Formed G) where
       (spread-marks G (objects G) ms u e (l .object) m l t)
 
   -- as many rounds as objects are left unmarked close the set
-  pub rounds-close : (k : ℕ) (ms : List ℕ) → length ms ≡ objects G → objects G ≤ sum set? ms + k → Closed G (Marked (rounds G k ms))
+  rounds-close : (k : ℕ) (ms : List ℕ) → length ms ≡ objects G → objects G ≤ sum set? ms + k → Closed G (Marked (rounds G k ms))
   unfolding rounds
   rounds-close zero ms n h = λ u e m l. count-full ms (omega arith) (target G e) (rw n (target-inside e u l))
   rounds-close (suc k) ms n h =
@@ -341,14 +342,3 @@ module _ (G : Graph) (ok : Formed G) (starts : List ℕ) (inside : (v : ℕ) →
   chain-reached (on {u = u} e r l) = reached-closed u e (chain-reached r) l
 
 -- ---- sums over marked objects
-
--- more marks, a larger sum
-pub over-mono : (f : ℕ → ℕ) (a b : List ℕ) (i : ℕ) → length a ≡ length b → ((v : ℕ) → Marked a v → Marked b v)
-    → overMarked f i a ≤ overMarked f i b
-unfolding overMarked
-over-mono f [] b i e g = omega arith
-over-mono f (x ∷ a) [] i e g = absurd (omega arith)
-over-mono f (zero ∷ a) (zero ∷ b) i e g = over-mono f a b (suc i) (omega arith) (λ v. g (suc v))
-over-mono f (zero ∷ a) (suc y ∷ b) i e g = omega (arith, over-mono f a b (suc i) (omega arith) (λ v. g (suc v)))
-over-mono f (suc x ∷ a) (zero ∷ b) i e g = absurd (omega (arith, g 0 (omega arith)))
-over-mono f (suc x ∷ a) (suc y ∷ b) i e g = omega (arith, over-mono f a b (suc i) (omega arith) (λ v. g (suc v)))

@@ -36,3 +36,8 @@ module _ (G : Graph) (v : ℕ) where
       → referencesOf G v ≡ take (after G v - first G v) (drop (first G v) (G .targets))
   unfolding referencesOf
   view-part h q p = let e = bound h q p in rw e
+
+-- the view is the part that was found
+pub view-found : {G : Graph} {v start end : ℕ} → IsPart G v start end → take (end - start) (drop start (G .targets)) ≡ referencesOf G v
+unfolding referencesOf
+view-found p = rw (p .long, p .starts)

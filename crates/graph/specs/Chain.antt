@@ -1,6 +1,5 @@
--- Document 01, "The words of demand 3": "An object is reachable if a chain of no, one or more references leads to it
--- from the index. R is how many reference numbers leave reachable objects; a repeated pair counts each time."
--- Chains begin at any of a list of starts; the base gives the index alone.
+-- SPECIFICATION 3: chains of references, the objects that they reach, and R, how many references leave those.
+-- Chains begin at any of a list of starts: so far the index alone.
 use Prim.Native.Nat.{ℕ, zero, suc, _+_, _<_}
 use mathlib.Core.List.{List, [], _∷_}
 use lib.ListN.{getD, set, replicate}
@@ -12,7 +11,7 @@ pub data Reach (G : Graph) (starts : List ℕ) : ℕ → Type 0 where
   here : {v : ℕ} → 0 < sum (hit v) starts → Reach G starts v
   on : {u : ℕ} (e : ℕ) → Reach G starts u → Leaves G e u → Reach G starts (target G e)
 
--- 1 for a mark that is set, else 0; document 01's "marked" is nonzero
+-- 1 for a mark that is set, that is nonzero, else 0
 abbrev pub set? : ℕ → ℕ
 set? zero = 0
 set? (suc k) = 1

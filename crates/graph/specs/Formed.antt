@@ -4,6 +4,7 @@ use Prim.Native.Nat.{ℕ, _≤_, _<_}
 use lib.ListN.{length}
 use Rattle.graph.specs.Graph.{Graph, objects, references, first, after, target}
 
+-- a graph without fault 10
 pub record Formed (G : Graph) : Type 0 where
   -- there is an offset
   pub some : 0 < length (G .offsets)

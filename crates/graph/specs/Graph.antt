@@ -1,5 +1,5 @@
--- Document 01, "The catalogue": n + 1 offsets and m targets. "Offset v says where v's references begin among the
--- targets, the last offset is m. Reference number e is the one at place e of the targets."
+-- SPECIFICATION 3: a store as n + 1 offsets and m targets. Object v's references are the targets from offset v up to
+-- offset v + 1, and a reference's number is its place among the targets.
 use mathlib.Core.Path.{_≡_}
 use Prim.Native.Nat.{ℕ, suc, _-_, _≤_, _<_}
 use mathlib.Core.Bool.{Bool, true}
@@ -8,6 +8,7 @@ use lib.ListN.{length, getD, take, drop}
 use lib.Dec.{leb, ltb, eqb}
 use Rattle.laws.specs.Choice.{pick, both}
 
+-- what is lent as a graph
 pub record Graph : Type 0 where
   pub offsets : List ℕ
   pub targets : List ℕ
@@ -78,8 +79,7 @@ partStart G v = pick (bounded G v) (first G v) 0
 abbrev pub partLength : Graph → ℕ → ℕ
 partLength G v = pick (bounded G v) (degree G v) 0
 
--- "The references of one object come back as that part of the lent targets; the part is empty if the object number
--- is not below n or its two offsets do not bound a part."
+-- the view: v's part of the targets, empty where v is no object or its offsets bound no part
 unfoldable pub referencesOf : Graph → ℕ → List ℕ
 referencesOf G v = take (partLength G v) (drop (partStart G v) (G .targets))
 

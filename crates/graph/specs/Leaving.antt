@@ -14,6 +14,6 @@ abbrev pub unset? : ℕ → ℕ
 unset? zero = 1
 unset? (suc k) = 0
 
--- "the references leaving unmarked objects": how many
+-- how many references leave unmarked objects
 abbrev pub leavingUnmarked : Graph → List ℕ → ℕ
 leavingUnmarked G ms = overMarked (degree G) 0 (map unset? ms)

@@ -1,4 +1,4 @@
--- Document 01, "The catalogue": "n is 1 to 65,536, m is 0 to 1,048,576, a size is 0 to 1,099,511,627,776."
+-- SPECIFICATION 1: the limits of a store. The code's constants have the same names.
 use Prim.Native.Nat.{ℕ}
 
 -- the largest n

@@ -1,35 +1,40 @@
-// The store as a graph: offsets and targets. Check 10 of them, and the view of one object's
-// references. Any offsets and any targets may come in.
+// The store as a graph: offsets and targets (SPECIFICATION 3). Check 10 of them, and the view of
+// one object's references. Any offsets and any targets may come in.
 ghost use mathlib.Core.Path.{_≡_};
 ghost use mathlib.Core.List.{List};
 ghost use Prim.Native.Nat.{ℕ};
 ghost use lib.ListN.{length};
 ghost use Rattle.graph.specs.Graph.{rising, allBelow, wellFormed, referencesOf, IsPart, graph};
 
+// The most objects of a store (SPECIFICATION 1).
+pub const MOST_OBJECTS: usize = 65536;
+
+// The most references.
+pub const MOST_REFERENCES: usize = 1048576;
+
+// The largest size of an object.
+pub const LARGEST_SIZE: u64 = 1099511627776;
+
 // Whether no offset is above the one after it.
-pub fn is_rising(offsets: &[u32]) -> bool
+fn is_rising(offsets: &[u32]) -> bool
     ensures { λ r. ⌜ r ≡ rising (now (offsets .entry)) ⌝ }
 {
-    let mut i: usize = 1;
-    while i < offsets.len() {
+    for i in 1..offsets.len() {
         if offsets[i] < offsets[i - 1] {
             return false;
         }
-        i += 1;
     }
     true
 }
 
 // Whether every number is below n.
-pub fn is_below(n: usize, numbers: &[u32]) -> bool
+fn is_below(n: usize, numbers: &[u32]) -> bool
     ensures { λ r. ⌜ r ≡ allBelow n (now (numbers .entry)) ⌝ }
 {
-    let mut i: usize = 0;
-    while i < numbers.len() {
+    for i in 0..numbers.len() {
         if n <= numbers[i] as usize {
             return false;
         }
-        i += 1;
     }
     true
 }

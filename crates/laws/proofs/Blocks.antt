@@ -1,22 +1,23 @@
 -- Blocks of one width laid end to end: what stands around block b, and the list with another block in its place.
-use mathlib.Core.Path.{_≡_, refl, ap}
+use mathlib.Core.Path.{_≡_, refl, sym, ap, _∙_}
 use mathlib.Core.List.{List, [], _∷_, _++_, append-assoc}
 use Prim.Native.Nat.{ℕ, zero, suc, _+_, _*_, _<_}
 use native.Mathlib.Nat.{zero-mul, suc-mul}
 use native.Mathlib.Omega.{arith}
-use lib.ListN.{length, getD, set, replicate, length-append, replicate-append-replicate}
+use lib.ListN.{length, getD, set, take, drop, replicate, length-append, length-drop, take-append-drop, replicate-append-replicate}
+use lib.Seq.{drop-drop}
 use Rattle.laws.specs.Blocks.{laid}
 use Rattle.laws.specs.Sum.{sum}
 
 -- what stands before block b and behind it
-pub record Around {A : Type 0} (f : A → List ℕ) (l : List A) (b w : ℕ) (d : A) : Type 0 where
-  pub pre : List ℕ
-  pub post : List ℕ
+pub record Around {A B : Type 0} (f : A → List B) (l : List A) (b w : ℕ) (d : A) : Type 0 where
+  pub pre : List B
+  pub post : List B
   pub long : length pre ≡ b * w
   pub is : laid f l ≡ pre ++ (f (getD l b d) ++ post)
   pub put : (y : A) → laid f (set l b y) ≡ pre ++ (f y ++ post)
 
-module _ {A : Type 0} (f : A → List ℕ) (w : ℕ) (d : A) where
+module _ {A B : Type 0} (f : A → List B) (w : ℕ) (d : A) where
   pub around : (l : List A) (b : ℕ) → ((i : ℕ) → length (f (getD l i d)) ≡ w) → b < length l → Around f l b w d
   unfolding laid
   around [] b each h = absurd (omega arith)
@@ -28,8 +29,8 @@ module _ {A : Type 0} (f : A → List ℕ) (w : ℕ) (d : A) where
         pre = f x ++ r .pre;
         post = r .post;
         long = rw (length-append, suc-mul) (omega (arith, r .long, each 0));
-        is = rw append-assoc (ap (λ (t : List ℕ). f x ++ t) (r .is));
-        put = λ (y : A). rw append-assoc (ap (λ (t : List ℕ). f x ++ t) (r .put y));
+        is = rw append-assoc (ap (λ (t : List B). f x ++ t) (r .is));
+        put = λ (y : A). rw append-assoc (ap (λ (t : List B). f x ++ t) (r .put y));
       }
 
   pub length-laid : (l : List A) → ((i : ℕ) → length (f (getD l i d)) ≡ w) → length (laid f l) ≡ length l * w
@@ -38,8 +39,23 @@ module _ {A : Type 0} (f : A → List ℕ) (w : ℕ) (d : A) where
   length-laid (x ∷ l) each =
       rw (length-append, suc-mul) (omega (arith, each 0, length-laid l (λ (i : ℕ). each (suc i))))
 
+  -- a list whose parts of that width are the blocks of some elements
+  pub laid-parts : (l : List A) (xs : List B) → length xs ≡ length l * w
+      → ((b : ℕ) → b < length l → take w (drop (b * w) xs) ≡ f (getD l b d)) → xs ≡ laid f l
+  unfolding laid
+  laid-parts [] [] long parts = refl
+  laid-parts [] (y ∷ xs) long parts = absurd (omega (arith, zero-mul w))
+  laid-parts (x ∷ l) xs long parts =
+      let first : take w xs ≡ f x = rw zero-mul at (parts 0 (omega arith)) in
+      let rest : drop w xs ≡ laid f l =
+      laid-parts l (drop w xs) (rw length-drop (omega (arith, suc-mul (length l) w, long)))
+      (λ b h.
+      let e : w + b * w ≡ suc b * w = omega (arith, suc-mul b w) in
+      rw (drop-drop (b * w) w xs, e) (parts (suc b) (omega arith))) in
+      sym (take-append-drop w xs) ∙ rw (first, rest)
+
 -- blocks of one value
-pub laid-replicate : {A : Type 0} (f : A → List ℕ) (x : A) (n w : ℕ) (v : ℕ) → f x ≡ replicate w v
+pub laid-replicate : {A B : Type 0} (f : A → List B) (x : A) (n w : ℕ) (v : B) → f x ≡ replicate w v
     → laid f (replicate n x) ≡ replicate (n * w) v
 unfolding laid
 laid-replicate f x zero w v e = rw zero-mul
@@ -48,12 +64,12 @@ laid-replicate f x (suc n) w v e =
     (let e : w + n * w ≡ n * w + w = omega arith in ap (λ (k : ℕ). replicate k v) e)
 
 -- a replacement that the blocks, or a weight, do not see
-pub laid-same : {A : Type 0} (f : A → List ℕ) (l : List A) (b : ℕ) (y d : A) → f y ≡ f (getD l b d)
+pub laid-same : {A B : Type 0} (f : A → List B) (l : List A) (b : ℕ) (y d : A) → f y ≡ f (getD l b d)
     → laid f (set l b y) ≡ laid f l
 unfolding laid
 laid-same f [] b y d e = refl
-laid-same f (x ∷ l) zero y d e = ap (λ (t : List ℕ). t ++ laid f l) e
-laid-same f (x ∷ l) (suc b) y d e = ap (λ (t : List ℕ). f x ++ t) (laid-same f l b y d e)
+laid-same {B = B} f (x ∷ l) zero y d e = ap (λ (t : List B). t ++ laid f l) e
+laid-same {B = B} f (x ∷ l) (suc b) y d e = ap (λ (t : List B). f x ++ t) (laid-same f l b y d e)
 
 pub sum-same : {A : Type 0} (f : A → ℕ) (l : List A) (b : ℕ) (y d : A) → f y ≡ f (getD l b d) → sum f (set l b y) ≡ sum f l
 unfolding sum

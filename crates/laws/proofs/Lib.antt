@@ -1,3 +1,4 @@
+pub mod Every
 pub mod Blocks
 pub mod Grouping
 pub mod Running

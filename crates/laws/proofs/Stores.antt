@@ -1,5 +1,5 @@
 -- Stores and reads in a list that is cut at a known place, and parts that are lent and come back.
-use mathlib.Core.Path.{_≡_, refl, ap, _∙_}
+use mathlib.Core.Path.{_≡_, ap, _∙_}
 use mathlib.Core.List.{List, [], _∷_, _++_}
 use Prim.Native.Nat.{ℕ, zero, suc, _+_, _-_, _<_}
 use native.Mathlib.Nat.{zero-add, suc-add, sub-zero, zero-sub, suc-sub-suc}
@@ -32,12 +32,7 @@ module _ {A : Type 0} where
     pub put-is : (q′ : List A) → take n (p ++ (q ++ r)) ++ (q′ ++ drop k (drop n (p ++ (q ++ r)))) ≡ p ++ (q′ ++ r)
     put-is q′ = rw (take-at p (q ++ r) n at, drop-at p (q ++ r) n at, drop-at q r k long)
 
--- zeros and the like
-pub set-replicate-none : {A : Type 0} (n i : ℕ) (a : A) → set (replicate n a) i a ≡ replicate n a
-set-replicate-none zero i a = refl
-set-replicate-none (suc n) zero a = refl
-set-replicate-none {A} (suc n) (suc i) a = ap (λ (l : List A). a ∷ l) (set-replicate-none n i a)
-
+-- what is left of a repeated element
 pub drop-replicate : {A : Type 0} (n k : ℕ) (a : A) → drop k (replicate n a) ≡ replicate (n - k) a
 drop-replicate n zero a = rw sub-zero
 drop-replicate zero (suc k) a = rw zero-sub

@@ -1,5 +1,5 @@
 -- Laws of little-endian words.
-use mathlib.Core.Path.{_≡_, refl, ap}
+use mathlib.Core.Path.{_≡_, refl}
 use mathlib.Core.List.{List, [], _∷_, _++_}
 use Prim.Native.Nat.{ℕ, zero, suc, _+_, _*_, _/_, _%_, _^_, _≤_, _<_}
 use native.Mathlib.Nat.{pow-succ', mul-assoc, zero-add, add-zero, suc-add}
@@ -32,17 +32,6 @@ word-two at b = rw (drop-drop, getD-drop at b 0, getD-drop (at + 1) b 0, add-zer
 
 pub bytes-drop : (n : ℕ) (b : List ℕ) → Bytes b → Bytes (drop n b)
 bytes-drop n b h i = rw getD-drop (h (n + i))
-
--- a word is below the numbers that its bytes can hold
-pub word-below : (w : ℕ) (b : List ℕ) → Bytes b → word w b < 256 ^ w
-unfolding word
-word-below zero b h = omega arith
-word-below (suc w) b h = rw pow-succ' (omega (arith, h 0, word-below w (drop 1 b) (bytes-drop 1 b h)))
-
-pub length-le : (w v : ℕ) → length (le w v) ≡ w
-unfolding le
-length-le zero v = refl
-length-le (suc w) v = ap suc (length-le w (v / 256))
 
 -- the bytes of a value that fits hold that value
 pub word-le : (w v : ℕ) (b : List ℕ) → v < 256 ^ w → word w (le w v ++ b) ≡ v

@@ -1,6 +1,8 @@
--- Document 01, "What a call returns": the first column of the table.
+-- SPECIFICATION 2: the number of each refusal.
 use Prim.Native.Nat.{ℕ}
 use Rattle.refusal.specs.declared.Refusal.{Refusal}
+use Rattle.refusal.specs.declared.Verdict.{Verdict}
+use Rattle.refusal.specs.declared.Verdict.the-variants.{Fine, Faulty}
 use Rattle.refusal.specs.declared.Refusal.the-variants.{Short, Kind, Place, Count, Object, Size, Buffer, Setting, Schedule, Graph, Large, File}
 
 -- the number that is returned for each cause
@@ -17,3 +19,8 @@ number Schedule = 9
 number Graph = 10
 number Large = 11
 number File = 12
+
+-- the number of what a check finds: 0 for no fault
+abbrev pub numberOf : Verdict → ℕ
+numberOf Fine = 0
+numberOf (Faulty r) = number r

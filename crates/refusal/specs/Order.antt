@@ -1,4 +1,4 @@
--- The order of checks: the number of the first fault, and 0 for none.
+-- SPECIFICATION 2: checks have an order; the number of the first fault counts, and 0 stands for none.
 use Prim.Native.Nat.{ℕ, zero, suc}
 use mathlib.Core.Bool.{Bool, true, false}
 

@@ -1,7 +1,8 @@
-// Why a call is refused, and the number of it in document 01's table.
+// Refusals by cause and by number (SPECIFICATION 2), and what a check finds.
 ghost use mathlib.Core.Path.{_≡_};
-ghost use Rattle.refusal.specs.Number.{number};
+ghost use Rattle.refusal.specs.Number.{number, numberOf};
 
+// Why a call is refused.
 pub enum Refusal {
     // 1: too few bytes left for a record, or promised records missing.
     Short,
@@ -29,7 +30,13 @@ pub enum Refusal {
     File,
 }
 
-// The number in document 01's table.
+// What a check finds.
+pub enum Verdict {
+    Fine,
+    Faulty(Refusal),
+}
+
+// The number of a cause.
 pub fn number_of(r: Refusal) -> u8
     ensures { λ v. ⌜ v ≡ number r ⌝ }
 {
@@ -46,5 +53,15 @@ pub fn number_of(r: Refusal) -> u8
         Refusal::Graph => 10,
         Refusal::Large => 11,
         Refusal::File => 12,
+    }
+}
+
+// The number of what a check finds, 0 for no fault.
+pub fn verdict_number(v: Verdict) -> u8
+    ensures { λ r. ⌜ r ≡ numberOf v ⌝ }
+{
+    match v {
+        Verdict::Fine => 0,
+        Verdict::Faulty(refusal) => number_of(refusal),
     }
 }

@@ -1,5 +1,5 @@
 -- The passes of the sweep: what is left to scan is what is still to be found.
-use mathlib.Core.Path.{_≡_, refl, sym, _∙_}
+use mathlib.Core.Path.{_≡_, refl, ap, sym, _∙_}
 use mathlib.Core.Bool.{true, false}
 use mathlib.Core.List.{List, [], _∷_, _++_, append-assoc, append-nil}
 use Prim.Native.Nat.{ℕ, zero, suc, _+_, _-_, _*_, _≤_, _<_}
@@ -7,17 +7,18 @@ use native.Mathlib.Omega.{arith}
 use native.Mathlib.Numerals.{add-one}
 use lib.Dec.{leb}
 use lib.ListN.{length, getD, take, drop, set, replicate, length-set, drop-of-length-le}
-use lib.Seq.{drop-cons, take-suc-set, drop-length}
-use borrow.Rule.Slice.PartMut.{putMid, post-is}
+use lib.Seq.{drop-cons, take-suc-set, drop-length, length-take-le}
 use borrow.Author.Tests.{leb-true, le-leb, lt-leb}
 use Rattle.laws.specs.Sum.{sum}
+use Rattle.slices.specs.Slices.{cleared}
 use Rattle.graph.specs.Limits.{largest-size}
 use Rattle.graph.proofs.Formed.{both-true}
-use Rattle.sweep.specs.Sweep.{deadFrom, dead, sizesOf, allFit, Listed}
+use Rattle.sweep.specs.Sweep.{deadFrom, dead, sizesOf, allFit, Listable, Listed}
 
 -- ---- the scan of the sizes
 
-pub fit-step : (l : List ℕ) (i : ℕ) → i < length l → getD l i 0 ≤ largest-size → allFit (drop (i + 1) l) ≡ allFit (drop i l)
+pub fit-step : (l : List ℕ) (i : ℕ) → i < length l → getD l i 0 ≤ largest-size
+    → allFit (drop (i + 1) l) ≡ allFit (drop i l)
 unfolding allFit
 fit-step l i h p = rw (add-one, drop-cons l i 0, le-leb _ _ p)
 
@@ -30,7 +31,7 @@ unfolding allFit
 fit-end l i h = rw (drop-of-length-le l h)
 
 -- a size of sizes that fit
-pub fits-at : (l : List ℕ) → allFit l ≡ true → (i : ℕ) → getD l i 0 ≤ largest-size
+fits-at : (l : List ℕ) → allFit l ≡ true → (i : ℕ) → getD l i 0 ≤ largest-size
 unfolding allFit
 fits-at [] e zero = omega arith
 fits-at [] e (suc i) = omega arith
@@ -39,7 +40,8 @@ fits-at (x ∷ l) e (suc i) = fits-at l (both-true (leb x largest-size) (allFit 
 
 -- ---- the scan of the marks
 
-dead-at : (ms : List ℕ) (i : ℕ) → i < length ms → getD ms i 0 ≡ 0 → deadFrom i (drop i ms) ≡ i ∷ deadFrom (i + 1) (drop (i + 1) ms)
+dead-at : (ms : List ℕ) (i : ℕ) → i < length ms → getD ms i 0 ≡ 0
+    → deadFrom i (drop i ms) ≡ i ∷ deadFrom (i + 1) (drop (i + 1) ms)
 unfolding deadFrom
 dead-at ms i h z = rw (add-one, drop-cons ms i 0, z)
 
@@ -48,12 +50,14 @@ unfolding deadFrom
 skip v zero ms z = absurd (z refl)
 skip v (suc x) ms z = refl
 
-live-at : (ms : List ℕ) (i : ℕ) → i < length ms → (getD ms i 0 ≡ 0 → ⊥) → deadFrom i (drop i ms) ≡ deadFrom (i + 1) (drop (i + 1) ms)
+live-at : (ms : List ℕ) (i : ℕ) → i < length ms → (getD ms i 0 ≡ 0 → ⊥)
+    → deadFrom i (drop i ms) ≡ deadFrom (i + 1) (drop (i + 1) ms)
 live-at ms i h z = rw (add-one, drop-cons ms i 0 h) (skip i (getD ms i 0) (drop (suc i) ms) z)
 
--- Where the scan stands at object i: the dead ones found so far stand in front of the list, and those behind are
--- still to come.
-pub record At (marks sizes before : List ℕ) (list : List ℕ) (count freed i : ℕ) : Type 0 where
+-- where the scan stands at object i: the dead ones found so far stand in front of the list, and those behind are
+-- still to come
+pub record At (marks sizes before list : List ℕ) (count freed i : ℕ) : Type 0 where
+  pub ready : Listable marks sizes before
   pub low : i ≤ length marks
   pub few : count ≤ i
   pub long : length list ≡ length before
@@ -61,60 +65,62 @@ pub record At (marks sizes before : List ℕ) (list : List ℕ) (count freed i :
   pub summed : freed + sizesOf sizes (deadFrom i (drop i marks)) ≡ sizesOf sizes (dead marks)
   pub small : freed ≤ largest-size * i
 
-module _ (marks sizes before : List ℕ) (same : length before ≡ length marks) where
-  pub at-start : At marks sizes before before 0 0 0
-  at-start = record { low = omega arith; few = omega arith; long = refl; front = refl; summed = omega arith; small = omega arith }
+pub at-start : {marks sizes before : List ℕ} → Listable marks sizes before → At marks sizes before before 0 0 0
+at-start r =
+    record { ready = r; low = omega arith; few = omega arith; long = refl; front = refl; summed = omega arith; small = omega arith }
 
-  module _ (list : List ℕ) (count freed i : ℕ) (h : i < length marks) (a : At marks sizes before list count freed i) where
-    pub at-live : (getD marks i 0 ≡ 0 → ⊥) → At marks sizes before list count freed (i + 1)
-    at-live z =
-        let e = live-at marks i h z in
-        let s = a .small in
-        let f = a .few in
-        record {
-          low = omega arith;
-          few = omega arith;
-          long = a .long;
-          front = rw e at (a .front);
-          summed = rw e at (a .summed);
-          small = omega arith;
-        }
+module _ {marks sizes before list : List ℕ} {count freed i : ℕ} (a : At marks sizes before list count freed i) where
+  abbrev next : List ℕ → ℕ → ℕ → Type 0
+  next list′ count′ freed′ = At marks sizes before list′ count′ freed′ (i + 1)
 
-    pub at-dead : getD marks i 0 ≡ 0 → getD sizes i 0 ≤ largest-size → At marks sizes before (set list count i) (count + 1) (freed + getD sizes i 0) (i + 1)
-    unfolding sizesOf sum
-    at-dead z fit =
-        let e = dead-at marks i h z in
-        let s = a .small in
-        let f = a .few in
-        let n = a .long in
-        let q : count < length list = omega arith in
-        record {
-          low = omega arith;
-          few = omega arith;
-          long = rw length-set n;
-          front = rw (add-one count, take-suc-set list count i q, append-assoc) (rw e at (a .front));
-          summed = let w = rw e at (a .summed) in omega arith;
-          small = omega arith;
-        }
+  pub at-fits : getD sizes i 0 ≤ largest-size
+  at-fits = fits-at sizes (a .ready .fit) i
+
+  pub at-live : i < length marks → (getD marks i 0 ≡ 0 → ⊥) → next list count freed
+  at-live h z =
+      let e = live-at marks i h z in
+      record {
+        ready = a .ready;
+        low = omega arith;
+        few = omega (arith, a .few);
+        long = a .long;
+        front = rw e at (a .front);
+        summed = rw e at (a .summed);
+        small = omega (arith, a .small);
+      }
+
+  pub at-dead : i < length marks → getD marks i 0 ≡ 0 → next (set list count i) (count + 1) (freed + getD sizes i 0)
+  unfolding sizesOf sum
+  at-dead h z =
+      let e = dead-at marks i h z in
+      let q : count < length list = omega (arith, a .few, a .long, a .ready .marks-are, a .ready .list-is) in
+      record {
+        ready = a .ready;
+        low = omega arith;
+        few = omega (arith, a .few);
+        long = rw length-set (a .long);
+        front = rw (add-one count, take-suc-set list count i q, append-assoc) (rw e at (a .front));
+        summed = let w = rw e at (a .summed) in omega arith;
+        small = omega (arith, a .small, at-fits);
+      }
 
   -- at the end
-  pub at-front : (list : List ℕ) (count freed i : ℕ) → length marks ≤ i → At marks sizes before list count freed i → take count list ≡ dead marks
-  unfolding deadFrom
-  at-front list count freed i h a =
-      let e : drop i marks ≡ [] = drop-of-length-le marks h in
-      sym (append-nil (take count list)) ∙ (rw e at (a .front))
-
-  pub at-summed : (list : List ℕ) (count freed i : ℕ) → length marks ≤ i → At marks sizes before list count freed i → freed ≡ sizesOf sizes (dead marks)
+  pub at-end : length marks ≤ i → Listed marks sizes before list count freed
   unfolding deadFrom sizesOf sum
-  at-summed list count freed i h a =
+  at-end h =
       let e : drop i marks ≡ [] = drop-of-length-le marks h in
+      let front = sym (append-nil (take count list)) ∙ (rw e at (a .front)) in
       let w = rw e at (a .summed) in
-      omega arith
+      let room : count ≤ length list = omega (arith, a .low, a .few, a .long, a .ready .marks-are, a .ready .list-is) in
+      record {
+        front = front;
+        long = a .long;
+        counted = sym (length-take-le count list room) ∙ ap length front;
+        room = room;
+        summed = omega arith;
+      }
 
--- The list once what is behind the dead numbers is cleared.
-pub cleared : (marks sizes before mid ys : List ℕ) (count freed : ℕ) → Listed marks sizes before mid count freed
-    → ys ≡ replicate (length mid - count) 0
-    → putMid count (length mid - count) mid ys ≡ dead marks ++ replicate (length before - length (dead marks)) 0
-cleared marks sizes before mid ys count freed l e =
-    let p = post-is count (length mid) mid (l .room) in
-    rw (p, drop-length mid, e, l .front, append-nil, l .long, l .counted)
+-- the list once what is behind the dead numbers is cleared
+pub padded : {marks sizes before mid after : List ℕ} {count freed n : ℕ} → Listed marks sizes before mid count freed → length before ≡ n
+    → after ≡ cleared mid count n → after ≡ dead marks ++ replicate (length before - length (dead marks)) 0
+padded {mid = mid} l e z = rw (z, ← e, ← l .long, drop-length mid, append-nil, l .front, l .counted)

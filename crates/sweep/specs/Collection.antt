@@ -1,5 +1,4 @@
--- Demand 2, last part: "The sweep lists the unmarked objects upwards and sums their sizes." After a finished marking
--- these are the objects to which no chain leads.
+-- SPECIFICATION 5: after a finished marking the sweep lists exactly the objects to which no chain leads.
 use mathlib.Core.Path.{_≡_}
 use mathlib.Core.Bool.{true}
 use mathlib.Core.List.{List, [], _∷_}
@@ -21,6 +20,7 @@ UpwardsFrom b (v ∷ vs) = (b ≤ v) × UpwardsFrom (suc v) vs
 abbrev pub deadAfter : Graph → List ℕ → ℕ → Setting → List Entry → List ℕ
 deadAfter G starts W g xs = dead (outcome G starts W g xs .marks)
 
+-- what the list of the dead is
 pub record Collection (G : Graph) (starts : List ℕ) (W : ℕ) (g : Setting) (xs : List Entry) : Type 0 where
   -- upwards, so each once
   pub upwards : UpwardsFrom 0 (deadAfter G starts W g xs)

@@ -1,5 +1,5 @@
--- Document 01: "The sweep takes 0 as dead and every other mark as live. The list holds dead numbers upwards, then
--- zeros; returned are their count and the sum of their sizes." "The sweep checks 4 (n is the sizes' length), 7, 6."
+-- SPECIFICATION 5: an object is dead where its mark is 0. The list gets the numbers of the dead upwards, then zeros;
+-- the answer is their count and the sum of their sizes. The checks are 4 (n is how many sizes there are), 7 and 6.
 use mathlib.Core.Path.{_≡_}
 use mathlib.Core.Bool.{Bool, true}
 use mathlib.Core.List.{List, [], _∷_, _++_}
@@ -33,7 +33,7 @@ unfoldable pub allFit : List ℕ → Bool
 allFit [] = true
 allFit (x ∷ xs) = both (leb x largest-size) (allFit xs)
 
--- A row of document 01's table: the number returned (0 for none), the count and the sum.
+-- an answer: the number returned (0 for none), the count and the sum
 pub record Row : Type 0 where
   pub number : ℕ
   pub count : ℕ
@@ -43,7 +43,7 @@ pub record Row : Type 0 where
 abbrev pub refusedRow : ℕ → Row
 refusedRow k = record { number = k; count = 0; freed = 0 }
 
--- an answer as such a row
+-- each answer so
 abbrev pub row : Swept → Row
 row (Dead c f) = record { number = 0; count = c; freed = f }
 row (Refused k) = refusedRow (number k)
@@ -58,23 +58,32 @@ fault marks sizes list =
     7)
     4
 
--- What the sweep answers, by the fault found.
+-- what the sweep answers, by the fault found
 abbrev pub answerFor : ℕ → List ℕ → List ℕ → Row
 answerFor zero marks sizes = record { number = 0; count = length (dead marks); freed = sizesOf sizes (dead marks) }
 answerFor (suc k) marks sizes = refusedRow (suc k)
 
+-- what the sweep answers
 abbrev pub sweeping : List ℕ → List ℕ → List ℕ → Row
 sweeping marks sizes list = answerFor (fault marks sizes list) marks sizes
 
--- The list afterwards: the dead numbers, then zeros; unchanged beside a refusal.
+-- the list afterwards, by the fault found: the dead numbers, then zeros; unchanged beside a refusal
 abbrev pub listFor : ℕ → List ℕ → List ℕ → List ℕ
 listFor zero marks list = dead marks ++ replicate (length list - length (dead marks)) 0
 listFor (suc k) marks list = list
 
+-- the list afterwards
 abbrev pub listAfter : List ℕ → List ℕ → List ℕ → List ℕ
 listAfter marks sizes list = listFor (fault marks sizes list) marks list
 
--- What the first pass leaves: the dead numbers in front, their count and the sum of their sizes.
+-- what the pass over the marks asks
+pub record Listable (marks sizes list : List ℕ) : Type 0 where
+  pub marks-are : length marks ≡ length sizes
+  pub list-is : length list ≡ length sizes
+  pub few : length sizes ≤ most-objects
+  pub fit : allFit sizes ≡ true
+
+-- and what it leaves: the dead numbers in front, their count and the sum of their sizes
 pub record Listed (marks sizes before after : List ℕ) (count freed : ℕ) : Type 0 where
   pub front : take count after ≡ dead marks
   pub long : length after ≡ length before

@@ -1,18 +1,17 @@
--- `catalogue::record::object_fault` meets its contract: one law of `Cases` for each way out.
-use Rattle.catalogue.proofs.Cases.{large-size, good-object}
-use native.Mathlib.Omega.{arith}
+-- `catalogue::record::object_fault` meets its contract: each way out is one side of the test of the size.
+use mathlib.Core.List.{List}
+use Prim.Native.Nat.{ℕ}
 use borrow.Author.Needs.{needs}
+use borrow.Author.Tests.{lt-ltb, le-ltb}
+use Rattle.catalogue.proofs.Cases.{object-told}
 use Rattle.catalogue.proofs.record.object_fault.Statement.{statement}
 use Rattle.catalogue.proofs.record.object_fault.Tie as tie
 
-word8-requires : tie.Need-word8-requires
-word8-requires c κs = search needs
-
-returns : tie.Need-returns
-returns c = large-size (c .before .before .before .args .bytes .now) (omega arith)
-
-returns-2 : tie.Need-returns-2
-returns-2 c = good-object (c .before .before .before .args .bytes .now) (omega arith)
+abbrev bytes : tie.After-word8 → List ℕ
+bytes c = c .before .before .args .bytes .now
 
 pub object-fault-spec : {M : Type 1} → statement M
-object-fault-spec = tie.close (tie.spec word8-requires returns returns-2)
+object-fault-spec =
+    tie.close
+    (tie.spec (λ c κs. search needs) (λ c. rw (lt-ltb _ _ (c .if1 .taken)) at (object-told (bytes (c .before)) (c .before .word8 .ensures .0)))
+    (λ c. rw (le-ltb _ _ (c .if1 .left)) at (object-told (bytes (c .before)) (c .before .word8 .ensures .0))))

@@ -6,15 +6,10 @@ use borrow.Author.Needs.{needs}
 use Rattle.catalogue.proofs.record.surplus_fault.Statement.{statement}
 use Rattle.catalogue.proofs.record.surplus_fault.Tie as tie
 
-returns : tie.Need-returns
-returns c = let a = c .before .before .args in surplus-none (a .n) (a .at) (a .bytes .now) (c .if1 .taken)
-
-fault-at-requires : tie.Need-fault-at-requires
-fault-at-requires c κs = search needs
-
 returns-2 : tie.Need-returns-2
-returns-2 c = let a = c .before .before .before .args in
+returns-2 c =
+    let a = c .before .before .before .args in
     c .fault-at .ensures ∙ surplus-some (a .n) (a .at) (a .bytes .now) (omega (arith, c .before .if1 .left))
 
 pub surplus-fault-spec : {M : Type 1} → statement M
-surplus-fault-spec = tie.close (tie.spec returns fault-at-requires returns-2)
+surplus-fault-spec = tie.close (tie.spec (λ c. surplus-none _ _ _ (c .if1 .taken)) (λ c κs. search needs) returns-2)

@@ -1,0 +1,166 @@
+-- The two forms of records behind the header: what a record without a fault says, and how it is written.
+use mathlib.Core.Path.{_≡_, refl, ap, sym, _∙_}
+use mathlib.Core.List.{List, [], _∷_, _++_, flatMap, append-assoc}
+use Prim.Native.Nat.{ℕ, zero, suc, _+_, _*_, _≤_}
+use native.Mathlib.Omega.{arith}
+use lib.ListN.{length, take, drop, replicate, length-drop}
+use lib.Seq.{drop-drop}
+use Rattle.laws.specs.Every.{Every}
+use Rattle.laws.specs.Words.{le, word, Bytes}
+use Rattle.laws.proofs.Words.{word-le, le-field, take-join, bytes-drop}
+use Rattle.refusal.proofs.None.{first-none}
+use Rattle.graph.specs.Limits.{most-objects, largest-size}
+use Rattle.catalogue.specs.Store.{Pair, Ends}
+use Rattle.catalogue.specs.Layout.{object, reference, record-length, recordOf, objectRecord, referenceRecord}
+use Rattle.catalogue.specs.Reading.{kindOf, lengthOf, length-field, kind-field, size-field, pair-field, recordFault, faults, records}
+use Rattle.catalogue.proofs.Faults.{GoodObject, GoodReference, good-object-record, good-reference-record, clear-object, clear-reference}
+
+-- so many records one after the other, each with a property
+abbrev pub EachRecord : (List ℕ → Type 0) → ℕ → List ℕ → Type 0
+EachRecord G zero b = Unit
+EachRecord G (suc c) b = G b × EachRecord G c (drop record-length b)
+
+-- f reads a record of the kind that is due, `write` writes one, P is what is legal, and G is a record without a fault
+pub record Form {A : Type 0} (f : List ℕ → A) (write : A → List ℕ) (P : A → Type 0) (G : List ℕ → Type 0) (due n : ℕ) : Type 0 where
+  pub twelve : lengthOf (kindOf due) ≡ 12
+  pub good : (b : List ℕ) → recordFault due n b ≡ 0 → G b
+  pub long : (b : List ℕ) → G b → 12 ≤ length b
+  pub legal : (b : List ℕ) → G b → P (f b)
+  pub rewrites : (b : List ℕ) → Bytes b → G b → write (f b) ≡ take 12 b
+  pub clear : (x : A) (rest : List ℕ) → P x → recordFault due n (write x ++ rest) ≡ 0
+  pub reads : (x : A) (rest : List ℕ) → P x → f (write x ++ rest) ≡ x
+  pub behind : (x : A) (rest : List ℕ) → drop 12 (write x ++ rest) ≡ rest
+
+module _ {A : Type 0} {f : List ℕ → A} {write : A → List ℕ} {P : A → Type 0} {G : List ℕ → Type 0} {due n : ℕ}
+    (F : Form f write P G due n) where
+  -- where they have no fault, each record is good, and so is the rest
+  pub form-good : (c : ℕ) (later b : List ℕ) → faults n (replicate c due ++ later) b ≡ 0
+      → EachRecord G c b × (faults n later (drop (12 * c) b) ≡ 0)
+  unfolding faults
+  form-good zero later b h = (tt, h)
+  form-good (suc c) later b h =
+      let p = first-none (recordFault due n b) (faults n (replicate c due ++ later) (drop (lengthOf (kindOf due)) b)) h in
+      let r = form-good c later (drop 12 b) (rw (F .twelve) at (p .1)) in
+      let q : 12 + 12 * c ≡ 12 * suc c = omega arith in
+      ((F .good b (p .0), r .0), rw (drop-drop, q) at (r .1))
+
+  pub form-long : (c : ℕ) (b : List ℕ) → EachRecord G c b → 12 * c ≤ length b
+  form-long zero b r = omega arith
+  form-long (suc c) b r = omega (arith, F .long b (r .0), rw length-drop at (form-long c (drop 12 b) (r .1)))
+
+  pub form-legal : (c : ℕ) (b : List ℕ) → EachRecord G c b → Every P (records f c b)
+  unfolding records
+  form-legal zero b r = tt
+  form-legal (suc c) b r = (F .legal b (r .0), form-legal c (drop 12 b) (r .1))
+
+  -- what they say, written, are their bytes
+  pub form-bytes : (c : ℕ) (b : List ℕ) → Bytes b → EachRecord G c b → flatMap write (records f c b) ≡ take (12 * c) b
+  unfolding records flatMap
+  form-bytes zero b h r = refl
+  form-bytes (suc c) b h r =
+      let q : 12 + 12 * c ≡ 12 * suc c = omega arith in
+      rw (F .rewrites b h (r .0), form-bytes c (drop 12 b) (bytes-drop 12 b h) (r .1)) (take-join 0 12 (12 * c) b ∙ rw q)
+
+  -- written records have no fault, read as what was written, and then comes what stands behind them
+  pub written-faults : (xs : List A) (later rest : List ℕ) → Every P xs
+      → faults n (replicate (length xs) due ++ later) (flatMap write xs ++ rest) ≡ faults n later rest
+  unfolding faults flatMap
+  written-faults [] later rest h = refl
+  written-faults (x ∷ xs) later rest h =
+      let tail = flatMap write xs ++ rest in
+      rw (append-assoc (write x) (flatMap write xs) rest, F .clear x tail (h .0), F .twelve, F .behind x tail) (written-faults xs later rest (h .1))
+
+  pub written-records : (xs : List A) (rest : List ℕ) → Every P xs → records f (length xs) (flatMap write xs ++ rest) ≡ xs
+  unfolding records flatMap
+  written-records [] rest h = refl
+  written-records (x ∷ xs) rest h =
+      let tail = flatMap write xs ++ rest in
+      rw (append-assoc (write x) (flatMap write xs) rest, F .reads x tail (h .0), F .behind x tail)
+      (ap (λ (l : List A). x ∷ l) (written-records xs rest (h .1)))
+
+  pub written-behind : (xs : List A) (rest : List ℕ) → drop (12 * length xs) (flatMap write xs ++ rest) ≡ rest
+  unfolding flatMap
+  written-behind [] rest = refl
+  written-behind (x ∷ xs) rest =
+      let tail = flatMap write xs ++ rest in
+      let q : 12 * suc (length xs) ≡ 12 + 12 * length xs = omega arith in
+      rw (q, ← drop-drop (12 * length xs) 12 (write x ++ flatMap write xs ++ rest), append-assoc (write x) (flatMap write xs) rest, F .behind x tail)
+      (written-behind xs rest)
+
+-- the bytes of a record are those that its numbers give
+pub record-bytes : (b : List ℕ) → Bytes b → {l k : ℕ} (c : List ℕ) → length-field b ≡ l → kind-field b ≡ k → 4 ≤ length b
+    → recordOf l k c ≡ take 4 b ++ c
+record-bytes b h c el ek g =
+    rw (← el, ← ek, le-field 2 0 b h (omega arith), le-field 2 2 b h (omega arith))
+    (sym (append-assoc (take 2 b) (take 2 (drop 2 b)) c) ∙ ap (λ (x : List ℕ). x ++ c) (take-join 0 2 2 b))
+
+-- ---- objects
+
+object-bytes : (b : List ℕ) → Bytes b → GoodObject b → objectRecord (size-field b) ≡ take 12 b
+object-bytes b h g =
+    let long = g .frame .long in
+    record-bytes b h (le 8 (size-field b)) (g .frame .length-is) (g .frame .kind-is) (omega arith)
+    ∙ rw (le-field 8 4 b h (omega arith)) (take-join 0 4 8 b)
+
+module _ (x : ℕ) (rest : List ℕ) where
+  object-size : x ≤ largest-size → size-field (objectRecord x ++ rest) ≡ x
+  unfolding le
+  object-size h = word-le 8 x rest (omega arith)
+
+  object-good : x ≤ largest-size → GoodObject (objectRecord x ++ rest)
+  unfolding le word
+  object-good h =
+      record { frame = record { long = omega arith; length-is = refl; kind-is = refl }; small = rw (object-size h) h }
+
+  object-behind : drop 12 (objectRecord x ++ rest) ≡ rest
+  unfolding le
+  object-behind = refl
+
+pub object-form : (n : ℕ) → Form size-field objectRecord (λ (x : ℕ). x ≤ largest-size) GoodObject object n
+object-form n =
+    record {
+      twelve = refl;
+      good = λ b. good-object-record n b;
+      long = λ b g. g .frame .long;
+      legal = λ b g. g .small;
+      rewrites = object-bytes;
+      clear = λ x rest h. clear-object n (objectRecord x ++ rest) (object-good x rest h);
+      reads = object-size;
+      behind = object-behind;
+    }
+
+-- ---- references
+
+reference-bytes : {n : ℕ} (b : List ℕ) → Bytes b → GoodReference n b → referenceRecord (pair-field b) ≡ take 12 b
+reference-bytes b h g =
+    let long = g .frame .long in
+    record-bytes b h (le 4 (pair-field b .from) ++ le 4 (pair-field b .to)) (g .frame .length-is) (g .frame .kind-is) (omega arith)
+    ∙ rw (le-field 4 4 b h (omega arith), le-field 4 8 b h (omega arith), take-join 4 4 4 b) (take-join 0 4 8 b)
+
+reference-behind : (p : Pair) (rest : List ℕ) → drop 12 (referenceRecord p ++ rest) ≡ rest
+unfolding le
+reference-behind p rest = refl
+
+module _ {n : ℕ} (few : n ≤ most-objects) (p : Pair) (rest : List ℕ) (e : Ends n p) where
+  reference-pair : pair-field (referenceRecord p ++ rest) ≡ p
+  unfolding le
+  reference-pair =
+      rw (word-le 4 (p .from) (le 4 (p .to) ++ rest) (omega (arith, e .from-below)), word-le 4 (p .to) rest (omega (arith, e .to-below)))
+
+  reference-good : GoodReference n (referenceRecord p ++ rest)
+  unfolding le word
+  reference-good =
+      record { frame = record { long = omega arith; length-is = refl; kind-is = refl }; ends = rw reference-pair e }
+
+pub reference-form : {n : ℕ} → n ≤ most-objects → Form pair-field referenceRecord (Ends n) (GoodReference n) reference n
+reference-form {n} few =
+    record {
+      twelve = refl;
+      good = λ b. good-reference-record n b;
+      long = λ b g. g .frame .long;
+      legal = λ b g. g .ends;
+      rewrites = reference-bytes;
+      clear = λ p rest e. clear-reference n (referenceRecord p ++ rest) (reference-good few p rest e);
+      reads = λ p rest e. reference-pair few p rest e;
+      behind = reference-behind;
+    }
