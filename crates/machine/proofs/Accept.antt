@@ -15,7 +15,8 @@ use Rattle.graph.specs.Limits.{most-objects, most-references}
 use Rattle.graph.proofs.Formed.{formed}
 use Rattle.machine.specs.Machine.{stretchLength}
 use Rattle.machine.specs.Accepted.{Accepted}
-use Rattle.machine.specs.Call.{Call, graphOf, settingOf, startsOf, most-workers, most-setting, outside, settingFault, countFault, bufferFault, graphFault, indexFault, scheduleFits, fault}
+use Rattle.machine.specs.Limits.{most-workers, most-setting}
+use Rattle.machine.specs.Call.{Call, graphOf, settingOf, startsOf, outside, settingFault, countFault, bufferFault, graphFault, indexFault, scheduleFits, fault}
 
 inside : (most x : ℕ) → outside most x ≡ false → (1 ≤ x) × (x ≤ most)
 inside most x e =
@@ -36,6 +37,7 @@ one-start : (i n : ℕ) → i < n → (v : ℕ) → 0 < sum (hit v) (i ∷ []) �
 unfolding sum
 one-start i n h v q = let e = hit-equal v i (omega arith) in omega arith
 
+-- a call without a fault passes
 pub checked : (c : Call) (marks work : ℕ) → fault c marks work ≡ 0 → Checked c marks work
 unfolding fault
 checked c marks work e =

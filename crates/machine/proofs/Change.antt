@@ -1,123 +1,80 @@
--- What replacing one worker, or two, does to a sum over the workers and to what stands at a place.
-use mathlib.Core.Path.{_≡_, refl, ap}
-use mathlib.Core.List.{List}
-use mathlib.Core.Logic.{_≢_, _⊎_, inl, inr, ⊎-map}
-use mathlib.Core.Bool.{Bool, true, false}
-use Prim.Native.Nat.{ℕ, zero, suc, _+_, _*_, _/_, _≤_, _<_}
+-- Some workers change: what that does to a sum over the workers, and to what stands at a place.
+use mathlib.Core.Path.{_≡_, refl, _∙_}
+use mathlib.Core.List.{List, [], _∷_}
+use mathlib.Core.Logic.{_≢_}
+use Prim.Native.Nat.{ℕ, _+_, _*_, _<_}
 use native.Mathlib.Omega.{arith}
-use lib.ListN.{length, getD, set}
-use lib.Dec.{T, ltb, leb, ltb→lt}
-use borrow.Author.Tests.{ltb-true, leb-true}
-use Rattle.laws.specs.Choice.{both, either}
+use lib.ListN.{length, getD, set, length-set}
+use lib.Seq.{getD-set-other}
+use Rattle.laws.specs.Every.{Every}
 use Rattle.laws.specs.Sum.{sum, hit}
-use Rattle.graph.proofs.Formed.{both-true}
-use Rattle.laws.proofs.Sum.{sum-set, sum-set2, at-set, at-set2, inside}
-use Rattle.machine.specs.Run.{Run, carried, keep, rest, half}
-use Rattle.machine.specs.Machine.{State, Worker, idle, asking, denied, ended, given, busy, Cell, Phase, poll, look, claim, phase, worker, shares}
-use Rattle.machine.specs.Sound.{batchOf, phaseTurns}
-use Rattle.machine.proofs.Facts.{there}
-use Rattle.machine.proofs.Runs.{carried-split, carried-keep}
+use Rattle.laws.proofs.Sum.{sum-set, at-set, each-set}
+use Rattle.machine.specs.Machine.{Worker, ended}
 
--- 1 for a worker that is idle or waits for a reply
-abbrev pub free : Worker → ℕ
-free idle = 1
-free asking = 1
-free denied = 0
-free ended = 0
-free (given rs) = 0
-free (busy c n p rs) = 0
+-- one worker's change: its number, what it was and what it is
+pub record Change : Type 0 where
+  pub place : ℕ
+  pub was : Worker
+  pub now : Worker
 
-module _ (s : State) where
-  inside-if : (b : ℕ) (x : Worker) → worker s b ≡ x → 0 < there x → b < length (s .workers)
-  inside-if b x e h = inside (s .workers) b ended there refl (rw e h)
+-- the workers after the changes
+abbrev pub put : List Worker → List Change → List Worker
+put ws [] = ws
+put ws (c ∷ cs) = put (set ws (c .place) (c .now)) cs
 
-  free-there : (x : Worker) → T (ltb 0 (free x)) → 0 < there x
-  free-there idle t = omega arith
-  free-there asking t = omega arith
+-- each worker that changes was there as it says, when its turn comes
+abbrev pub Fits : List Worker → List Change → Type 0
+Fits ws [] = Unit {0}
+Fits ws (c ∷ cs) = (getD ws (c .place) ended ≡ c .was) × (c .place < length ws) × Fits (set ws (c .place) (c .now)) cs
 
-  module _ (b : ℕ) (x y : Worker) (e : worker s b ≡ x) (t : T (ltb 0 (there x))) where
-    one-inside : b < length (s .workers)
-    one-inside = inside-if b x e (ltb→lt 0 (there x) t)
+-- the sum of a weight over those that change, before and after
+abbrev pub before : (Worker → ℕ) → List Change → ℕ
+before f cs = sum (λ (c : Change). f (c .was)) cs
 
-    pub one : (f : Worker → ℕ) → sum f (set (s .workers) b y) + f x ≡ sum f (s .workers) + f y
-    one f = sum-set f ended (s .workers) b x y e one-inside
+abbrev pub after : (Worker → ℕ) → List Change → ℕ
+after f cs = sum (λ (c : Change). f (c .now)) cs
 
-    pub one-at : (f : Worker → ℕ) (j : ℕ) → f (getD (set (s .workers) b y) j ended) + hit b j * f x ≡ f (worker s j) + hit b j * f y
-    one-at f j = at-set f ended (s .workers) b x y j e one-inside
+-- the same for worker i alone
+abbrev pub beforeAt : (Worker → ℕ) → ℕ → List Change → ℕ
+beforeAt f i cs = sum (λ (c : Change). hit (c .place) i * f (c .was)) cs
 
-  -- a busy worker b and a free one a
-  module _ (b a : ℕ) (c : Cell) (n : ℕ) (p : Phase) (rs : List Run) (x y z : Worker) (e : worker s b ≡ busy c n p rs) (q : worker s a ≡ x)
-      (t : T (ltb 0 (free x))) where
-    apart : a ≢ b
-    apart r = omega (arith, ltb→lt 0 (free x) t, ap free q, ap free e, ap (λ (i : ℕ). free (worker s i)) r)
+abbrev pub afterAt : (Worker → ℕ) → ℕ → List Change → ℕ
+afterAt f i cs = sum (λ (c : Change). hit (c .place) i * f (c .now)) cs
 
-    pub two : (f : Worker → ℕ)
-        → sum f (set (set (s .workers) b y) a z) + f (busy c n p rs) + f x ≡ sum f (s .workers) + f y + f z
-    two f =
-        sum-set2
-        f
-        ended
-        (s .workers)
-        b
-        a
-        (busy c n p rs)
-        y
-        x
-        z
-        e
-        (inside-if b (busy c n p rs) e (omega arith))
-        q
-        (inside-if a x q (free-there x t))
-        apart
+-- there are as many workers as before
+pub put-length : (ws : List Worker) (cs : List Change) → length (put ws cs) ≡ length ws
+put-length ws [] = refl
+put-length ws (c ∷ cs) = put-length (set ws (c .place) (c .now)) cs ∙ length-set ws (c .place) (c .now)
 
-    pub two-at : (f : Worker → ℕ) (j : ℕ)
-        → f (getD (set (set (s .workers) b y) a z) j ended) + hit b j * f (busy c n p rs) + hit a j * f x
-        ≡ f (worker s j) + hit b j * f y + hit a j * f z
-    two-at f j =
-        at-set2
-        f
-        ended
-        (s .workers)
-        b
-        a
-        (busy c n p rs)
-        y
-        x
-        z
-        j
-        e
-        (inside-if b (busy c n p rs) e (omega arith))
-        q
-        (inside-if a x q (free-there x t))
-        apart
+-- a sum over the workers changes by the weights of those that change
+pub put-sum : (f : Worker → ℕ) (ws : List Worker) (cs : List Change) → Fits ws cs → sum f (put ws cs) + before f cs ≡ sum f ws + after f cs
+unfolding sum
+put-sum f ws [] h = refl
+put-sum f ws (c ∷ cs) h =
+    omega (arith, put-sum f (set ws (c .place) (c .now)) cs (h .2), sum-set f ended ws (c .place) (c .was) (c .now) (h .0) (h .1))
 
--- ---- batches
+-- so does a weight at one place
+pub put-at : (f : Worker → ℕ) (i : ℕ) (ws : List Worker) (cs : List Change) → Fits ws cs
+    → f (getD (put ws cs) i ended) + beforeAt f i cs ≡ f (getD ws i ended) + afterAt f i cs
+unfolding sum
+put-at f i ws [] h = refl
+put-at f i ws (c ∷ cs) h =
+    omega (arith, put-at f i (set ws (c .place) (c .now)) cs (h .2), at-set f ended ws (c .place) (c .was) (c .now) i (h .0) (h .1))
 
-pub phase-batch : (k : ℕ) → batchOf (phase k) ≡ k
-phase-batch zero = refl
-phase-batch (suc k) = refl
+-- what holds of every worker still does, where it holds of those that change
+pub put-each : (P : Worker → Type 0) (ws : List Worker) (cs : List Change) → ((i : ℕ) → P (getD ws i ended))
+    → Every (λ (c : Change). P (c .now)) cs → (i : ℕ) → P (getD (put ws cs) i ended)
+put-each P ws [] h t = h
+put-each P ws (c ∷ cs) h t = put-each P (set ws (c .place) (c .now)) cs (each-set P ws (c .place) (c .now) ended h (t .0)) (t .1)
 
-pub phase-turns : (k : ℕ) → 0 < k → phaseTurns (phase k) ≡ 3
-phase-turns zero h = absurd (omega arith)
-phase-turns (suc k) h = refl
+-- one worker, and two
+abbrev pub one : ℕ → Worker → Worker → List Change
+one b x y = record { place = b; was = x; now = y } ∷ []
 
-pub phase-turns-limit : (p : Phase) → phaseTurns p ≤ 4
-phase-turns-limit poll = omega arith
-phase-turns-limit (look k) = omega arith
-phase-turns-limit (claim k) = omega arith
+abbrev pub two : ℕ → Worker → Worker → ℕ → Worker → Worker → List Change
+two b x y a x′ y′ = record { place = b; was = x; now = y } ∷ one a x′ y′
 
--- ---- sharing
-
--- what the two tests say
-tested : (p q r : Bool) → either p (both q r) ≡ true → (p ≡ true) ⊎ ((q ≡ true) × (r ≡ true))
-tested true q r e = inl refl
-tested false q r e = inr (both-true q r e)
-
--- a worker that shares carries more than K, or has since at least K and carries two
-pub shares-when : (K n c : ℕ) → shares K n c ≡ true → (K < c) ⊎ ((K ≤ n) × (2 ≤ c))
-shares-when K n c h =
-    ⊎-map (λ p. ltb-true K c p) (λ p. let two = leb-true _ c (p .1) in omega (arith, leb-true K n (p .0), two)) (tested (ltb K c) (leb K n) _ h)
-
--- both halves of what is shared
-pub halves : (rs : List Run) → (carried (keep (half (carried rs)) rs) ≡ (carried rs + 1) / 2) × (carried (rest (half (carried rs)) rs) ≡ carried rs / 2)
-halves rs = omega (arith, carried-keep (half (carried rs)) rs, carried-split (half (carried rs)) rs)
+-- two workers that were so change
+pub fits-two : (ws : List Worker) (b a : ℕ) (x y x′ y′ : Worker) → getD ws b ended ≡ x → b < length ws
+    → getD ws a ended ≡ x′ → a < length ws → a ≢ b → Fits ws (two b x y a x′ y′)
+fits-two ws b a x y x′ y′ e h e′ h′ n = (e, h, (getD-set-other ws b a y ended n ∙ e′, rw length-set h′, tt))

@@ -3,44 +3,36 @@ use mathlib.Core.Path.{_≡_, ap}
 use mathlib.Core.Bool.{true}
 use mathlib.Core.List.{List}
 use Prim.Native.Nat.{ℕ}
-use native.Mathlib.Omega.{arith}
 use lib.ListN.{take}
 use Rattle.laws.specs.Sum.{sum, hit}
 use Rattle.laws.proofs.Sum.{sum-zero-each}
 use Rattle.graph.specs.Graph.{Graph}
 use Rattle.graph.specs.Chain.{Reach, here, on}
-use Rattle.graph.proofs.OverMarked.{over-leaves}
 use Rattle.machine.specs.Machine.{Setting, State, Entry, ended, allEnded}
 use Rattle.machine.specs.Accepted.{Accepted}
 use Rattle.machine.specs.Sound.{Marked, runsSum, heldSum, Sound}
 use Rattle.machine.specs.Demand2.{Demand2}
-use Rattle.machine.proofs.Facts.{total}
 use Rattle.machine.proofs.Ended.{ended-at}
-use Rattle.machine.proofs.Start.{sound}
+use Rattle.machine.proofs.Start.{sound, fresh}
 
-module _ {G : Graph} {starts : List ℕ} {W : ℕ} {g : Setting} {s : State} (A : Accepted G starts W g) (S : Sound G starts W g s)
+module _ {G : Graph} {starts : List ℕ} {W : ℕ} {g : Setting} {s : State} (S : Sound G starts W g s)
     (done : allEnded (s .workers) ≡ true) where
   -- nothing is held
   pub none-held : (f : ℕ → ℕ) → sum (heldSum f) (s .workers) ≡ 0
   unfolding runsSum sum
   none-held f = sum-zero-each (heldSum f) ended (s .workers) (λ (i : ℕ). ap (heldSum f) (ended-at (s .workers) done i))
 
-  -- every reachable object is marked: its references are in the trail, and their targets are marked
+  -- every reachable object is marked: nobody carries the references to it any more, so their targets are marked
   pub all-marked : {v : ℕ} → Reach G starts v → Marked (s .marks) v
   all-marked (here {v = v} h) = S .starts-marked v h
-  all-marked (on {u = u} e r l) =
-      S .targets-marked e
-      (omega (
-        arith,
-        S .once (hit e),
-        none-held (hit e),
-        over-leaves G (A .formed) (s .marks) (S .marks-length) e u (all-marked r) l,
-      ))
+  all-marked (on {u = u} e r l) = S .targets-marked e u l (all-marked r) (none-held (hit e))
 
+-- demand 2
 pub demand2 : {G : Graph} {starts : List ℕ} {W : ℕ} {g : Setting} → Accepted G starts W g → (xs : List Entry) → Demand2 G starts W g xs
 demand2 A xs =
     record {
-      marked-exactly = λ done v. (sound A xs .only-reached v, λ r. all-marked A (sound A xs) done r);
-      marked-only = sound A xs .only-reached;
-      sums = λ k. total A (sound A (take k xs));
+      marked-exactly = λ done v. (fresh A xs .only-reached v, λ r. all-marked (sound A xs) done r);
+      marked-only = fresh A xs .only-reached;
+      live-marks = sound A xs .live-is;
+      sums = λ k. sound A (take k xs) .total;
     }

@@ -1,23 +1,24 @@
 -- Demand 3 is not empty: all its clauses on store S with case A's turns, and, for every accepted graph, a schedule
 -- that clause 5 finishes.
-use mathlib.Core.Path.{_≡_, refl, ap, _∙_}
 use mathlib.Core.Bool.{true}
-use mathlib.Core.List.{List, [], _∷_}
-use mathlib.Core.Logic.{_↔_, by-cases}
-use Prim.Native.Nat.{ℕ, zero, suc, _*_, _≤_, _<_}
+use mathlib.Core.List.{[], _∷_, List}
+use Prim.Native.Nat.{ℕ, _+_, _<_, zero, suc, _*_, _≤_}
 use native.Mathlib.Omega.{arith}
-use native.Mathlib.Decide.{decLt}
-use lib.ListN.{length, replicate, length-replicate}
 use Rattle.laws.specs.Sum.{sum, hit}
-use Rattle.laws.proofs.Sum.{sum-snoc, hit-same}
-use Rattle.graph.specs.Graph.{Graph, Leaves}
-use Rattle.graph.specs.Chain.{Reach, leavingReached}
-use Rattle.machine.specs.Machine.{Setting, Entry, entries, result}
+use Rattle.laws.proofs.Sum.{hit-equal, sum-snoc, hit-same}
+use Rattle.graph.specs.Graph.{wellFormed, Graph, Leaves}
+use Rattle.graph.specs.Chain.{leavingReached, marksAt, Reach}
+use Rattle.graph.proofs.Formed.{formed}
+use Rattle.machine.specs.Run.{carried, keep, rest}
+use Rattle.machine.specs.Machine.{Setting, State, allEnded, entries, start, startRuns, turns, result, Entry}
 use Rattle.machine.specs.Drawings.{S, turnsA}
 use Rattle.machine.specs.Accepted.{Accepted}
 use Rattle.machine.specs.Demand2.{outcome}
-use Rattle.machine.specs.Demand3.{stretchBound, entriesOf, AllHave, eachInTurn, longEnough, Cut}
-use Rattle.machine.proofs.CaseA.{settingA, R-of-S, accepted-S, caseA, finished-A}
+use mathlib.Core.Path.{_≡_, refl, ap, _∙_}
+use mathlib.Core.Logic.{_↔_, by-cases}
+use native.Mathlib.Decide.{decLt}
+use lib.ListN.{length, replicate, length-replicate}
+use Rattle.machine.specs.Demand3.{stretchBound, entriesOf, AllHave, eachInTurn, longEnough, Cut, trailOf}
 use Rattle.machine.proofs.Demand3.{demand3}
 
 -- ---- every worker in turn
@@ -35,6 +36,7 @@ each-in-turn : (W k : ℕ) → AllHave W (replicate k (eachInTurn W))
 each-in-turn W zero = tt
 each-in-turn W (suc k) = (λ b h. in-turn W b (omega arith), each-in-turn W k)
 
+-- as many stretches as clause 5 asks for
 pub long-enough-cut : (G : Graph) (starts : List ℕ) (W : ℕ) → Cut W (stretchBound (leavingReached G starts) W) (longEnough G starts W)
 unfolding longEnough
 long-enough-cut G starts W =
@@ -52,16 +54,55 @@ long-enough {G} {starts} {W} A = demand3 A (longEnough G starts W) .finishes (lo
 
 -- ---- store S, case A
 
+-- D and K of case A
+abbrev pub settingA : Setting
+settingA = record { batch = 1; cutoff = 1 }
+
+-- R of store S
+pub R-of-S : leavingReached S (0 ∷ []) ≡ 5
+unfolding leavingReached
+R-of-S = refl
+
+-- the call is accepted
+pub accepted-S : Accepted S (0 ∷ []) 2 settingA
+unfolding wellFormed sum
+accepted-S =
+    record {
+      formed = formed S refl;
+      some-object = omega arith;
+      some-worker = omega arith;
+      workers-limit = omega arith;
+      some-batch = omega arith;
+      batch-limit = omega arith;
+      some-cutoff = omega arith;
+      cutoff-limit = omega arith;
+      starts-below = λ (v : ℕ) (h : 0 < hit v 0 + 0). omega (arith, hit-equal v 0 (omega arith));
+    }
+
+-- the state that case A's turns leave
+abbrev pub caseA : State
+caseA = outcome S (0 ∷ []) 2 settingA (entries turnsA)
+
+-- they finish
+pub finished-A : result caseA .finished ≡ true
+unfolding turns start entries turnsA startRuns carried marksAt keep rest allEnded
+finished-A = refl
+
+-- case A's trail
+abbrev pub trailA : List ℕ
+trailA = trailOf S (0 ∷ []) 2 settingA (entries turnsA)
+
 -- what each clause of demand 3 says of case A, with R = 5
 pub record OnS : Type 0 where
-  pub once : (e : ℕ) → sum (hit e) (caseA .trail) ≤ 1
-  pub followed : result caseA .followed ≡ length (caseA .trail)
-  pub exactly : (e : ℕ) → (0 < sum (hit e) (caseA .trail)) ↔ ((v : ℕ) × Reach S (0 ∷ []) v × Leaves S e v)
-  pub whole : length (caseA .trail) ≡ 5
-  pub handed : result caseA .handed * 1 ≤ 15
-  pub moved : result caseA .moved ≤ 37
+  pub once : (e : ℕ) → sum (hit e) trailA ≤ 1
+  pub followed : caseA .counts .followed ≡ length trailA
+  pub exactly : (e : ℕ) → (0 < sum (hit e) trailA) ↔ ((v : ℕ) × Reach S (0 ∷ []) v × Leaves S e v)
+  pub whole : length trailA ≡ 5
+  pub handed : caseA .counts .handed * 1 ≤ 15
+  pub moved : caseA .counts .moved ≤ 37
   pub finishes : (xs : List Entry) → Cut 2 37 xs → result (outcome S (0 ∷ []) 2 settingA xs) .finished ≡ true
 
+-- they hold
 pub on-S : OnS
 on-S =
     let d = demand3 accepted-S (entries turnsA) in

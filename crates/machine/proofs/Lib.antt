@@ -1,13 +1,12 @@
 pub mod Accept
-pub mod CaseA
 pub mod Runs
-pub mod Facts
 pub mod Marks
+pub mod Facts
 pub mod Move
 pub mod Change
+pub mod Step
 pub mod Kept
 pub mod Start
-pub mod Counts
 pub mod Ended
 pub mod Demand2
 pub mod Progress

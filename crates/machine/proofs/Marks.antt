@@ -1,45 +1,63 @@
--- One more mark.
+-- One more mark: x, a value above 0, is written at place v.
 use mathlib.Core.Path.{_≡_, refl, ap}
 use mathlib.Core.List.{List, [], _∷_}
 use mathlib.Core.Logic.{_⊎_, inl, inr, ⊎-map}
-use Prim.Native.Nat.{ℕ, zero, suc, _≤_, _<_}
+use Prim.Native.Nat.{ℕ, zero, suc, _+_, _≤_, _<_}
 use native.Mathlib.Omega.{arith}
+use native.Mathlib.Nat.{zero-add}
 use lib.ListN.{length, getD, set}
 use Rattle.laws.specs.Sum.{sum}
-use Rattle.machine.specs.Machine.{live}
+use Rattle.graph.specs.Chain.{overMarked}
+use Rattle.graph.proofs.OverMarked.{over-set, over-below}
+use Rattle.machine.specs.Machine.{claimMark, live}
 use Rattle.machine.specs.Sound.{Marked}
 
+-- a claim's mark is set; no other proof looks into its value
+pub claim-mark-set : (b : ℕ) → 0 < claimMark b
+claim-mark-set b = omega arith
+
+-- and it is at most the number of workers
+pub claim-mark-limit : (b W : ℕ) → b < W → claimMark b ≤ W
+claim-mark-limit b W h = omega arith
+
 -- a mark keeps every mark
-pub marked-keeps : (ms : List ℕ) (v k u : ℕ) → Marked ms u → Marked (set ms v (suc k)) u
-marked-keeps [] v k u h = h
-marked-keeps (m ∷ ms) zero k zero h = omega arith
-marked-keeps (m ∷ ms) zero k (suc u) h = h
-marked-keeps (m ∷ ms) (suc v) k zero h = h
-marked-keeps (m ∷ ms) (suc v) k (suc u) h = marked-keeps ms v k u h
+pub marked-keeps : (ms : List ℕ) (v x u : ℕ) → 0 < x → Marked ms u → Marked (set ms v x) u
+marked-keeps [] v x u p h = h
+marked-keeps (m ∷ ms) zero x zero p h = p
+marked-keeps (m ∷ ms) zero x (suc u) p h = h
+marked-keeps (m ∷ ms) (suc v) x zero p h = h
+marked-keeps (m ∷ ms) (suc v) x (suc u) p h = marked-keeps ms v x u p h
 
 -- and adds no other
-pub marked-from : (ms : List ℕ) (v k u : ℕ) → Marked (set ms v k) u → Marked ms u ⊎ (u ≡ v)
-marked-from [] v k u h = inl h
-marked-from (m ∷ ms) zero k zero h = inr refl
-marked-from (m ∷ ms) zero k (suc u) h = inl h
-marked-from (m ∷ ms) (suc v) k zero h = inl h
-marked-from (m ∷ ms) (suc v) k (suc u) h = ⊎-map (λ (p : Marked ms u). p) (λ (p : u ≡ v). ap suc p) (marked-from ms v k u h)
+pub marked-from : (ms : List ℕ) (v x u : ℕ) → Marked (set ms v x) u → Marked ms u ⊎ (u ≡ v)
+marked-from [] v x u h = inl h
+marked-from (m ∷ ms) zero x zero h = inr refl
+marked-from (m ∷ ms) zero x (suc u) h = inl h
+marked-from (m ∷ ms) (suc v) x zero h = inl h
+marked-from (m ∷ ms) (suc v) x (suc u) h = ⊎-map (λ (p : Marked ms u). p) (λ (p : u ≡ v). ap suc p) (marked-from ms v x u h)
 
-pub marked-there : (ms : List ℕ) (v k : ℕ) → v < length ms → Marked (set ms v (suc k)) v
-marked-there [] v k h = absurd (omega arith)
-marked-there (m ∷ ms) zero k h = omega arith
-marked-there (m ∷ ms) (suc v) k h = marked-there ms v k (omega arith)
+-- and stands there
+pub marked-there : (ms : List ℕ) (v x : ℕ) → 0 < x → v < length ms → Marked (set ms v x) v
+marked-there [] v x p h = absurd (omega arith)
+marked-there (m ∷ ms) zero x p h = p
+marked-there (m ∷ ms) (suc v) x p h = marked-there ms v x p (omega arith)
 
-pub live-more : (ms : List ℕ) (v k : ℕ) → getD ms v 1 ≡ 0 → live (set ms v (suc k)) ≡ suc (live ms)
-unfolding live sum
-live-more [] v k e = absurd (omega arith)
-live-more (zero ∷ ms) zero k e = omega arith
-live-more (suc m ∷ ms) zero k e = absurd (omega arith)
-live-more (m ∷ ms) (suc v) k e = omega (arith, live-more ms v k e)
+-- what is summed over the marked objects grows by the new one's share
+pub over-more : (f : ℕ → ℕ) (ms : List ℕ) (v x : ℕ) → 0 < x → getD ms v 1 ≡ 0 → overMarked f 0 (set ms v x) ≡ overMarked f 0 ms + f v
+over-more f ms v zero p e = absurd (omega arith)
+over-more f ms v (suc k) p e = omega (arith, over-set f 0 ms v k e, ap f (zero-add v))
 
-pub live-grows : (ms : List ℕ) (v k : ℕ) → live ms ≤ live (set ms v (suc k))
-unfolding live sum
-live-grows [] v k = omega arith
-live-grows (zero ∷ ms) zero k = omega arith
-live-grows (suc m ∷ ms) zero k = omega arith
-live-grows (m ∷ ms) (suc v) k = omega (arith, live-grows ms v k)
+-- live is the sum of 1 over the marked objects
+live-over : (b : ℕ) (ms : List ℕ) → overMarked (λ (v : ℕ). 1) b ms ≡ live ms
+unfolding live sum overMarked
+live-over b [] = refl
+live-over b (zero ∷ ms) = omega (arith, live-over (suc b) ms)
+live-over b (suc m ∷ ms) = omega (arith, live-over (suc b) ms)
+
+-- live grows by 1
+pub live-more : (ms : List ℕ) (v x : ℕ) → 0 < x → getD ms v 1 ≡ 0 → live (set ms v x) ≡ suc (live ms)
+live-more ms v x p e = omega (arith, over-more (λ (u : ℕ). 1) ms v x p e, live-over 0 ms, live-over 0 (set ms v x))
+
+-- more marks, more that are live
+pub live-grows : (ms ms′ : List ℕ) → ((v : ℕ) → Marked ms v → Marked ms′ v) → live ms ≤ live ms′
+live-grows ms ms′ h = omega (arith, over-below (λ (u : ℕ). 1) 0 ms ms′ h, live-over 0 ms, live-over 0 ms′)

@@ -1,215 +1,202 @@
--- The start is sound, and so is every state that turns reach from it.
-use mathlib.Core.Path.{_≡_, refl, sym, ap, _∙_}
-use mathlib.Core.List.{List, [], _∷_, _++_}
-use mathlib.Core.Logic.{_⊎_, inl, inr, ⊎-elim}
+-- The start is sound and fresh, and so is every state that turns reach from it.
+use mathlib.Core.Path.{_≡_, refl, sym, _∙_}
+use mathlib.Core.List.{List, [], _∷_, _++_, append-assoc, append-nil}
 use Prim.Native.Nat.{ℕ, zero, suc, _+_, _-_, _≤_, _<_}
 use native.Mathlib.Omega.{arith}
-use native.Mathlib.Nat.{zero-add}
 use lib.ListN.{length, getD, set, replicate, length-set, length-append, length-replicate}
+use Rattle.laws.specs.Every.{Every}
 use Rattle.laws.specs.Sum.{sum, hit}
-use Rattle.laws.proofs.Sum.{sum-none, either-positive, hit-equal, hit-same}
-use Rattle.graph.specs.Graph.{Graph, objects, first, degree}
-use Rattle.graph.specs.Chain.{here, overMarked, marksAt}
-use Rattle.graph.specs.Formed.{Formed}
+use Rattle.laws.proofs.Every.{every-append}
+use Rattle.laws.proofs.Sum.{sum-none, each-set, hit-same}
+use Rattle.graph.specs.Graph.{Graph, Leaves, objects, first, degree}
+use Rattle.graph.specs.Chain.{marksAt, reached}
 use Rattle.graph.specs.Leaving.{leavingSum}
-use Rattle.graph.proofs.OverMarked.{over-set, over-set-again, over-none}
+use Rattle.graph.proofs.OverMarked.{over-set-again, over-none, over-total, over-once, over-leaves}
+use Rattle.graph.proofs.Reached.{rounds-grows, reached-chain, starts-marked}
 use Rattle.machine.specs.Run.{Run, leaving}
-use Rattle.machine.specs.Machine.{Setting, State, Entry, Worker, idle, ended, busy, empty, poll, runsOf, live, newRun, startRuns, withRuns, unmarked, start, turn, turns}
+use Rattle.machine.specs.Machine.{Setting, State, Entry, Worker, idle, ended, busy, empty, poll, live, newRun, startRuns, withRuns, unmarked, start, turns, trail}
 use Rattle.machine.specs.Accepted.{Accepted}
-use Rattle.machine.specs.Sound.{Marked, Within, Every, WorkerSound, holds, waits, stopped, sinceOf, runsSum, heldSum, Sound}
-use Rattle.machine.proofs.Runs.{runs-append, runs-leaving, length-from, every-append, within-leaving}
-use Rattle.machine.proofs.Marks.{marked-keeps, marked-from, marked-there, live-more, live-grows}
-use Rattle.machine.proofs.Kept.{sound-turn}
+use Rattle.machine.specs.Sound.{Marked, Within, Whole, Carries, WorkerSound, holds, waits, stopped, sinceOf, runsSum, heldSum, carriedTimes, Sound, asks?, Fresh}
+use Rattle.machine.specs.Demand2.{outcome}
+use Rattle.machine.specs.Demand3.{trailOf}
+use Rattle.machine.proofs.Runs.{runs-append, runs-from, length-from, leaving-runs, inside-all}
+use Rattle.machine.proofs.Marks.{marked-keeps, marked-there, over-more, live-more, live-grows}
+use Rattle.machine.proofs.Step.{over}
+use Rattle.machine.proofs.Kept.{carried-all-is, sound-turn, fresh-turn}
 
 -- ---- marks set at a list of objects
 
-pub marks-at-length : (vs ms : List ℕ) → length (marksAt vs ms) ≡ length ms
+-- what one more mark keeps, all keep
+marks-at : (P : List ℕ → Type 0) → ((ms : List ℕ) (v : ℕ) → P ms → P (set ms v 1)) → (vs ms : List ℕ) → P ms → P (marksAt vs ms)
 unfolding marksAt
-marks-at-length [] ms = refl
-marks-at-length (v ∷ vs) ms = marks-at-length vs (set ms v 1) ∙ length-set ms v 1
+marks-at P h [] ms t = t
+marks-at P h (v ∷ vs) ms t = marks-at P h vs (set ms v 1) (h ms v t)
+
+marks-at-length : (vs ms : List ℕ) → length (marksAt vs ms) ≡ length ms
+marks-at-length vs ms = marks-at (λ (l : List ℕ). length l ≡ length ms) (λ (l : List ℕ) (v : ℕ) (e : length l ≡ length ms). length-set l v 1 ∙ e) vs ms refl
 
 marks-at-keeps : (vs ms : List ℕ) (u : ℕ) → Marked ms u → Marked (marksAt vs ms) u
-unfolding marksAt
-marks-at-keeps [] ms u h = h
-marks-at-keeps (v ∷ vs) ms u h = marks-at-keeps vs (set ms v 1) u (marked-keeps ms v 0 u h)
+marks-at-keeps vs ms u = marks-at (λ (l : List ℕ). Marked l u) (λ (l : List ℕ) (v : ℕ). marked-keeps l v 1 u (omega arith)) vs ms
 
-marks-at-there : (vs ms : List ℕ) (u : ℕ) → u < length ms → 0 < sum (hit u) vs → Marked (marksAt vs ms) u
-unfolding marksAt sum
-marks-at-there [] ms u h p = absurd (omega arith)
-marks-at-there (v ∷ vs) ms u h p =
-    ⊎-elim
-    (λ (q : 0 < hit u v). rw (← (hit-equal u v q)) (marks-at-keeps vs (set ms u 1) u (marked-there ms u 0 h)))
-    (λ (q : 0 < sum (hit u) vs). marks-at-there vs (set ms v 1) u (rw length-set h) q)
-    (either-positive (hit u v) (sum (hit u) vs) p)
-
-marks-at-from : (vs ms : List ℕ) (u : ℕ) → Marked (marksAt vs ms) u → Marked ms u ⊎ (0 < sum (hit u) vs)
-unfolding marksAt sum
-marks-at-from [] ms u h = inl h
-marks-at-from (v ∷ vs) ms u h = ⊎-elim first (λ (p : 0 < sum (hit u) vs). inr (omega arith)) (marks-at-from vs (set ms v 1) u h)
-  where
-    first : Marked (set ms v 1) u → Marked ms u ⊎ (0 < hit u v + sum (hit u) vs)
-    first p =
-        ⊎-elim
-        (λ (q : Marked ms u). inl q)
-        (λ (q : u ≡ v). inr (omega (arith, ap (hit u) q, hit-same u)))
-        (marked-from ms v 1 u p)
-
-none-marked : (n u : ℕ) → Marked (replicate n 0) u → ⊥
-none-marked zero u h = omega arith
-none-marked (suc n) zero h = omega arith
-none-marked (suc n) (suc u) h = none-marked n u h
+none-marked : (n u : ℕ) → getD (replicate {A = ℕ} n 0) u 0 ≡ 0
+none-marked zero u = refl
+none-marked (suc n) zero = refl
+none-marked (suc n) (suc u) = none-marked n u
 
 -- ---- the starts' runs
 
-start-runs-sum : (G : Graph) (f : ℕ → ℕ) (vs ms : List ℕ)
-    → runsSum f (startRuns G vs ms) + overMarked (leavingSum G f) 0 ms ≡ overMarked (leavingSum G f) 0 (marksAt vs ms)
-unfolding startRuns marksAt runsSum sum
-start-runs-sum G f [] ms = omega arith
-start-runs-sum G f (v ∷ vs) ms = by (getD ms v 1) refl (start-runs-sum G f vs (set ms v 1))
-  where
-    by : (x : ℕ) → getD ms v 1 ≡ x
-        → runsSum f (startRuns G vs (set ms v 1)) + overMarked (leavingSum G f) 0 (set ms v 1)
-        ≡ overMarked (leavingSum G f) 0 (marksAt vs (set ms v 1))
-        → runsSum f (newRun x (leaving G v) ++ startRuns G vs (set ms v 1)) + overMarked (leavingSum G f) 0 ms
-        ≡ overMarked (leavingSum G f) 0 (marksAt vs (set ms v 1))
-    by zero e ih =
-        omega (
-          arith,
-          ih,
-          runs-append f (leaving G v) (startRuns G vs (set ms v 1)),
-          runs-leaving f G v,
-          ap (leavingSum G f) (zero-add v),
-          over-set (leavingSum G f) 0 ms v 0 e,
-        )
-    by (suc x) e ih = omega (arith, ih, over-set-again (leavingSum G f) 0 ms v 0 x e)
-
-start-runs-room : (G : Graph) (vs ms : List ℕ) → length (startRuns G vs ms) + live ms ≤ live (marksAt vs ms)
-unfolding startRuns marksAt
-start-runs-room G [] ms = omega arith
-start-runs-room G (v ∷ vs) ms = by (getD ms v 1) refl (start-runs-room G vs (set ms v 1))
-  where
-    by : (x : ℕ) → getD ms v 1 ≡ x
-        → length (startRuns G vs (set ms v 1)) + live (set ms v 1) ≤ live (marksAt vs (set ms v 1))
-        → length (newRun x (leaving G v) ++ startRuns G vs (set ms v 1)) + live ms ≤ live (marksAt vs (set ms v 1))
-    by zero e ih = rw length-append (omega (arith, ih, length-from (first G v) (degree G v), live-more ms v 0 e))
-    by (suc x) e ih = omega (arith, ih, live-grows ms v 0)
-
-start-runs-within : (G : Graph) → Formed G → (vs ms : List ℕ) → length ms ≡ objects G
-    → ((v : ℕ) → 0 < sum (hit v) vs → v < objects G) → Every (Within G (marksAt vs ms)) (startRuns G vs ms)
-unfolding startRuns marksAt sum
-start-runs-within G F [] ms l h = tt
-start-runs-within G F (v ∷ vs) ms l h =
-    by
-    (getD ms v 1)
-    (start-runs-within G F vs (set ms v 1) (length-set ms v 1 ∙ l) (λ (u : ℕ) (p : 0 < sum (hit u) vs). h u (omega arith)))
-  where
-    by : (x : ℕ) → Every (Within G (marksAt vs (set ms v 1))) (startRuns G vs (set ms v 1))
-        → Every (Within G (marksAt vs (set ms v 1))) (newRun x (leaving G v) ++ startRuns G vs (set ms v 1))
-    by zero ih =
-        let below : v < objects G = h v (omega (arith, hit-same v)) in
-        every-append
-        (Within G (marksAt vs (set ms v 1)))
-        (leaving G v)
-        (startRuns G vs (set ms v 1))
-        (within-leaving G (marksAt vs (set ms v 1)) F v below (marks-at-keeps vs (set ms v 1) v (marked-there ms v 0 (omega (arith, below, l)))))
-        ih
-    by (suc x) ih = ih
-
--- ---- the start
-
--- no other worker counts
-with-runs-sum : (f : Worker → ℕ) (rs : List Run) (k : ℕ) → f idle ≡ 0 → sum f (withRuns rs ∷ replicate k idle) ≡ f (withRuns rs)
-unfolding sum
-with-runs-sum f rs k e = omega (arith, sum-none f k idle e)
-
-worker-start : (rs : List Run) (k i : ℕ) → (P : Worker → Type 0) → P (withRuns rs) → P idle → P ended
-    → P (getD (withRuns rs ∷ replicate k idle) i ended)
-worker-start rs k zero P w d x = w
-worker-start rs k (suc i) P w d x = rest k i
-  where
-    rest : (k i : ℕ) → P (getD (replicate k idle) i ended)
-    rest zero i = x
-    rest (suc k) zero = d
-    rest (suc k) (suc i) = rest k i
-
-with-runs-runs : (rs : List Run) → runsOf (withRuns rs) ≡ rs
-with-runs-runs [] = refl
-with-runs-runs (r ∷ rs) = refl
-
--- a weight that an idle worker does not have, nor one that has just begun
-pub none-at-start : (f : Worker → ℕ) (rs : List Run) (k : ℕ) → f idle ≡ 0
-    → ((r : Run) (rs : List Run) → f (busy empty 0 poll (r ∷ rs)) ≡ 0) → sum f (withRuns rs ∷ replicate k idle) ≡ 0
-none-at-start f [] k e h = with-runs-sum f [] k e ∙ e
-none-at-start f (r ∷ rs) k e h = with-runs-sum f (r ∷ rs) k e ∙ h r rs
+-- the runs rs of the objects that are marked in ms′ and not in ms
+record Begun (G : Graph) (ms ms′ : List ℕ) (rs : List Run) : Type 0 where
+  sums : (f : ℕ → ℕ) → runsSum f rs + over G f ms ≡ over G f ms′
+  room : length rs + live ms ≤ live ms′
+  within : Every (Within G ms′) rs
+  whole : Every (Whole G) rs
 
 module _ {G : Graph} {starts : List ℕ} {W : ℕ} {g : Setting} (A : Accepted G starts W g) where
-  start-worker : (ms : List ℕ) (rs : List Run) → length rs ≤ live ms → Every (Within G ms) rs → WorkerSound G g ms (withRuns rs)
-  start-worker ms [] h t = tt
-  start-worker ms (r ∷ rs) h t =
-      record {
-        carries = record { some = omega arith; room = h; within = t };
-        batch-limit = omega arith;
-        batch-carried = omega arith;
-      }
+  begun : (vs ms : List ℕ) → length ms ≡ objects G → ((v : ℕ) → 0 < sum (hit v) vs → v < objects G) → Begun G ms (marksAt vs ms) (startRuns G vs ms)
+  unfolding startRuns marksAt runsSum sum
+  begun [] ms l h = record { sums = λ (f : ℕ → ℕ). omega arith; room = omega arith; within = tt; whole = tt }
+  begun (v ∷ vs) ms l h =
+      by (getD ms v 1) refl (begun vs (set ms v 1) (length-set ms v 1 ∙ l) (λ (u : ℕ) (p : 0 < sum (hit u) vs). h u (omega arith)))
+    where
+      by : (x : ℕ) → getD ms v 1 ≡ x → Begun G (set ms v 1) (marksAt vs (set ms v 1)) (startRuns G vs (set ms v 1))
+          → Begun G ms (marksAt vs (set ms v 1)) (newRun x (leaving G v) ++ startRuns G vs (set ms v 1))
+      by zero e t =
+          let rs = startRuns G vs (set ms v 1) in
+          let below : v < objects G = h v (omega (arith, hit-same v)) in
+          let m = marks-at-keeps vs (set ms v 1) v (marked-there ms v 1 (omega arith) (omega (arith, below, l))) in
+          let own = leaving-runs G (marksAt vs (set ms v 1)) (A .formed) v below m in
+          record {
+            sums = λ (f : ℕ → ℕ).
+                omega (arith, t .sums f, runs-append f (leaving G v) rs, runs-from f (first G v) (degree G v), over-more (leavingSum G f) ms v 1 (omega arith) e);
+            room = rw length-append (omega (arith, t .room, length-from (first G v) (degree G v), live-more ms v 1 (omega arith) e));
+            within = every-append (Within G (marksAt vs (set ms v 1))) (leaving G v) rs (own .0) (t .within);
+            whole = every-append (Whole G) (leaving G v) rs (own .1) (t .whole);
+          }
+      by (suc x) e t =
+          record {
+            sums = λ (f : ℕ → ℕ). omega (arith, t .sums f, over-set-again (leavingSum G f) 0 ms v 0 x e);
+            room = omega (arith, t .room, live-grows ms (set ms v 1) (λ (u : ℕ). marked-keeps ms v 1 u (omega arith)));
+            within = t .within;
+            whole = t .whole;
+          }
 
-  pub sound-start : Sound G starts W g (start G starts W)
+-- ---- the first worker begins, the others are idle
+
+-- what holds of a worker that begins with runs rs, of an idle one and of one that is not there, holds of each
+each-start : (P : Worker → Type 0) (rs : List Run) (k : ℕ) → (0 < length rs → P (busy empty 0 poll rs)) → P idle → P ended → (i : ℕ)
+    → P (getD (withRuns rs ∷ replicate k idle) i ended)
+each-start P rs k w d x i = by rs i w
+  where
+    others : (k i : ℕ) → P (getD (replicate k idle) i ended)
+    others zero i = x
+    others (suc k) zero = d
+    others (suc k) (suc i) = others k i
+
+    by : (rs : List Run) (i : ℕ) → (0 < length rs → P (busy empty 0 poll rs)) → P (getD (withRuns rs ∷ replicate k idle) i ended)
+    by [] zero w = d
+    by (r ∷ rs) zero w = w (omega arith)
+    by [] (suc i) w = others k i
+    by (r ∷ rs) (suc i) w = others k i
+
+-- only the first worker counts
+sum-start : (f : Worker → ℕ) (h : List Run → ℕ) (rs : List Run) (k : ℕ) → f idle ≡ 0 → h [] ≡ 0
+    → ((rs : List Run) → f (busy empty 0 poll rs) ≡ h rs) → sum f (withRuns rs ∷ replicate k idle) ≡ h rs
+unfolding sum
+sum-start f h [] k e z w = omega (arith, sum-none f k idle e)
+sum-start f h (r ∷ rs) k e z w = omega (arith, sum-none f k idle e, w (r ∷ rs))
+
+module _ {G : Graph} {starts : List ℕ} {W : ℕ} {g : Setting} (A : Accepted G starts W g) where
+  marks-long : length (start G starts W .marks) ≡ objects G
+  unfolding start
+  marks-long = marks-at-length starts (unmarked G) ∙ length-replicate (objects G) 0
+
+  begun-start : Begun G (unmarked G) (start G starts W .marks) (startRuns G starts (unmarked G))
+  unfolding start
+  begun-start = begun A starts (unmarked G) (length-replicate (objects G) 0) (A .starts-below)
+
+  -- a weight that nobody has at the start
+  none-start : (f : Worker → ℕ) → f idle ≡ 0 → ((rs : List Run) → f (busy empty 0 poll rs) ≡ 0) → sum f (start G starts W .workers) ≡ 0
+  unfolding start
+  none-start f e w = sum-start f (λ (rs : List Run). 0) (startRuns G starts (unmarked G)) (W - 1) e refl w
+
+  -- the starts' references are carried, each once
+  held-start : (f : ℕ → ℕ) → sum (heldSum f) (start G starts W .workers) ≡ over G f (start G starts W .marks)
   unfolding start runsSum sum
+  held-start f =
+      let all = sum-start (heldSum f) (runsSum f) (startRuns G starts (unmarked G)) (W - 1) refl refl (λ (rs : List Run). refl) in
+      omega (arith, all, begun-start .sums f, over-none (leavingSum G f) 0 (objects G))
+
+  -- the start is sound
+  pub sound-start : Sound G starts W g (start G starts W)
+  unfolding start
   sound-start =
       let ms = marksAt starts (unmarked G) in
       let rs = startRuns G starts (unmarked G) in
-      let unmarked-length : length (unmarked G) ≡ objects G = length-replicate (objects G) 0 in
+      let t = begun-start in
+      let carries : 0 < length rs → Carries G ms rs = λ (h : 0 < length rs).
+      record { some = h; room = omega (arith, t .room); within = t .within; whole-inside = inside-all G rs (t .whole) }
+      in
       record {
-        marks-length = marks-at-length starts (unmarked G) ∙ unmarked-length;
+        marks-length = marks-long;
         workers-length = omega (arith, length-replicate (W - 1) idle, A .some-worker);
+        marks-limit =
+            marks-at (λ (l : List ℕ). (v : ℕ) → getD l v 0 ≤ W)
+            (λ (l : List ℕ) (v : ℕ) (h : (v : ℕ) → getD l v 0 ≤ W). each-set (λ (x : ℕ). x ≤ W) l v 1 0 h (A .some-worker))
+            starts
+            (unmarked G)
+            (λ (v : ℕ). omega (arith, none-marked (objects G) v));
         starts-marked = λ (v : ℕ) (h : 0 < sum (hit v) starts).
-            marks-at-there starts (unmarked G) v (omega (arith, unmarked-length, A .starts-below v h)) h;
-        only-reached = λ (v : ℕ) (m : Marked ms v).
-            ⊎-elim
-            (λ (p : Marked (unmarked G) v). absurd (none-marked (objects G) v p))
-            (λ (p : 0 < sum (hit v) starts). here p)
-            (marks-at-from starts (unmarked G) v m);
-        each-worker = λ (i : ℕ).
-            worker-start
-            rs
-            (W - 1)
-            i
-            (WorkerSound G g ms)
-            (start-worker
-            ms
-            rs
-            (omega (arith, start-runs-room G starts (unmarked G)))
-            (start-runs-within G (A .formed) starts (unmarked G) unmarked-length (A .starts-below)))
+            starts-marked starts (unmarked G) v h (rw length-replicate (A .starts-below v h));
+        live-is = refl;
+        each-worker =
+            each-start (WorkerSound G g ms) rs (W - 1)
+            (λ (h : 0 < length rs). record { carries = carries h; batch-limit = omega arith; batch-carried = omega arith })
             tt
             tt;
+        carried-once = λ (e : ℕ). omega (arith, held-start (hit e), over-once G (A .formed) ms marks-long e);
+        total = omega (arith, held-start (λ (e : ℕ). 1), carried-all-is (start G starts W .workers), over-total G (A .formed) ms marks-long);
+        targets-marked = λ (e v : ℕ) (l : Leaves G e v) (m : Marked ms v) (h : carriedTimes (start G starts W) e ≡ 0).
+            absurd (omega (arith, held-start (hit e), over-leaves G (A .formed) ms marks-long e v m l));
         cells = λ (i : ℕ).
-            none-at-start (holds i) rs (W - 1) refl (λ (r : Run) (l : List Run). refl)
-            ∙ sym (worker-start rs (W - 1) i (λ (w : Worker). waits w ≡ 0) (no-wait rs) refl refl);
-        once = λ (f : ℕ → ℕ).
-            omega (
-              arith,
-              with-runs-sum (heldSum f) rs (W - 1) refl,
-              ap (runsSum f) (with-runs-runs rs),
-              start-runs-sum G f starts (unmarked G),
-              over-none (leavingSum G f) 0 (objects G),
-            );
-        targets-marked = λ (e : ℕ) (h : 0 < sum (hit e) []). absurd (omega arith);
-        stopped-empty = λ (h : 0 < sum stopped (withRuns rs ∷ replicate (W - 1) idle)).
-            absurd (omega (arith, none-at-start stopped rs (W - 1) refl (λ (r : Run) (l : List Run). refl)));
-        since-followed = omega (arith, none-at-start sinceOf rs (W - 1) refl (λ (r : Run) (l : List Run). refl));
+            none-start (holds i) refl (λ (l : List Run). refl)
+            ∙ sym (each-start (λ (w : Worker). waits w ≡ 0) rs (W - 1) (λ (h : 0 < length rs). refl) refl refl i);
+        stopped-empty = λ (h : 0 < sum stopped (start G starts W .workers)).
+            absurd (omega (arith, none-start stopped refl (λ (l : List Run). refl)));
+        since-followed = omega (arith, none-start sinceOf refl (λ (l : List Run). refl));
         refused-moved = omega arith;
-        handed-moved = omega arith;
-        followed-moved = omega arith;
       }
-    where
-      no-wait : (rs : List Run) → waits (withRuns rs) ≡ 0
-      no-wait [] = refl
-      no-wait (r ∷ rs) = refl
 
-  pub sound-turns : (s : State) → Sound G starts W g s → (xs : List Entry) → Sound G starts W g (turns G g s xs)
+  -- what is marked at the start is reachable, and nothing is followed yet
+  pub fresh-start : Fresh G starts g (start G starts W) []
+  unfolding start reached sum
+  fresh-start =
+      record {
+        only-reached = λ (v : ℕ) (m : Marked (marksAt starts (unmarked G)) v).
+            reached-chain G starts v (rounds-grows G (objects G) (marksAt starts (unmarked G)) v m);
+        once = λ (f : ℕ → ℕ). omega (arith, held-start f);
+        turn-count = omega (arith, none-start asks? refl (λ (l : List Run). refl));
+        handed-count = omega (arith, none-start sinceOf refl (λ (l : List Run). refl));
+      }
+
+  -- ---- over lists of turns
+
+  -- turns keep a state sound
+  pub sound-turns : {s : State} → Sound G starts W g s → (xs : List Entry) → Sound G starts W g (turns G g s xs)
   unfolding turns
-  sound-turns s S [] = S
-  sound-turns s S (x ∷ xs) = sound-turns (turn G g s x) (sound-turn A S x) xs
+  sound-turns S [] = S
+  sound-turns S (x ∷ xs) = sound-turns (sound-turn A S x) xs
 
-  -- every state that turns reach
-  pub sound : (xs : List Entry) → Sound G starts W g (turns G g (start G starts W) xs)
-  sound xs = sound-turns (start G starts W) sound-start xs
+  -- turns keep a collection fresh; what they take off joins the trail
+  pub fresh-turns : {s : State} {l : List ℕ} → Sound G starts W g s → Fresh G starts g s l → (xs : List Entry)
+      → Fresh G starts g (turns G g s xs) (l ++ trail G g s xs)
+  unfolding turns trail
+  fresh-turns {s} {l} S F [] = rw append-nil F
+  fresh-turns {s} {l} S F (x ∷ xs) = rw append-assoc at (fresh-turns (sound-turn A S x) (fresh-turn A S F x) xs)
+
+  -- every state that turns reach from the start is sound, and fresh with the trail of these turns
+  pub sound : (xs : List Entry) → Sound G starts W g (outcome G starts W g xs)
+  sound xs = sound-turns sound-start xs
+
+  pub fresh : (xs : List Entry) → Fresh G starts g (outcome G starts W g xs) (trailOf G starts W g xs)
+  fresh xs = fresh-turns sound-start fresh-start xs

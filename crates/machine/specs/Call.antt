@@ -1,5 +1,4 @@
--- Document 01, "What a call returns": the marker's checks in their order, its answer, and the lent buffers afterwards.
--- "The marker checks 8, 4 (n is one less than the offsets' length, m the targets' length), 7, 10, 5, 9."
+-- SPECIFICATION 2: the marker's checks in their order (8, 4, 7, 10, 5, 9), its answer, and the lent buffers afterwards.
 use Prim.Native.Nat.{ℕ, zero, suc, _*_}
 use mathlib.Core.Bool.{Bool, true, false, not, _||_}
 use mathlib.Core.List.{List, [], _∷_}
@@ -9,7 +8,9 @@ use Rattle.laws.specs.Choice.{both}
 use Rattle.refusal.specs.Order.{raise, first}
 use Rattle.graph.specs.Graph.{Graph, graph, objects, wellFormed}
 use Rattle.graph.specs.Limits.{most-objects, most-references}
-use Rattle.machine.specs.Machine.{Setting, State, Entry, Result, result, entries, memory, stretchLength}
+use Rattle.machine.specs.Limits.{most-workers, most-setting}
+use Rattle.machine.specs.Row.{Row, refusedRow}
+use Rattle.machine.specs.Machine.{Setting, State, result, entries, memory, stretchLength}
 use Rattle.machine.specs.Demand2.{outcome}
 
 -- what the marker is given, beside the buffers that it writes
@@ -34,25 +35,19 @@ startsOf c = c .index ∷ []
 
 -- ---- the checks
 
-abbrev pub most-workers : ℕ
-most-workers = 16
-
-abbrev pub most-setting : ℕ
-most-setting = 65535
-
 -- not 1 to the largest
 abbrev pub outside : ℕ → ℕ → Bool
 outside most x = ltb x 1 || ltb most x
 
--- 8: "boxes not 1 to 16, or batch D or cutoff K not 1 to 65,535"
+-- 8: W, D or K outside its range
 abbrev pub settingFault : ℕ → ℕ → ℕ → ℕ
 settingFault W D K = raise (outside most-workers W || outside most-setting D || outside most-setting K) 8 0
 
--- 4: "n or m outside its range"; offsets of length 0 or 1 give no n of 1 or more
+-- 4: n or m outside its range; offsets of length 0 or 1 give no n of 1 or more
 abbrev pub countFault : List ℕ → List ℕ → ℕ
 countFault offsets targets = raise (ltb (length offsets) 2 || ltb (most-objects) (objects (graph offsets targets)) || ltb most-references (length targets)) 4 0
 
--- 7: "Lengths are exact: n marks, W × (2n + 4) work words"
+-- 7: not n marks, or not W × (2n + 4) work words
 abbrev pub bufferFault : ℕ → ℕ → ℕ → ℕ → ℕ
 bufferFault n W marks work = raise (not (eqb marks n) || not (eqb work (W * stretchLength n))) 7 0
 
@@ -60,7 +55,7 @@ bufferFault n W marks work = raise (not (eqb marks n) || not (eqb work (W * stre
 abbrev pub graphFault : Graph → ℕ
 graphFault G = raise (not (wellFormed G)) 10 0
 
--- 5: "index not below n"
+-- 5: the index is no object
 abbrev pub indexFault : ℕ → ℕ → ℕ
 indexFault n index = raise (not (ltb index n)) 5 0
 
@@ -70,7 +65,7 @@ scheduleFits W [] = true
 scheduleFits W (b ∷ []) = false
 scheduleFits W (b ∷ v ∷ l) = both (ltb b W) (scheduleFits W l)
 
--- 9: "schedule of odd length, or an entry whose box is not below W"
+-- 9: a schedule of odd length, or an entry whose worker is not below W
 abbrev pub scheduleFault : ℕ → List ℕ → ℕ
 scheduleFault W schedule = raise (not (scheduleFits W schedule)) 9 0
 
@@ -90,35 +85,9 @@ fault c marks work =
 abbrev pub final : Call → State
 final c = outcome (graphOf c) (startsOf c) (c .workers) (settingOf c) (entries (c .schedule))
 
--- a row of the table: the number returned (0 for none), and the result
-pub record Row : Type 0 where
-  pub number : ℕ
-  pub finished : Bool
-  pub live : ℕ
-  pub followed : ℕ
-  pub handed : ℕ
-  pub refused : ℕ
-  pub moved : ℕ
-
--- "Beside a refusal all other result fields are 0."
-abbrev pub refusedRow : ℕ → Row
-refusedRow k = record { number = k; finished = false; live = 0; followed = 0; handed = 0; refused = 0; moved = 0 }
-
-abbrev pub resultRow : Result → Row
-resultRow r =
-    record {
-      number = 0;
-      finished = r .finished;
-      live = r .live;
-      followed = r .followed;
-      handed = r .handed;
-      refused = r .refused;
-      moved = r .moved;
-    }
-
 -- by the number of the fault
 abbrev pub answerFor : ℕ → Call → Row
-answerFor zero c = resultRow (result (final c))
+answerFor zero c = result (final c)
 answerFor (suc k) c = refusedRow (suc k)
 
 -- what the call answers, where the buffers are these beforehand

@@ -1,5 +1,5 @@
--- Demand 2 of the marker, over the turns: "in a finished collection a mark is set exactly where a chain leads", and
--- document 01's sum after every turn.
+-- Demand 2 of the marker, over the turns: in a finished collection a mark is set exactly where a chain leads
+-- (SPECIFICATION 3), and the sum of SPECIFICATION 4.3 after every turn.
 use mathlib.Core.Path.{_≡_}
 use mathlib.Core.Bool.{true}
 use mathlib.Core.List.{List}
@@ -9,7 +9,7 @@ use lib.ListN.{take}
 use Rattle.graph.specs.Graph.{Graph, references}
 use Rattle.graph.specs.Chain.{Reach}
 use Rattle.graph.specs.Leaving.{leavingUnmarked}
-use Rattle.machine.specs.Machine.{Setting, State, Entry, start, turns, result, carriedAll}
+use Rattle.machine.specs.Machine.{Setting, State, Entry, start, turns, result, carriedAll, live}
 use Rattle.machine.specs.Sound.{Marked}
 
 -- what a call's turns leave
@@ -22,9 +22,11 @@ pub record Demand2 (G : Graph) (starts : List ℕ) (W : ℕ) (g : Setting) (xs :
       → (v : ℕ) → Marked (outcome G starts W g xs .marks) v ↔ Reach G starts v
   -- finished or not: only then
   pub marked-only : (v : ℕ) → Marked (outcome G starts W g xs .marks) v → Reach G starts v
-  -- "After every turn, followed, plus carried by all boxes, plus the references leaving unmarked objects, make m."
+  -- live is the number of marks set
+  pub live-marks : outcome G starts W g xs .counts .live ≡ live (outcome G starts W g xs .marks)
+  -- after every turn: followed, what all carry, and what leaves unmarked objects make m
   pub sums : (k : ℕ)
-      → result (outcome G starts W g (take k xs)) .followed
+      → outcome G starts W g (take k xs) .counts .followed
       + carriedAll (outcome G starts W g (take k xs))
       + leavingUnmarked G (outcome G starts W g (take k xs) .marks)
       ≡ references G

@@ -1,5 +1,4 @@
--- Document 01, "Drawings to be proved", A to J and L: one statement over one table, computed. (K is the
--- reader's: `catalogue/specs/Examples`.)
+-- The drawings A to J and L: one statement over one table, computed. (K is the reader's: `catalogue/specs/Examples`.)
 use mathlib.Core.Path.{_≡_, refl}
 use mathlib.Core.Bool.{Bool, true, false}
 use mathlib.Core.List.{List, [], _∷_, map}
@@ -8,8 +7,9 @@ use lib.ListN.{replicate}
 use Rattle.graph.specs.Graph.{Graph, objects, rising, allBelow, wellFormed}
 use Rattle.graph.specs.Chain.{marksAt}
 use Rattle.machine.specs.Run.{carried, keep, rest}
-use Rattle.machine.specs.Machine.{turns, start, startRuns, entries, allEnded, live, stretchLength}
-use Rattle.machine.specs.Call.{Call, Row, graphOf, final, fault, scheduleFits, refusedRow, marking}
+use Rattle.machine.specs.Machine.{turns, trail, start, startRuns, entries, allEnded, live, stretchLength}
+use Rattle.machine.specs.Row.{Row, refusedRow}
+use Rattle.machine.specs.Call.{Call, graphOf, settingOf, startsOf, fault, scheduleFits, marking}
 
 -- a call, and the row that it must give
 pub record Drawing : Type 0 where
@@ -42,7 +42,8 @@ turnsA = naming0 (0 ∷ 1 ∷ 0 ∷ 0 ∷ 0 ∷ 1 ∷ 1 ∷ 0 ∷ 1 ∷ 0 ∷ 0 
 
 -- no refusal; finished or not, live, followed, handed, refused, moved
 abbrev pub gives : Bool → ℕ → ℕ → ℕ → ℕ → ℕ → Row
-gives f l fo h r m = record { number = 0; finished = f; live = l; followed = fo; handed = h; refused = r; moved = m }
+gives f l fo h r m =
+    record { number = 0; finished = f; counts = record { live = l; followed = fo; handed = h; refused = r; moved = m } }
 
 -- the graph with W, D, K and a schedule; each has its index at 0
 abbrev pub drawing : Graph → ℕ → ℕ → ℕ → List ℕ → Row → Drawing
@@ -86,14 +87,16 @@ unfolding drawn drawings turns start entries allEnded live startRuns carried mar
 drawings-hold = refl
 
 -- the trail of a drawing's call
-unfoldable pub trailOf : Drawing → List ℕ
-unfolding turns start entries
-trailOf d = final (d .call) .trail
+unfoldable pub drawnTrail : Drawing → List ℕ
+unfolding trail start entries
+drawnTrail d =
+    let c = d .call in
+    trail (graphOf c) (settingOf c) (start (graphOf c) (startsOf c) (c .workers)) (entries (c .schedule))
 
 -- the trails of these: A's second worker loses a claim and follows all the same, and D goes on with what is left of
 -- a run before the run of a claimed target
 pub trails-hold :
-    map trailOf drawings
+    map drawnTrail drawings
     ≡ (0 ∷ 1 ∷ 2 ∷ 3 ∷ 4 ∷ [])
     ∷ (0 ∷ [])
     ∷ (0 ∷ [])
@@ -106,5 +109,5 @@ pub trails-hold :
     ∷ (0 ∷ 1 ∷ [])
     ∷ []
     ∷ []
-unfolding trailOf drawings allEnded live startRuns carried marksAt keep rest
+unfolding drawnTrail drawings allEnded live startRuns carried marksAt keep rest
 trails-hold = refl

@@ -1,8 +1,11 @@
-pub mod Call
-pub mod Machine
-pub mod Run
-pub mod Drawings
 pub mod Accepted
-pub mod Sound
+pub mod Call
 pub mod Demand2
 pub mod Demand3
+pub mod Drawings
+pub mod Limits
+pub mod Machine
+pub mod Move
+pub mod Row
+pub mod Run
+pub mod Sound

@@ -1,14 +1,16 @@
--- Document 01, "One turn", rule by rule. Document 01's box is a worker here; its words "cell", "since", "batch",
--- "carried", "followed", "handed", "refused" and "moved" are kept.
-use Prim.Native.Nat.{ℕ, zero, suc, _+_, _-_, _*_, _/_, min}
+-- SPECIFICATION 4, rule by rule: state, start, turns, sharing, work memory and result. A worker is the drawing's box.
+use Prim.Native.Nat.{ℕ, zero, suc, _+_, _-_, _*_, min}
 use mathlib.Core.Bool.{Bool, true, false}
 use mathlib.Core.List.{List, [], _∷_, _++_}
 use lib.ListN.{length, getD, set, replicate}
 use lib.Dec.{leb, ltb}
-use Rattle.laws.specs.Choice.{pick, both, either}
+use Rattle.laws.specs.Blocks.{laid}
+use Rattle.laws.specs.Choice.{both, either}
 use Rattle.laws.specs.Sum.{sum}
 use Rattle.graph.specs.Graph.{Graph, objects, target}
 use Rattle.graph.specs.Chain.{set?, marksAt}
+use Rattle.machine.specs.declared.Counts.{Counts}
+use Rattle.machine.specs.Row.{Row, freshCounts, countMove, countFollow}
 use Rattle.machine.specs.Run.{Run, run, runFrom, carried, leaving, keep, rest, half, pairs}
 
 -- A busy worker's batch, and what its next turn is: batch 0, a poll; batch k + 1, a look; batch k + 1, a claim.
@@ -29,14 +31,11 @@ pub data Worker : Type 0 where
   given : List Run → Worker
   busy : Cell → ℕ → Phase → List Run → Worker
 
--- What the turns change. The trail is in turn order; `followed` is its length.
+-- What the turns change: a mark for each object, the workers, and the counts.
 pub record State : Type 0 where
   pub marks : List ℕ
   pub workers : List Worker
-  pub trail : List ℕ
-  pub handed : ℕ
-  pub refused : ℕ
-  pub moved : ℕ
+  pub counts : Counts
 
 -- D and K
 pub record Setting : Type 0 where
@@ -52,7 +51,7 @@ pub record Entry : Type 0 where
 abbrev pub claimMark : ℕ → ℕ
 claimMark b = 1
 
--- the runs that a worker carries; "a hand-over counts for the asker from the sharing turn on"
+-- the runs that a worker carries; a hand-over is carried by the asker from the sharing turn on
 abbrev pub runsOf : Worker → List Run
 runsOf idle = []
 runsOf asking = []
@@ -76,6 +75,11 @@ worker s b = getD (s .workers) b ended
 -- Object v's mark; one that is not there counts as marked.
 abbrev pub markOf : State → ℕ → ℕ
 markOf s v = getD (s .marks) v 1
+
+-- how many marks are set
+unfoldable pub live : List ℕ → ℕ
+unfolding sum
+live ms = sum set? ms
 
 -- ---- The start: only the starts are marked, worker 0 carries their runs; every cell empty, every since and batch 0.
 
@@ -103,25 +107,14 @@ start G starts W =
     record {
       marks = marksAt starts (unmarked G);
       workers = withRuns (startRuns G starts (unmarked G)) ∷ replicate (W - 1) idle;
-      trail = [];
-      handed = 0;
-      refused = 0;
-      moved = 0;
+      counts = freshCounts (live (marksAt starts (unmarked G)));
     }
 
 -- ---- One turn. A turn that changes something goes through `moves` or `follows`, which count it.
 
 -- the state with these workers, and the counts raised by these
 abbrev pub moves : State → List Worker → ℕ → ℕ → State
-moves s ws handed⁺ refused⁺ =
-    record {
-      marks = s .marks;
-      workers = ws;
-      trail = s .trail;
-      handed = s .handed + handed⁺;
-      refused = s .refused + refused⁺;
-      moved = suc (s .moved);
-    }
+moves s ws handed⁺ refused⁺ = record { marks = s .marks; workers = ws; counts = countMove (s .counts) handed⁺ refused⁺ }
 
 -- worker b becomes w, and nothing else
 abbrev pub becomes : State → ℕ → Worker → State
@@ -132,8 +125,8 @@ abbrev pub phase : ℕ → Phase
 phase zero = poll
 phase (suc k) = look k
 
--- "if the named box is another one below W, busy, with an empty query cell, it writes itself there and is asking".
--- An idle worker is not busy, and one that is not there counts as ended, so busy is enough.
+-- An idle worker b asks the named worker v if that is another one, below W, busy, and its cell is empty: b stands in
+-- the cell and is asking. An idle worker is not busy, and one that is not there counts as ended, so busy is enough.
 abbrev pub asks : Worker → State → ℕ → ℕ → State
 asks idle s b v = s
 asks asking s b v = s
@@ -143,17 +136,17 @@ asks (given rs) s b v = s
 asks (busy empty n p rs) s b v = moves s (set (set (s .workers) v (busy (from b) n p rs)) b asking) 0 0
 asks (busy (from a) n p rs) s b v = s
 
--- "Idle: if no box carries anything, it ends"; the first argument is how many references all carry
+-- an idle worker ends if nobody carries anything; the first argument is how many references all carry
 abbrev pub idleTurn : ℕ → State → ℕ → ℕ → State
 idleTurn zero s b v = becomes s b ended
 idleTurn (suc k) s b v = asks (worker s v) s b v
 
--- "it shares when carried is above K, or when since is at least K and carried at least 2"
+-- a poll shares where more than K are carried, or where since is at least K and at least 2 are carried
 abbrev pub shares : ℕ → ℕ → ℕ → Bool
 shares K n c = either (ltb K c) (both (leb K n) (leb 2 c))
 
 -- Sharing: the worker that shares, with since n before, keeps the first half of its references; the asker is owed the
--- rest. "Both have since 0." (The asker's is set as it takes the hand-over up.)
+-- rest. Both have since 0. (The asker's is set as it takes the hand-over up.)
 abbrev pub giver : Setting → ℕ → List Run → Worker
 giver g n rs =
     let k = half (carried rs) in
@@ -162,13 +155,13 @@ giver g n rs =
 abbrev pub receiver : List Run → Worker
 receiver rs = given (rest (half (carried rs)) rs)
 
--- The answer to asker a at a poll: a hand-over, or a refusal. "Then batch becomes the smaller of D and carried."
+-- The answer to asker a at a poll: a hand-over, or a refusal. Then batch is the smaller of D and what is carried.
 abbrev pub answer : Bool → Setting → State → ℕ → ℕ → ℕ → List Run → State
 answer true g s b a n rs = moves s (set (set (s .workers) b (giver g n rs)) a (receiver rs)) 1 0
 answer false g s b a n rs =
     moves s (set (set (s .workers) b (busy empty n (phase (min (g .batch) (carried rs))) rs)) a denied) 0 1
 
--- "Busy, batch 0 (poll)"
+-- a poll: the cell empties, and a batch begins
 abbrev pub pollTurn : Cell → Setting → State → ℕ → ℕ → List Run → State
 pollTurn empty g s b n rs = becomes s b (busy empty n (phase (min (g .batch) (carried rs))) rs)
 pollTurn (from a) g s b n rs = answer (shares (g .cutoff) n (carried rs)) g s b a n rs
@@ -178,7 +171,7 @@ abbrev pub onward : Cell → ℕ → ℕ → List Run → Worker
 onward c n k [] = idle
 onward c n k (r ∷ rs) = busy c n (phase k) (r ∷ rs)
 
--- "A box left with nothing turns idle in that turn and refuses an asker in its cell."
+-- a worker left with nothing is idle in that turn, and refuses an asker in its cell
 abbrev pub dismiss : Cell → List Run → List Worker → List Worker
 dismiss empty rs ws = ws
 dismiss (from a) [] ws = set ws a denied
@@ -190,39 +183,57 @@ dismissed empty rs = 0
 dismissed (from a) [] = 1
 dismissed (from a) (r ∷ rs) = 0
 
--- "Following takes the reference off, lowers batch by 1 and raises since by 1."
--- Worker b follows reference e with cell c, since n and batch k + 1; ms are the marks and rs the runs after it.
-abbrev pub follows : State → ℕ → Cell → ℕ → ℕ → ℕ → List ℕ → List Run → State
-follows s b c n k e ms rs =
+-- What is found at a reference's target: the marks afterwards, the runs that it opens, and how many marks are new.
+pub record Claimed : Type 0 where
+  pub marks : List ℕ
+  pub opened : List Run
+  pub won : ℕ
+
+-- the target is marked already
+abbrev pub claimLost : State → Claimed
+claimLost s = record { marks = s .marks; opened = []; won = 0 }
+
+-- worker b marks the target v, whose references open; an object without references opens no run
+abbrev pub claimWon : Graph → State → ℕ → ℕ → Claimed
+claimWon G s b v = record { marks = set (s .marks) v (claimMark b); opened = leaving G v; won = 1 }
+
+-- a claim reads the mark again; the first argument is what it reads
+abbrev pub claims : ℕ → Graph → State → ℕ → ℕ → Claimed
+claims zero G s b v = claimWon G s b v
+claims (suc x) G s b v = claimLost s
+
+-- the runs after the first reference of `run e j` is taken off: what is left of it, then what opened, then the others
+abbrev pub onwardRuns : ℕ → ℕ → List Run → List Run → List Run
+onwardRuns e j opened rs = runFrom (suc e) j ++ (opened ++ rs)
+
+-- Following takes the first reference off, lowers batch by 1 and raises since by 1: worker b with cell c, since n and
+-- batch k + 1, where rs are its runs afterwards.
+abbrev pub follows : State → ℕ → Cell → ℕ → ℕ → Claimed → List Run → State
+follows s b c n k o rs =
     record {
-      marks = ms;
+      marks = o .marks;
       workers = dismiss c rs (set (s .workers) b (onward c (suc n) k rs));
-      trail = s .trail ++ (e ∷ []);
-      handed = s .handed;
-      refused = s .refused + dismissed c rs;
-      moved = suc (s .moved);
+      counts = countFollow (s .counts) (o .won) (dismissed c rs);
     }
 
--- "It looks at its first reference. Target marked: followed. Target unmarked: its next turn is a claim."
--- The first argument is the target's mark; the first run is `run e j`.
+-- A look at the first reference, of `run e j`: where the target is marked, the reference is followed; where not, the
+-- next turn is a claim. The first argument is the target's mark.
 abbrev pub lookTurn : ℕ → State → ℕ → Cell → ℕ → ℕ → ℕ → ℕ → List Run → State
 lookTurn zero s b c n k e j rs = becomes s b (busy c n (claim k) (run e j ∷ rs))
-lookTurn (suc x) s b c n k e j rs = follows s b c n k e (s .marks) (runFrom (suc e) j ++ rs)
+lookTurn (suc x) s b c n k e j rs = follows s b c n k (claimLost s) (onwardRuns e j [] rs)
 
--- "The claim reads again; still unmarked, the target is marked and its run goes directly after what is left of the
--- run being followed. No references, no run. Either way the reference is followed."
-abbrev pub claimTurn : ℕ → Graph → State → ℕ → Cell → ℕ → ℕ → ℕ → ℕ → List Run → State
-claimTurn zero G s b c n k e j rs =
-    follows s b c n k e (set (s .marks) (target G e) (claimMark b)) (runFrom (suc e) j ++ (leaving G (target G e) ++ rs))
-claimTurn (suc x) G s b c n k e j rs = follows s b c n k e (s .marks) (runFrom (suc e) j ++ rs)
+-- A claim of the target; the reference is followed, whether the claim is won or lost.
+abbrev pub claimTurn : Claimed → State → ℕ → Cell → ℕ → ℕ → ℕ → ℕ → List Run → State
+claimTurn o s b c n k e j rs = follows s b c n k o (onwardRuns e j (o .opened) rs)
 
--- "Busy": by its phase and its first run; a busy worker always has one.
+-- a busy worker's turn, by its phase and its first run; a busy worker always has one
 abbrev pub busyTurn : Phase → List Run → Graph → Setting → State → ℕ → Cell → ℕ → State
 busyTurn poll rs G g s b c n = pollTurn c g s b n rs
 busyTurn (look k) [] G g s b c n = s
 busyTurn (look k) (run e j ∷ rs) G g s b c n = lookTurn (markOf s (target G e)) s b c n k e j rs
 busyTurn (claim k) [] G g s b c n = s
-busyTurn (claim k) (run e j ∷ rs) G g s b c n = claimTurn (markOf s (target G e)) G s b c n k e j rs
+busyTurn (claim k) (run e j ∷ rs) G g s b c n =
+    claimTurn (claims (markOf s (target G e)) G s b (target G e)) s b c n k e j rs
 
 -- Worker b's turn, naming v, by what b is.
 abbrev pub workerTurn : Worker → Graph → Setting → State → ℕ → ℕ → State
@@ -236,13 +247,43 @@ workerTurn (busy c n p rs) G g s b v = busyTurn p rs G g s b c n
 unfoldable pub turn : Graph → Setting → State → Entry → State
 turn G g s x = workerTurn (worker s (x .worker)) G g s (x .worker) (x .named)
 
--- The turns in order: "the first acts on the start, each later one on what the turn before it left".
+-- the turns in order, each on what the turn before it left
 unfoldable pub turns : Graph → Setting → State → List Entry → State
 unfolding turn
 turns G g s [] = s
 turns G g s (x ∷ xs) = turns G g (turn G g s x) xs
 
--- "A schedule entry is two bytes: the box, and whom to ask (any value)."
+-- ---- The trail: the references that the turns take off by following.
+
+-- the reference e that a look takes off, by the target's mark
+abbrev pub lookTakes : ℕ → ℕ → List ℕ
+lookTakes zero e = []
+lookTakes (suc x) e = e ∷ []
+
+-- what a busy worker's turn takes off
+abbrev pub busyTakes : Phase → List Run → Graph → State → List ℕ
+busyTakes poll rs G s = []
+busyTakes (look k) [] G s = []
+busyTakes (look k) (run e j ∷ rs) G s = lookTakes (markOf s (target G e)) e
+busyTakes (claim k) [] G s = []
+busyTakes (claim k) (run e j ∷ rs) G s = e ∷ []
+
+-- what a worker's turn takes off: one reference, or none
+abbrev pub takes : Worker → Graph → State → List ℕ
+takes idle G s = []
+takes asking G s = []
+takes denied G s = []
+takes ended G s = []
+takes (given rs) G s = []
+takes (busy c n p rs) G s = busyTakes p rs G s
+
+-- the reference numbers that the turns take off, in turn order
+unfoldable pub trail : Graph → Setting → State → List Entry → List ℕ
+unfolding turn
+trail G g s [] = []
+trail G g s (x ∷ xs) = takes (worker s (x .worker)) G s ++ trail G g (turn G g s x) xs
+
+-- a schedule as entries: two bytes each, the worker and whom to ask
 unfoldable pub entries : List ℕ → List Entry
 entries [] = []
 entries (b ∷ []) = []
@@ -260,30 +301,9 @@ allEnded (ended ∷ ws) = allEnded ws
 allEnded (given rs ∷ ws) = false
 allEnded (busy c n p rs ∷ ws) = false
 
--- how many marks are set
-unfoldable pub live : List ℕ → ℕ
-unfolding sum
-live ms = sum set? ms
-
--- "The result: finished (all W ended) or unfinished; live, followed, handed, refused, moved."
-pub record Result : Type 0 where
-  pub finished : Bool
-  pub live : ℕ
-  pub followed : ℕ
-  pub handed : ℕ
-  pub refused : ℕ
-  pub moved : ℕ
-
-abbrev pub result : State → Result
-result s =
-    record {
-      finished = allEnded (s .workers);
-      live = live (s .marks);
-      followed = length (s .trail);
-      handed = s .handed;
-      refused = s .refused;
-      moved = s .moved;
-    }
+-- whether all have ended, and the counts
+abbrev pub result : State → Row
+result s = record { number = 0; finished = allEnded (s .workers); counts = s .counts }
 
 -- how many words one worker's stretch of the work memory has
 abbrev pub stretchLength : ℕ → ℕ
@@ -296,6 +316,5 @@ stretch n w = pairs (runsOf w) ++ replicate (stretchLength n - length (pairs (ru
 
 -- the work memory: the stretches laid end to end
 unfoldable pub memory : ℕ → List Worker → List ℕ
-unfolding stretch
-memory n [] = []
-memory n (w ∷ ws) = stretch n w ++ memory n ws
+unfolding stretch laid
+memory n ws = laid (stretch n) ws

@@ -1,4 +1,4 @@
--- Document 01, "One turn": "A box carries runs of references. 'Carried' is the number of references in them."
+-- SPECIFICATION 4.1: runs of references, which workers carry; what is carried is the number of references in them.
 use Prim.Native.Nat.{ℕ, zero, suc, _+_, _-_, _/_}
 use mathlib.Core.List.{List, [], _∷_, _++_}
 use lib.Dec.{ltb}
@@ -24,7 +24,7 @@ unfoldable pub carried : List Run → ℕ
 unfolding sum
 carried rs = sum size rs
 
--- object v's run: its references in order; "no references, no run"
+-- object v's run: its references in order; an object without references has none
 abbrev pub leaving : Graph → ℕ → List Run
 leaving G v = runFrom (first G v) (degree G v)
 
@@ -42,11 +42,11 @@ rest k (run f j ∷ rs) = pick (ltb j k) (rest (k - suc j) rs) (runFrom (f + k) 
 abbrev pub half : ℕ → ℕ
 half c = (c + 1) / 2
 
--- a run as document 01 writes it in the work memory: first, end (excluded)
+-- a run in the work memory: its first reference, and where it ends (excluded)
 abbrev pub pair : Run → List ℕ
 pair (run f k) = f ∷ (f + suc k) ∷ []
 
--- the pairs of runs, "the run to be followed last standing first"
+-- the pairs of runs, the run to be followed last standing first
 unfoldable pub pairs : List Run → List ℕ
 pairs [] = []
 pairs (r ∷ rs) = pairs rs ++ pair r

@@ -1,38 +1,18 @@
--- What holds of the state before and after every turn, as one record, and the two counting facts of demand 3 as
--- another.
+-- The invariants of the machine: `Sound`, what the words of a state can show, and `Fresh`, what a collection begun
+-- afresh has besides. Every turn keeps both.
 use mathlib.Core.Path.{_≡_}
 use Prim.Native.Nat.{ℕ, suc, _+_, _*_, _≤_, _<_, min}
 use mathlib.Core.List.{List, [], _∷_}
 use lib.ListN.{length, getD}
 use Rattle.laws.specs.Sum.{sum, hit}
+use Rattle.laws.specs.Every.{Every}
 use Rattle.laws.specs.Span.{span}
-use Rattle.graph.specs.Graph.{Graph, objects, first, after, target}
+use Rattle.graph.specs.Graph.{Graph, Leaves, objects, references, first, after, target}
 use Rattle.graph.specs.Chain.{Reach, overMarked}
-use Rattle.graph.specs.Leaving.{leavingSum}
+use Rattle.graph.specs.Leaving.{leavingSum, leavingUnmarked}
 use Rattle.machine.specs.Run.{Run, run, size, carried}
-use Rattle.machine.specs.Machine.{
-  Setting,
-  State,
-  Worker,
-  idle,
-  asking,
-  denied,
-  ended,
-  given,
-  busy,
-  Cell,
-  empty,
-  from,
-  Phase,
-  poll,
-  look,
-  claim,
-  worker,
-  runsOf,
-  carriedBy,
-  carriedAll,
-  live,
-}
+use Rattle.machine.specs.Machine.{Setting, State, Worker, idle, asking, denied, ended, given, busy, Cell, empty, from, Phase, poll, look, claim}
+use Rattle.machine.specs.Machine.{worker, runsOf, carriedBy, carriedAll, live}
 
 -- object v is marked
 abbrev pub Marked : List ℕ → ℕ → Type 0
@@ -52,24 +32,39 @@ pub record Within (G : Graph) (ms : List ℕ) (r : Run) : Type 0 where
   pub begins : first G object ≤ startOf r
   pub ends : startOf r + size r ≤ after G object
 
--- every run of a list is so
-abbrev pub Every : (Run → Type 0) → List Run → Type 0
-Every P [] = Unit {0}
-Every P (r ∷ rs) = P r × Every P rs
+-- the run is all references of one object
+pub record Whole (G : Graph) (r : Run) : Type 0 where
+  pub object : ℕ
+  pub is-object : object < objects G
+  pub begins : startOf r ≡ first G object
+  pub ends : startOf r + size r ≡ after G object
 
--- the runs of a worker that has some; there are no more than marked objects
+-- all but the last of some runs are whole
+abbrev pub WholeButLast : Graph → List Run → Type 0
+WholeButLast G [] = Unit {0}
+WholeButLast G (r ∷ []) = Unit {0}
+WholeButLast G (r ∷ q ∷ rs) = Whole G r × WholeButLast G (q ∷ rs)
+
+-- a run is whole unless it is the first or the last
+abbrev pub WholeInside : Graph → List Run → Type 0
+WholeInside G [] = Unit {0}
+WholeInside G (r ∷ rs) = WholeButLast G rs
+
+-- the runs of a worker that has some. There is at most one more than there are marked objects: only the first and the
+-- last can be parts of one object's references.
 pub record Carries (G : Graph) (ms : List ℕ) (rs : List Run) : Type 0 where
   pub some : 0 < length rs
-  pub room : length rs ≤ live ms
+  pub room : length rs ≤ suc (live ms)
   pub within : Every (Within G ms) rs
+  pub whole-inside : WholeInside G rs
 
--- document 01's batch
+-- the batch of a phase
 abbrev pub batchOf : Phase → ℕ
 batchOf poll = 0
 batchOf (look k) = suc k
 batchOf (claim k) = suc k
 
--- a busy worker: "batch is at most D and at most carried"
+-- a busy worker: batch is at most D, and at most what it carries
 pub record Working (G : Graph) (g : Setting) (ms : List ℕ) (p : Phase) (rs : List Run) : Type 0 where
   pub carries : Carries G ms rs
   pub batch-limit : batchOf p ≤ g .batch
@@ -139,30 +134,37 @@ heldSum f w = runsSum f (runsOf w)
 
 -- ---- the state
 
+-- how often reference e is carried
+abbrev pub carriedTimes : State → ℕ → ℕ
+carriedTimes s e = sum (heldSum (hit e)) (s .workers)
+
+-- What the words of a collection can show, whoever wrote them. A turn keeps it (`sound-turn`); with it, a finished
+-- collection has marked every reachable object (`all-marked`).
 pub record Sound (G : Graph) (starts : List ℕ) (W : ℕ) (g : Setting) (s : State) : Type 0 where
   pub marks-length : length (s .marks) ≡ objects G
   pub workers-length : length (s .workers) ≡ W
+  -- marks are 0 to W
+  pub marks-limit : (v : ℕ) → getD (s .marks) v 0 ≤ W
   pub starts-marked : (v : ℕ) → 0 < sum (hit v) starts → Marked (s .marks) v
-  -- a marked object is reachable
-  pub only-reached : (v : ℕ) → Marked (s .marks) v → Reach G starts v
+  -- live is the number of marks set
+  pub live-is : s .counts .live ≡ live (s .marks)
+  -- each worker's runs and batch; it carries references exactly when busy or owed a hand-over
   pub each-worker : (b : ℕ) → WorkerSound G g (s .marks) (worker s b)
+  -- no reference is carried twice
+  pub carried-once : (e : ℕ) → carriedTimes s e ≤ 1
+  -- followed, carried and what leaves unmarked objects make m
+  pub total : s .counts .followed + carriedAll s + leavingUnmarked G (s .marks) ≡ references G
+  -- a marked object's reference that nobody carries has a marked target
+  pub targets-marked : (e v : ℕ) → Leaves G e v → Marked (s .marks) v → carriedTimes s e ≡ 0 → Marked (s .marks) (target G e)
   -- an asker without a reply is in the cell of exactly one busy worker, and no one else is in a cell
   pub cells : (a : ℕ) → sum (holds a) (s .workers) ≡ waits (worker s a)
-  -- Each reference that leaves a marked object is either in the trail or carried, once, and no other is: the two sums
-  -- over the numbers agree for every weight f. With f counting one number, it stands there as often; with f = 1, it
-  -- is document 01's sum.
-  pub once : (f : ℕ → ℕ) → sum f (s .trail) + sum (heldSum f) (s .workers) ≡ overMarked (leavingSum G f) 0 (s .marks)
-  -- a marked object's reference that nobody carries has a marked target
-  pub targets-marked : (e : ℕ) → 0 < sum (hit e) (s .trail) → Marked (s .marks) (target G e)
   -- no worker has ended while references are carried
   pub stopped-empty : 0 < sum stopped (s .workers) → carriedAll s ≡ 0
   -- the sinces sum to at most followed
-  pub since-followed : sum sinceOf (s .workers) ≤ length (s .trail)
-  pub refused-moved : s .refused ≤ s .moved
-  pub handed-moved : s .handed ≤ s .moved
-  pub followed-moved : length (s .trail) ≤ s .moved
+  pub since-followed : sum sinceOf (s .workers) ≤ s .counts .followed
+  pub refused-moved : s .counts .refused ≤ s .counts .moved
 
--- ---- the counts
+-- ---- a collection begun afresh
 
 -- 1 for a worker that is asking, with a reply or without
 abbrev pub asks? : Worker → ℕ
@@ -196,6 +198,16 @@ turnsOf (busy c n p rs) = phaseTurns p + cellTurns c
 abbrev pub upTo : ℕ → Worker → ℕ
 upTo K w = min (2 * carriedBy w) K
 
-pub record Counted (g : Setting) (s : State) : Type 0 where
-  pub turn-count : s .moved + sum asks? (s .workers) ≤ 7 * length (s .trail) + sum turnsOf (s .workers)
-  pub handed-count : g .cutoff * s .handed + sum sinceOf (s .workers) ≤ 3 * length (s .trail) + sum (upTo (g .cutoff)) (s .workers)
+-- What a collection begun afresh has besides, where l is its trail so far.
+pub record Fresh (G : Graph) (starts : List ℕ) (g : Setting) (s : State) (l : List ℕ) : Type 0 where
+  -- a marked object is reachable
+  pub only-reached : (v : ℕ) → Marked (s .marks) v → Reach G starts v
+  -- Each reference that leaves a marked object is either in the trail or carried, once, and no other is: the two sums
+  -- over the numbers agree for every weight f. With f counting one number, it stands there as often; with f = 1, the
+  -- lengths agree.
+  pub once : (f : ℕ → ℕ) → sum f l + sum (heldSum f) (s .workers) ≡ overMarked (leavingSum G f) 0 (s .marks)
+  -- the turns made are paid for by references followed, and by what each worker may still do without following
+  pub turn-count : s .counts .moved + sum asks? (s .workers) ≤ 7 * length l + sum turnsOf (s .workers)
+  -- so are the hand-overs
+  pub handed-count : g .cutoff * s .counts .handed + sum sinceOf (s .workers)
+      ≤ 3 * length l + sum (upTo (g .cutoff)) (s .workers)

@@ -1,1 +1,61 @@
-// The turn machine of document 01: definitions in specs/, what is proved of them in proofs/. No code.
+// The turn machine: definitions in specs/, what is proved of them in proofs/. The code is what a
+// result is made of, how turns count, and the limits of a setting.
+ghost use mathlib.Core.Path.{_≡_};
+ghost use Prim.Native.Nat.{_≤_};
+ghost use Rattle.machine.specs.Row.{Roomy, freshCounts, countMove, countFollow};
+
+// The most workers, and the largest batch and cutoff.
+pub const MOST_WORKERS: u32 = 16;
+
+pub const MOST_SETTING: u32 = 65535;
+
+// The counts of a collection: marks set, references followed, polls that shared, asks refused, and
+// turns that changed something.
+pub struct Counts {
+    pub live: u64,
+    pub followed: u64,
+    pub handed: u64,
+    pub refused: u64,
+    pub moved: u64,
+}
+
+// The counts before the first turn, with so many marks set.
+pub fn fresh(live: u64) -> Counts
+    ensures { λ r. ⌜ r ≡ freshCounts live ⌝ }
+{
+    Counts {
+        live,
+        followed: 0,
+        handed: 0,
+        refused: 0,
+        moved: 0,
+    }
+}
+
+// The counts after a turn that follows nothing, with so many more handed and refused.
+pub fn count_move(c: Counts, handed: u64, refused: u64) -> Counts
+    requires { ⌜ Roomy c × (handed ≤ 1) × (refused ≤ 1) ⌝ }
+    ensures { λ r. ⌜ r ≡ countMove c handed refused ⌝ }
+{
+    Counts {
+        live: c.live,
+        followed: c.followed,
+        handed: c.handed + handed,
+        refused: c.refused + refused,
+        moved: c.moved + 1,
+    }
+}
+
+// The counts after a turn that follows a reference, with so many more live and refused.
+pub fn count_follow(c: Counts, live: u64, refused: u64) -> Counts
+    requires { ⌜ Roomy c × (live ≤ 1) × (refused ≤ 1) ⌝ }
+    ensures { λ r. ⌜ r ≡ countFollow c live refused ⌝ }
+{
+    Counts {
+        live: c.live + live,
+        followed: c.followed + 1,
+        handed: c.handed,
+        refused: c.refused + refused,
+        moved: c.moved + 1,
+    }
+}

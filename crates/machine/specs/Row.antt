@@ -1,0 +1,48 @@
+-- SPECIFICATION 2 and 4.6: what a call returns, as one row: the number of a refusal (0 for none), whether the
+-- collection is finished, and its counts.
+use Prim.Native.Nat.{ℕ, _+_, _<_, _^_}
+use mathlib.Core.Bool.{Bool, false}
+use Rattle.machine.specs.declared.Counts.{Counts}
+
+pub record Row : Type 0 where
+  pub number : ℕ
+  pub finished : Bool
+  pub counts : Counts
+
+-- the counts before the first turn, with so many marks set
+abbrev pub freshCounts : ℕ → Counts
+freshCounts live = record { live = live; followed = 0; handed = 0; refused = 0; moved = 0 }
+
+-- beside a refusal every other number is 0
+abbrev pub refusedRow : ℕ → Row
+refusedRow k = record { number = k; finished = false; counts = freshCounts 0 }
+
+-- none of the counts is at its end
+pub record Roomy (c : Counts) : Type 0 where
+  pub live : c .live + 1 < 2 ^ 64
+  pub followed : c .followed + 1 < 2 ^ 64
+  pub handed : c .handed + 1 < 2 ^ 64
+  pub refused : c .refused + 1 < 2 ^ 64
+  pub moved : c .moved + 1 < 2 ^ 64
+
+-- the counts after a turn that changes something and follows nothing: so many more handed and refused
+abbrev pub countMove : Counts → ℕ → ℕ → Counts
+countMove c handed⁺ refused⁺ =
+    record {
+      live = c .live;
+      followed = c .followed;
+      handed = c .handed + handed⁺;
+      refused = c .refused + refused⁺;
+      moved = c .moved + 1;
+    }
+
+-- the counts after a turn that follows a reference: so many more live and refused
+abbrev pub countFollow : Counts → ℕ → ℕ → Counts
+countFollow c live⁺ refused⁺ =
+    record {
+      live = c .live + live⁺;
+      followed = c .followed + 1;
+      handed = c .handed;
+      refused = c .refused + refused⁺;
+      moved = c .moved + 1;
+    }
