@@ -1,2 +1,10 @@
-pub mod Phases
+pub mod Answering
+pub mod Asking
+pub mod Bounds
+pub mod Dividing
+pub mod Each
+pub mod Looking
+pub mod Onward
+pub mod Parts
 pub mod Statuses
+pub mod Words

@@ -1,70 +1,88 @@
--- A turn, by the status that the worker's registers hold.
-use mathlib.Core.Path.{_≡_, refl, sym, ap, _∙_, subst}
-use mathlib.Core.List.{List}
-use Prim.Native.Nat.{ℕ, zero, suc, _-_, _<_}
-use native.Mathlib.Omega.{arith}
-use Rattle.graph.specs.Graph.{Graph}
-use Rattle.machine.specs.Run.{carried}
-use Rattle.machine.specs.Machine.{State, Setting, Worker, idle, asking, denied, ended, given, busy, Cell, empty, from, Phase, poll, worker, runsOf, carriedAll, asks, idleTurn, workerTurn, turn}
-use Rattle.registers.specs.declared.Reg.{Reg}
-use Rattle.registers.specs.declared.Counts.{Counts}
-use Rattle.registers.specs.Registers.{regWith, regOf, Loaded, Changed}
-use Rattle.held.specs.Held.{After, IdleReady, IdleDone}
-use Rattle.held.proofs.Memory.{there}
-use Rattle.held.proofs.Steps.{rep-one}
-use Rattle.turns.specs.declared.Setting.{Setting as Given}
-use Rattle.turns.specs.Ready.{BusyReady, BusyDone, TurnReady, TurnDone, nextState}
+-- From a status word to what the worker is: which function a turn calls, and what the turn leaves alone.
+use mathlib.Core.Path.{_≡_, refl, sym, ap, _∙_}
+use mathlib.Core.Bool.{Bool, true, false}
+use mathlib.Core.Logic.{_≢_}
+use mathlib.Core.List.{List, [], _∷_}
+use Prim.Native.Nat.{ℕ, zero, suc}
+use Rattle.graph.specs.Graph.{Graph, target}
+use Rattle.machine.specs.Run.{Run, run, carried}
+use Rattle.machine.specs.Machine.{Setting, State, Worker, idle, asking, denied, ended, given, busy, Cell, empty, from, Phase, poll, look, claim, worker, runsOf, markOf, shares, answer, asks, idleTurn, lookTurn, workerTurn, carriedAll}
+use Rattle.machine.specs.Sound.{sinceOf}
+use Rattle.worker.specs.declared.registers.Block.{Block}
+use Rattle.worker.specs.Registers.{blockAt}
+use Rattle.turns.specs.declared.Setup.{Setup}
+use Rattle.turns.specs.declared.Progress.{Progress}
+use Rattle.turns.specs.Held.{memory, settingOf, stretchAt, phaseWord, BlockIs, Holds}
+use Rattle.turns.specs.Turned.{turned, Ready, IsIdle, IsGiven, IsPolling, IsLooking, IsClaiming, IsLent}
+use Rattle.turns.proofs.Asking.{turn-as}
 
-is-idle : (w : Worker) → regOf w .status ≡ 0 → w ≡ idle
-is-idle idle e = refl
-is-idle asking e = absurd (omega arith)
-is-idle denied e = absurd (omega arith)
-is-idle ended e = absurd (omega arith)
-is-idle (given rs) e = absurd (omega arith)
-is-idle (busy c n p rs) e = absurd (omega arith)
+-- the status word of a worker
+abbrev statusOf : Worker → ℕ
+statusOf idle = 0
+statusOf asking = 1
+statusOf denied = 2
+statusOf ended = 3
+statusOf (given rs) = 4
+statusOf (busy c n p rs) = phaseWord p
 
-is-denied : (w : Worker) → regOf w .status ≡ 2 → w ≡ denied
-is-denied idle e = absurd (omega arith)
-is-denied asking e = absurd (omega arith)
-is-denied denied e = refl
-is-denied ended e = absurd (omega arith)
-is-denied (given rs) e = absurd (omega arith)
-is-denied (busy c n p rs) e = absurd (omega arith)
+status-is : (G : Graph) (w : Worker) (r : Block) (l : List ℕ) → BlockIs G w r l → r .status ≡ statusOf w
+status-is G idle r l t = t
+status-is G asking r l t = t
+status-is G denied r l t = t
+status-is G ended r l t = t
+status-is G (given rs) r l t = t .0
+status-is G (busy c n p rs) r l t = t .status
 
-is-given : (w : Worker) → regOf w .status ≡ 3 → w ≡ given (runsOf w)
-is-given idle e = absurd (omega arith)
-is-given asking e = absurd (omega arith)
-is-given denied e = absurd (omega arith)
-is-given ended e = absurd (omega arith)
-is-given (given rs) e = refl
-is-given (busy c n p rs) e = absurd (omega arith)
+abbrev cellOf : Worker → Cell
+cellOf idle = empty
+cellOf asking = empty
+cellOf denied = empty
+cellOf ended = empty
+cellOf (given rs) = empty
+cellOf (busy c n p rs) = c
 
--- the parts of a busy worker
-record Parts (w : Worker) : Type 0 where
-  cell : Cell
-  since : ℕ
-  phase : Phase
-  is : w ≡ busy cell since phase (runsOf w)
+-- what is left of a batch after the reference that is looked at
+abbrev leftIn : Phase → ℕ
+leftIn poll = 0
+leftIn (look k) = k
+leftIn (claim k) = k
 
-is-busy : (w : Worker) → regOf w .status ≡ 4 → Parts w
-is-busy idle e = absurd (omega arith)
-is-busy asking e = absurd (omega arith)
-is-busy denied e = absurd (omega arith)
-is-busy ended e = absurd (omega arith)
-is-busy (given rs) e = absurd (omega arith)
-is-busy (busy c n p rs) e = record { cell = c; since = n; phase = p; is = refl }
+abbrev leftOf : Worker → ℕ
+leftOf idle = 0
+leftOf asking = 0
+leftOf denied = 0
+leftOf ended = 0
+leftOf (given rs) = 0
+leftOf (busy c n p rs) = leftIn p
 
--- the others do nothing
-is-still : (w : Worker) (G : Graph) (g : Setting) (s : State) (b v : ℕ) → (regOf w .status ≡ 0 → ⊥) → (regOf w .status ≡ 2 → ⊥)
-    → (regOf w .status ≡ 3 → ⊥) → (regOf w .status ≡ 4 → ⊥) → workerTurn w G g s b v ≡ s
-is-still idle G g s b v h₀ h₂ h₃ h₄ = absurd (h₀ refl)
-is-still asking G g s b v h₀ h₂ h₃ h₄ = refl
-is-still denied G g s b v h₀ h₂ h₃ h₄ = absurd (h₂ refl)
-is-still ended G g s b v h₀ h₂ h₃ h₄ = refl
-is-still (given rs) G g s b v h₀ h₂ h₃ h₄ = absurd (h₃ refl)
-is-still (busy c n p rs) G g s b v h₀ h₂ h₃ h₄ = absurd (h₄ refl)
+-- the worker with this status that has what w has
+abbrev likeness : ℕ → Worker → Worker
+likeness zero w = idle
+likeness (suc zero) w = asking
+likeness (suc (suc zero)) w = denied
+likeness (suc (suc (suc zero))) w = ended
+likeness (suc (suc (suc (suc zero)))) w = given (runsOf w)
+likeness (suc (suc (suc (suc (suc zero))))) w = busy (cellOf w) (sinceOf w) poll (runsOf w)
+likeness (suc (suc (suc (suc (suc (suc zero)))))) w = busy (cellOf w) (sinceOf w) (look (leftOf w)) (runsOf w)
+likeness (suc (suc (suc (suc (suc (suc (suc zero))))))) w = busy (cellOf w) (sinceOf w) (claim (leftOf w)) (runsOf w)
+likeness (suc (suc (suc (suc (suc (suc (suc (suc k)))))))) w = ended
 
--- an idle worker's turn marks nothing
+like-itself : (w : Worker) → w ≡ likeness (statusOf w) w
+like-itself idle = refl
+like-itself asking = refl
+like-itself denied = refl
+like-itself ended = refl
+like-itself (given rs) = refl
+like-itself (busy c n poll rs) = refl
+like-itself (busy c n (look k) rs) = refl
+like-itself (busy c n (claim k) rs) = refl
+
+-- ---- marks: only a claim changes them
+
+answer-marks : (t : Bool) (g : Setting) (s : State) (b a n : ℕ) (rs : List Run) → answer t g s b a n rs .marks ≡ s .marks
+answer-marks true g s b a n rs = refl
+answer-marks false g s b a n rs = refl
+
 asks-marks : (w : Worker) (s : State) (b v : ℕ) → asks w s b v .marks ≡ s .marks
 asks-marks idle s b v = refl
 asks-marks asking s b v = refl
@@ -78,128 +96,99 @@ idle-marks : (k : ℕ) (s : State) (b v : ℕ) → idleTurn k s b v .marks ≡ s
 idle-marks zero s b v = refl
 idle-marks (suc k) s b v = asks-marks (worker s v) s b v
 
-module _ {offsets targets : List ℕ} {g : Given} {marks work regs : List ℕ} {c : Counts} {b : ℕ} where
-  pub turn-low : (x : TurnReady offsets targets g marks work regs c b) → b < x .held .workers
-  turn-low x = omega (arith, x .below, x .tied .workers-is)
+look-marks : (k : ℕ) (s : State) (b : ℕ) (c : Cell) (n l e j : ℕ) (rs : List Run) → lookTurn k s b c n l e j rs .marks ≡ s .marks
+look-marks zero s b c n l e j rs = refl
+look-marks (suc k) s b c n l e j rs = refl
 
-  module _ (r : Reg) (l : Loaded regs b r) where
-    reg-is : (x : TurnReady offsets targets g marks work regs c b) → r ≡ regOf (worker (x .held .state) b)
-    reg-is x = l .is (x .held .state .workers) (x .held .rep .regs-is) (there (x .held) b (turn-low x))
+turn-marks : (w : Worker) → statusOf w ≢ 7 → (G : Graph) (g : Setting) (s : State) (b v : ℕ) → workerTurn w G g s b v .marks ≡ s .marks
+turn-marks ended h G g s b v = refl
+turn-marks asking h G g s b v = refl
+turn-marks denied h G g s b v = refl
+turn-marks (given rs) h G g s b v = refl
+turn-marks idle h G g s b v = idle-marks (carriedAll s) s b v
+turn-marks (busy empty n poll rs) h G g s b v = refl
+turn-marks (busy (from a) n poll rs) h G g s b v = answer-marks (shares (g .cutoff) n (carried rs)) g s b a n rs
+turn-marks (busy c n (look k) []) h G g s b v = refl
+turn-marks (busy c n (look k) (run e j ∷ rs)) h G g s b v = look-marks (markOf s (target G e)) s b c n k e j rs
+turn-marks (busy c n (claim k) rs) h G g s b v = absurd (h refl)
 
-    status-is : (x : TurnReady offsets targets g marks work regs c b) → regOf (worker (x .held .state) b) .status ≡ r .status
-    status-is x = sym (ap (λ (t : Reg). t .status) (reg-is x))
+-- ---- a state that is lent
 
-    -- the state after the turn, once it is known what the worker is
-    turned : (x : TurnReady offsets targets g marks work regs c b) (v : ℕ) (w : Worker) → worker (x .held .state) b ≡ w
-        → workerTurn w (x .held .graph) (x .held .setting) (x .held .state) b v ≡ nextState x v
-    unfolding turn
-    turned x v w e = ap (λ (k : Worker). workerTurn k (x .held .graph) (x .held .setting) (x .held .state) b v) (sym e)
+module _ {g : Setup} {offsets targets marks : List ℕ} {b : ℕ} {work regs : List ℕ} {p : Progress}
+    (x : Ready (IsLent g offsets targets marks b) g (memory work regs p)) where
+  abbrev w : Worker
+  w = worker (x .state) b
 
-    pub idle-ready : r .status ≡ 0 → TurnReady offsets targets g marks work regs c b → IdleReady (g .workers) regs c b
-    idle-ready z x =
-        record {
-          stretch = g .stretch;
-          work = work;
-          held = x .held;
-          workers-is = x .tied .workers-is;
-          is = is-idle (worker (x .held .state) b) (status-is x ∙ z);
-        }
+  targets-are : targets ≡ x .graph .targets
+  targets-are = sym (ap (λ (G : Graph). G .targets) (x .here .graph-is))
 
-    pub turn-idle : (z : r .status ≡ 0) (v : ℕ) (regs′ : List ℕ) (c′ : Counts) → IdleDone (g .workers) regs c b v regs′ c′
-        → TurnDone offsets targets g marks work regs c b v marks work regs′ c′
-    unfolding idle-ready
-    turn-idle z v regs′ c′ d =
-        record {
-          is = λ x.
-              let i = idle-ready z x in
-              subst (λ (s : State). After (x .held) s work regs′ c′) (turned x v idle (i .is)) (d .is i);
-          marks-are = λ x.
-              let i = idle-ready z x in
-              x .tied .marks-is ∙ sym (idle-marks (carriedAll (x .held .state)) (x .held .state) b v) ∙ ap (λ (s : State). s .marks) (turned x v idle (i .is));
-        }
+  -- the worker, as its status tells
+  status : blockAt regs b .status ≡ statusOf (worker (x .state) b)
+  status = status-is (x .graph) (worker (x .state) b) (blockAt regs b) (stretchAt (g .stretch) b work) (x .holds .each b (x .here .low))
 
-    -- a refusal is taken up
-    pub turn-denied : r .status ≡ 2 → (v : ℕ) (r₁ : Reg) (regs′ : List ℕ) (c′ : Counts) → r₁ ≡ regWith 0 0 0 0 0 0 0
-        → Changed regs b r₁ c regs′ c′ → TurnDone offsets targets g marks work regs c b v marks work regs′ c′
-    turn-denied z v r₁ regs′ c′ q ch =
-        record {
-          is = λ x.
-              let e = is-denied (worker (x .held .state) b) (status-is x ∙ z) in
-              subst (λ (s : State). After (x .held) s work regs′ c′) (turned x v denied e)
-              (rep-one (x .held) b idle r₁ regs′ c′ (turn-low x) (ap runsOf (sym e)) q ch);
-          marks-are = λ x.
-              let e = is-denied (worker (x .held .state) b) (status-is x ∙ z) in
-              x .tied .marks-is ∙ ap (λ (s : State). s .marks) (turned x v denied e);
-        }
+  like : (k : ℕ) → blockAt regs b .status ≡ k → worker (x .state) b ≡ likeness k (worker (x .state) b)
+  like k z = like-itself (worker (x .state) b) ∙ ap (λ (i : ℕ). likeness i (worker (x .state) b)) (sym status ∙ z)
 
-    -- a hand-over is
-    pub turn-given : r .status ≡ 3 → (v : ℕ) (r₁ : Reg) (regs′ : List ℕ) (c′ : Counts)
-        → r₁ ≡ regWith 4 0 0 0 0 (r .used) (r .carried) → Changed regs b r₁ c regs′ c′
-        → TurnDone offsets targets g marks work regs c b v marks work regs′ c′
-    turn-given z v r₁ regs′ c′ q ch =
-        record {
-          is = λ x.
-              let o = worker (x .held .state) b in
-              let e = is-given o (status-is x ∙ z) in
-              let er : r ≡ regOf (given (runsOf o)) = reg-is x ∙ ap regOf e in
-              subst (λ (s : State). After (x .held) s work regs′ c′) (turned x v (given (runsOf o)) e)
-              (rep-one (x .held) b (busy empty 0 poll (runsOf o)) r₁ regs′ c′ (turn-low x) refl
-              (q ∙ ap (λ (t : Reg). regWith 4 0 0 0 0 (t .used) (t .carried)) er)
-              ch);
-          marks-are = λ x.
-              let o = worker (x .held .state) b in
-              let e = is-given o (status-is x ∙ z) in
-              x .tied .marks-is ∙ ap (λ (s : State). s .marks) (turned x v (given (runsOf o)) e);
-        }
+  -- the marks stay but for a claim
+  pub same-marks : blockAt regs b .status ≢ 7 → (v : ℕ) → marks ≡ turned g b v (x .graph) (x .state) .marks
+  same-marks h v =
+      x .here .marks-are
+      ∙ sym (turn-marks (worker (x .state) b) (λ z. h (status ∙ z)) (x .graph) (settingOf g) (x .state) b v)
+      ∙ ap (λ (s : State). s .marks) (sym (turn-as g b v (x .graph) (x .state) refl))
 
-    pub busy-ready : r .status ≡ 4 → TurnReady offsets targets g marks work regs c b
-        → BusyReady offsets targets g marks work regs c b r
-    busy-ready z x =
-        let o = worker (x .held .state) b in
-        let p = is-busy o (status-is x ∙ z) in
-        record {
-          at =
-              record {
-                held = x .held;
-                cell = p .cell;
-                since = p .since;
-                phase = p .phase;
-                runs = runsOf o;
-                is = p .is;
-                reg = reg-is x ∙ ap regOf (p .is);
-              };
-          tied = x .tied;
-        }
+  -- what each kind is told
+  pub idle-here : blockAt regs b .status ≡ 0 → IsIdle b (x .graph) (x .state)
+  idle-here z = like 0 z
 
-    pub turn-busy : (z : r .status ≡ 4) (v : ℕ) (marks′ work′ regs′ : List ℕ) (c′ : Counts)
-        → BusyDone offsets targets g marks work regs c b r marks′ work′ regs′ c′
-        → TurnDone offsets targets g marks work regs c b v marks′ work′ regs′ c′
-    unfolding busy-ready
-    turn-busy z v marks′ work′ regs′ c′ d =
-        record {
-          is = λ x.
-              let y = busy-ready z x in
-              subst (λ (s : State). After (x .held) s work′ regs′ c′) (turned x v _ (y .at .is)) (d .is y);
-          marks-are = λ x.
-              let y = busy-ready z x in
-              d .marks-are y ∙ ap (λ (s : State). s .marks) (turned x v _ (y .at .is));
-        }
+  pub denied-here : blockAt regs b .status ≡ 2 → worker (x .state) b ≡ denied
+  denied-here z = like 2 z
 
-    pub turn-still : (r .status ≡ 0 → ⊥) → (r .status ≡ 2 → ⊥) → (r .status ≡ 3 → ⊥) → (r .status ≡ 4 → ⊥) → (v : ℕ)
-        → TurnDone offsets targets g marks work regs c b v marks work regs c
-    turn-still h₀ h₂ h₃ h₄ v =
-        record {
-          is = λ x.
-              let e = same x in
-              subst (λ (s : State). After (x .held) s work regs c) e (x .held .rep);
-          marks-are = λ x. x .tied .marks-is ∙ ap (λ (s : State). s .marks) (same x);
-        }
-      where
-        same : (x : TurnReady offsets targets g marks work regs c b) → x .held .state ≡ nextState x v
-        same x =
-            sym (is-still (worker (x .held .state) b) (x .held .graph) (x .held .setting) (x .held .state) b v
-            (λ e. h₀ (sym (status-is x) ∙ e))
-            (λ e. h₂ (sym (status-is x) ∙ e))
-            (λ e. h₃ (sym (status-is x) ∙ e))
-            (λ e. h₄ (sym (status-is x) ∙ e)))
-            ∙ turned x v (worker (x .held .state) b) refl
+  pub given-here : blockAt regs b .status ≡ 4 → IsGiven targets b (x .graph) (x .state)
+  given-here z = record { runs = runsOf w; is = like 4 z; targets-are = targets-are }
+
+  pub poll-here : blockAt regs b .status ≡ 5 → IsPolling b (x .graph) (x .state)
+  poll-here z = record { cell = cellOf w; since = sinceOf w; runs = runsOf w; is = like 5 z }
+
+  pub look-here : blockAt regs b .status ≡ 6 → IsLooking targets marks b (x .graph) (x .state)
+  look-here z =
+      record {
+        cell = cellOf w;
+        since = sinceOf w;
+        left = leftOf w;
+        runs = runsOf w;
+        is = like 6 z;
+        targets-are = targets-are;
+        marks-are = x .here .marks-are;
+      }
+
+  pub claim-here : blockAt regs b .status ≡ 7 → IsClaiming offsets targets marks b (x .graph) (x .state)
+  claim-here z =
+      record {
+        cell = cellOf w;
+        since = sinceOf w;
+        left = leftOf w;
+        runs = runsOf w;
+        is = like 7 z;
+        graph-is = x .here .graph-is;
+        marks-are = x .here .marks-are;
+      }
+
+  -- the same state, with what is known of the worker
+  abbrev pub told : {P : Graph → State → Type 0} → P (x .graph) (x .state) → Ready P g (memory work regs p)
+  told h = record { graph = x .graph; state = x .state; scene = x .scene; holds = x .holds; here = h }
+
+  -- with any other status nothing changes
+  pub holds-quiet : blockAt regs b .status ≢ 0 → blockAt regs b .status ≢ 2 → blockAt regs b .status ≢ 4 → blockAt regs b .status ≢ 5
+      → blockAt regs b .status ≢ 6 → blockAt regs b .status ≢ 7 → (v : ℕ)
+      → Holds (x .graph) g (turned g b v (x .graph) (x .state)) (memory work regs p)
+  holds-quiet n₀ n₂ n₄ n₅ n₆ n₇ v = rw (turn-as g b v (x .graph) (x .state) refl ∙ quiet w status) (x .holds)
+    where
+      quiet : (w : Worker) → blockAt regs b .status ≡ statusOf w → workerTurn w (x .graph) (settingOf g) (x .state) b v ≡ x .state
+      quiet idle z = absurd (n₀ z)
+      quiet asking z = refl
+      quiet denied z = absurd (n₂ z)
+      quiet ended z = refl
+      quiet (given rs) z = absurd (n₄ z)
+      quiet (busy c n poll rs) z = absurd (n₅ z)
+      quiet (busy c n (look k) rs) z = absurd (n₆ z)
+      quiet (busy c n (claim k) rs) z = absurd (n₇ z)

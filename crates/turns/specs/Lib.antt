@@ -1,1 +1,5 @@
-pub mod Ready
+pub mod Claiming
+pub mod Counting
+pub mod Held
+pub mod Polling
+pub mod Turned

@@ -1,79 +1,77 @@
 // A turn of the machine on the lent memories: marks, work memory and registers.
-use registers::Counts;
-use registers::Reg;
-ghost use Rattle.turns.specs.Ready.{BusyReady, BusyDone, TurnReady, TurnDone};
+mod follow;
+mod idle;
+mod poll;
+
+use machine::Counts;
+use worker::registers;
+ghost use mathlib.Core.Path.{_≡_};
+ghost use Prim.Native.Nat.{_≤_};
+ghost use Rattle.machine.specs.Row.{Roomy};
+ghost use Rattle.turns.specs.Counting.{movedOn};
+ghost use Rattle.turns.specs.Held.{memory};
+ghost use Rattle.turns.specs.Turned.{Ready, Does, Marks, IsLent};
 
 // W, D, K and the length of a stretch.
-pub struct Setting {
+pub struct Setup {
     pub workers: u32,
     pub batch: u32,
     pub cutoff: u32,
     pub stretch: usize,
 }
 
-// A busy worker's turn: a poll, a look or a claim.
-pub fn busy_turn(
-    offsets: &[u32],
-    targets: &[u32],
-    setting: Setting,
-    marks: &mut [u8],
-    work: &mut [u32],
-    regs: &mut [u32],
-    counts: Counts,
-    b: u32,
-    r: Reg,
-) -> Counts
-    requires { ⌜ BusyReady (now offsets) (now targets) setting (now marks) (now work) (now regs) counts b r ⌝ }
-    ensures { λ c. ⌜ BusyDone (now (offsets .entry)) (now (targets .entry)) setting (now (marks .entry)) (now (work .entry)) (now (regs .entry)) counts b r (now (marks .exit)) (now (work .exit)) (now (regs .exit)) c ⌝ }
+// How far a collection is: its counts, how many workers carry references, and how many have not
+// ended.
+pub struct Progress {
+    pub counts: Counts,
+    pub carrying: u32,
+    pub running: u32,
+}
+
+// After a turn that follows nothing and leaves as many workers carrying and running.
+fn moved(p: Progress, refused: u64) -> Progress
+    requires { ⌜ Roomy (p .counts) × (refused ≤ 1) ⌝ }
+    ensures { λ r. ⌜ r ≡ movedOn p refused ⌝ }
 {
-    let batch = r.batch;
-    let next = r.claim;
-    let stretch = setting.stretch;
-    if batch == 0 {
-        return polls::poll(
-            stretch,
-            setting.batch,
-            setting.cutoff,
-            work,
-            regs,
-            counts,
-            b,
-            r,
-        );
+    let counts = p.counts;
+    Progress {
+        counts: machine::count_move(counts, 0, refused),
+        carrying: p.carrying,
+        running: p.running,
     }
-    if next == 0 {
-        return follows::look(targets, stretch, marks, work, regs, counts, b, r);
-    }
-    follows::claim(offsets, targets, stretch, marks, work, regs, counts, b, r)
 }
 
 // Worker b's turn, which names v.
 pub fn turn(
     offsets: &[u32],
     targets: &[u32],
-    setting: Setting,
+    setup: Setup,
     marks: &mut [u8],
     work: &mut [u32],
     regs: &mut [u32],
-    counts: Counts,
+    p: Progress,
     b: u32,
     v: u32,
-) -> Counts
-    requires { ⌜ TurnReady (now offsets) (now targets) setting (now marks) (now work) (now regs) counts b ⌝ }
-    ensures { λ c. ⌜ TurnDone (now (offsets .entry)) (now (targets .entry)) setting (now (marks .entry)) (now (work .entry)) (now (regs .entry)) counts b v (now (marks .exit)) (now (work .exit)) (now (regs .exit)) c ⌝ }
+) -> Progress
+    requires { ⌜ Ready (IsLent setup (now offsets) (now targets) (now marks) b) setup (memory (now work) (now regs) p) ⌝ }
+    ensures { λ r. ⌜ Does (IsLent setup (now (offsets .entry)) (now (targets .entry)) (now (marks .entry)) b) setup b v
+        (memory (now (work .entry)) (now (regs .entry)) p)
+        (memory (now (work .exit)) (now (regs .exit)) r) ⌝ }
+    ensures { λ _. ⌜ Marks (IsLent setup (now (offsets .entry)) (now (targets .entry)) (now (marks .entry)) b) setup b v
+        (memory (now (work .entry)) (now (regs .entry)) p) (now (marks .exit)) ⌝ }
 {
     let r = registers::load(regs, b);
     let status = r.status;
     match status {
-        0 => polls::idle_turn(regs, setting.workers, counts, b, v),
-        2 => registers::change(regs, b, registers::plain(registers::IDLE), counts),
-        3 => registers::change(
-            regs,
-            b,
-            registers::handed(registers::BUSY, r.used, r.carried),
-            counts,
-        ),
-        4 => busy_turn(offsets, targets, setting, marks, work, regs, counts, b, r),
-        _ => counts,
+        registers::IDLE => idle::idle_turn(setup, regs, p, b, v),
+        registers::DENIED => {
+            registers::put(regs, b, registers::STATUS, registers::IDLE);
+            moved(p, 0)
+        }
+        registers::GIVEN => follow::take_up(targets, setup, regs, p, b),
+        registers::POLL => poll::poll(setup, work, regs, p, b),
+        registers::LOOK => follow::look(targets, setup, marks, work, regs, p, b),
+        registers::CLAIM => follow::claim(offsets, targets, setup, marks, work, regs, p, b),
+        _ => p,
     }
 }

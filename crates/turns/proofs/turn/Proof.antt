@@ -1,97 +1,153 @@
+-- `turn`: by the status word, each kind of turn is the function's that is called.
+use native.Mathlib.Omega.{arith}
+use mathlib.Core.Path.{ap, _∙_}
+use Rattle.worker.specs.declared.registers.Block.{Block}
+use Rattle.turns.proofs.Bounds.{block-room, roomy}
+use Rattle.turns.proofs.Asking.{holds-woken}
+use Rattle.turns.proofs.Statuses.{told, idle-here, denied-here, given-here, poll-here, look-here, claim-here, same-marks, holds-quiet}
 use borrow.Author.Needs.{needs}
-use Rattle.held.proofs.Memory.{number-limit, row-there, roomy}
-use Rattle.turns.proofs.Statuses.{turn-low, idle-ready, busy-ready, turn-idle, turn-denied, turn-given, turn-busy, turn-still}
 use Rattle.turns.proofs.turn.Statement.{statement}
 use Rattle.turns.proofs.turn.Tie as tie
 
+-- back to the entry
+abbrev entry : tie.After-load → tie.Start
+entry c = c .before .before .before .before .before .before .before
+
 load-requires : tie.Need-load-requires
 load-requires c κs =
-    let x = c .before .before .before .before .before .before .pre in
-    let h = x .held in
-    (number-limit h (c .before .before .before .before .before .before .args .b) (turn-low x), row-there h (c .before .before .before .before .before .before .args .b) (turn-low x))
+    let start = c .before .before .before .before .before .before in
+    let x = start .pre in
+    block-room (x .scene) (x .holds) (start .args .b) (x .here .low)
 
 idle-turn-requires : tie.Need-idle-turn-requires
-idle-turn-requires c κs = idle-ready (c .before .before .load .result) (c .before .before .load .ensures) (c .before .match .keys1) (c .before .before .before .before .before .before .before .before .before .pre)
+idle-turn-requires c κs =
+    let at-match = c .before in
+    let at-load = at-match .before in
+    let start = entry at-load in
+    let z = rw (at-load .load .ensures) at (at-match .match .keys1) in
+    (start .args .work .now, told (start .pre) (idle-here (start .pre) z))
 
-plain-requires : tie.Need-plain-requires
-plain-requires c κs = search needs
+put-requires : tie.Need-put-requires
+put-requires c κs =
+    let start = c .before .before .before .before .before .before .before .before .before in
+    let x = start .pre in
+    (block-room (x .scene) (x .holds) (start .args .b) (x .here .low), omega arith)
 
-change-requires : tie.Need-change-requires
-change-requires c κs =
-    let x = c .before .before .before .before .before .before .before .before .before .before .pre in
-    let h = x .held in
-    ((number-limit h (c .before .before .before .before .before .before .before .before .before .before .args .b) (turn-low x), row-there h (c .before .before .before .before .before .before .before .before .before .before .args .b) (turn-low x)), roomy h)
+moved-requires : tie.Need-moved-requires
+moved-requires c κs =
+    let start = c .before .before .before .before .before .before .before .before .before .before .before .before in
+    let x = start .pre in
+    (roomy (x .scene) (x .holds), omega arith)
 
-handed-requires : tie.Need-handed-requires
-handed-requires c κs = search needs
+take-up-requires : tie.Need-take-up-requires
+take-up-requires c κs =
+    let at-match = c .before in
+    let at-load = at-match .before in
+    let start = entry at-load in
+    let z = rw (at-load .load .ensures) at (at-match .match .keys3) in
+    (start .args .work .now, told (start .pre) (given-here (start .pre) z))
 
-change-requires-2 : tie.Need-change-requires-2
-change-requires-2 c κs =
-    let x = c .before .before .before .before .before .before .before .before .before .before .pre in
-    let h = x .held in
-    ((number-limit h (c .before .before .before .before .before .before .before .before .before .before .args .b) (turn-low x), row-there h (c .before .before .before .before .before .before .before .before .before .before .args .b) (turn-low x)), roomy h)
+poll-requires : tie.Need-poll-requires
+poll-requires c κs =
+    let at-match = c .before .before in
+    let at-load = at-match .before in
+    let start = entry at-load in
+    let z = rw (at-load .load .ensures) at (at-match .match .keys4) in
+    told (start .pre) (poll-here (start .pre) z)
 
-busy-turn-requires : tie.Need-busy-turn-requires
-busy-turn-requires c κs = busy-ready (c .before .before .before .before .load .result) (c .before .before .before .before .load .ensures) (c .before .before .before .match .keys4) (c .before .before .before .before .before .before .before .before .before .before .before .pre)
+look-requires : tie.Need-look-requires
+look-requires c κs =
+    let at-match = c .before .before .before in
+    let at-load = at-match .before in
+    let start = entry at-load in
+    let z = rw (at-load .load .ensures) at (at-match .match .keys5) in
+    told (start .pre) (look-here (start .pre) z)
 
-same-length : tie.Need-same-length
-same-length c = search needs
+claim-requires : tie.Need-claim-requires
+claim-requires c κs =
+    let at-match = c .before .before .before in
+    let at-load = at-match .before in
+    let start = entry at-load in
+    let z = rw (at-load .load .ensures) at (at-match .match .keys6) in
+    told (start .pre) (claim-here (start .pre) z)
 
 returns : tie.Need-returns
-returns c = turn-idle (c .before .before .before .before .before .load .result) (c .before .before .before .before .before .load .ensures) (c .before .before .before .before .match .keys1) (c .before .before .before .before .before .before .before .before .before .before .before .before .args .v) (c .before .before .idle-turn .last .0) (c .before .before .idle-turn .result) (c .before .before .idle-turn .ensures)
-
-same-length-2 : tie.Need-same-length-2
-same-length-2 c = search needs
+returns c =
+    let at-idle-turn = c .before .before in
+    let at-match = at-idle-turn .before .before in
+    let at-load = at-match .before in
+    let start = entry at-load in
+    let z = rw (at-load .load .ensures) at (at-match .match .keys1) in
+    (λ x. at-idle-turn .idle-turn .ensures _ (told x (idle-here x z)), λ x. same-marks x (λ e. omega (arith, e, z)) (start .args .v))
 
 returns-2 : tie.Need-returns-2
-returns-2 c = turn-denied (c .before .before .before .before .before .before .load .result) (c .before .before .before .before .before .before .load .ensures) (c .before .before .before .before .before .match .keys2) (c .before .before .before .before .before .before .before .before .before .before .before .before .before .args .v) (c .before .before .before .plain .result) (c .before .before .change .last .0) (c .before .before .change .result) (c .before .before .before .plain .ensures) (c .before .before .change .ensures)
-
-same-length-3 : tie.Need-same-length-3
-same-length-3 c = search needs
+returns-2 c =
+    let at-put = c .before .before .before in
+    let at-match = at-put .before .before in
+    let at-load = at-match .before in
+    let start = entry at-load in
+    let z = rw (at-load .load .ensures) at (at-match .match .keys2) in
+    let a = start .args in (
+      λ x. rw (at-put .put .ensures, c .moved .ensures) (holds-woken (x .scene) (x .holds) (a .b) (a .v) (denied-here x z)),
+      λ x. same-marks x (λ e. omega (arith, e, z)) (a .v),
+    )
 
 returns-3 : tie.Need-returns-3
-returns-3 c = turn-given (c .before .before .before .before .before .before .load .result) (c .before .before .before .before .before .before .load .ensures) (c .before .before .before .before .before .match .keys3) (c .before .before .before .before .before .before .before .before .before .before .before .before .before .args .v) (c .before .before .before .handed .result) (c .before .before .change2 .last .0) (c .before .before .change2 .result) (c .before .before .before .handed .ensures) (c .before .before .change2 .ensures)
-
-same-length-4 : tie.Need-same-length-4
-same-length-4 c = search needs
-
-same-length-5 : tie.Need-same-length-5
-same-length-5 c = search needs
-
-same-length-6 : tie.Need-same-length-6
-same-length-6 c = search needs
+returns-3 c =
+    let at-take-up = c .before .before in
+    let at-match = at-take-up .before .before in
+    let at-load = at-match .before in
+    let start = entry at-load in
+    let z = rw (at-load .load .ensures) at (at-match .match .keys3) in
+    let v = start .args .v in
+    (λ x. at-take-up .take-up .ensures _ v (told x (given-here x z)), λ x. same-marks x (λ e. omega (arith, e, z)) v)
 
 returns-4 : tie.Need-returns-4
-returns-4 c = turn-busy (c .before .before .before .before .before .before .before .before .before .before .before .load .result) (c .before .before .before .before .before .before .before .before .before .before .before .load .ensures) (c .before .before .before .before .before .before .before .before .before .before .match .keys4) (c .before .before .before .before .before .before .before .before .before .before .before .before .before .before .before .before .before .before .args .v) (c .before .before .before .before .before .before .busy-turn .last .1 .1 .1 .0) (c .before .before .before .before .before .before .busy-turn .last .1 .1 .1 .1 .0) (c .before .before .before .before .before .before .busy-turn .last .1 .1 .1 .1 .1 .0) (c .before .before .before .before .before .before .busy-turn .result) (c .before .before .before .before .before .before .busy-turn .ensures)
-
-same-length-7 : tie.Need-same-length-7
-same-length-7 c = search needs
+returns-4 c =
+    let at-poll = c .before .before .before .before in
+    let at-match = at-poll .before .before .before in
+    let at-load = at-match .before in
+    let start = entry at-load in
+    let z = rw (at-load .load .ensures) at (at-match .match .keys4) in
+    let v = start .args .v in
+    (λ x. at-poll .poll .ensures v (told x (poll-here x z)), λ x. same-marks x (λ e. omega (arith, e, z)) v)
 
 returns-5 : tie.Need-returns-5
 returns-5 c =
+    let at-look = c .before .before .before .before in
+    let at-match = at-look .before .before .before .before in
+    let at-load = at-match .before in
+    let start = entry at-load in
+    let z = rw (at-load .load .ensures) at (at-match .match .keys5) in
+    let v = start .args .v in
+    (λ x. at-look .look .ensures v (told x (look-here x z)), λ x. same-marks x (λ e. omega (arith, e, z)) v)
+
+returns-6 : tie.Need-returns-6
+returns-6 c =
+    let at-claim = c .before .before .before .before .before .before in
+    let at-match = at-claim .before .before .before .before in
+    let at-load = at-match .before in
+    let start = entry at-load in
+    let z = rw (at-load .load .ensures) at (at-match .match .keys6) in
+    let v = start .args .v in
+    (λ x. at-claim .claim .ensures .0 v (told x (claim-here x z)), λ x. at-claim .claim .ensures .1 v (told x (claim-here x z)))
+
+returns-7 : tie.Need-returns-7
+returns-7 c =
+    let at-load = c .before in
+    let start = entry at-load in
     let n = c .match .rest in
-    turn-still (c .before .load .result) (c .before .load .ensures) (n .0 .0 .0 .1) (n .0 .0 .1) (n .0 .1) (n .1) (c .before .before .before .before .before .before .before .before .args .v)
+    let e = ap (λ (r : Block). r .status) (at-load .load .ensures) in
+    let v = start .args .v in (
+      λ x. holds-quiet x (λ z. n .0 .0 .0 .0 .0 .1 (e ∙ z)) (λ z. n .0 .0 .0 .0 .1 (e ∙ z)) (λ z. n .0 .0 .0 .1 (e ∙ z)) (λ z. n .0 .0 .1 (e ∙ z)) (λ z. n .0 .1 (e ∙ z)) (λ z. n .1 (e ∙ z)) v,
+      λ x. same-marks x (λ z. n .1 (e ∙ z)) v,
+    )
 
 pub turn-spec : {M : Type 1} → statement M
 turn-spec =
     tie.close
-    (tie.spec
-    load-requires
-    idle-turn-requires
-    plain-requires
-    change-requires
-    handed-requires
-    change-requires-2
-    busy-turn-requires
-    same-length
-    returns
-    same-length-2
-    returns-2
-    same-length-3
-    returns-3
-    same-length-4
-    same-length-5
-    same-length-6
-    returns-4
-    same-length-7
-    returns-5)
+    (tie.spec load-requires idle-turn-requires put-requires moved-requires take-up-requires poll-requires
+    look-requires claim-requires (λ c. search needs) returns (λ c. search needs) returns-2 (λ c. search needs)
+    returns-3 (λ c. search needs) (λ c. search needs) returns-4 (λ c. search needs) (λ c. search needs)
+    (λ c. search needs) returns-5 (λ c. search needs) (λ c. search needs) (λ c. search needs) returns-6
+    (λ c. search needs) returns-7)

@@ -1,3 +1,0 @@
-pub mod Divide
-pub mod Memory
-pub mod Steps

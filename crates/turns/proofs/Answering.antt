@@ -1,0 +1,261 @@
+-- Polls: a batch begins, an asker is refused, and references are shared.
+use mathlib.Core.Path.{_≡_, refl, sym, ap, _∙_, subst}
+use mathlib.Core.Bool.{Bool, true, false}
+use mathlib.Core.Logic.{_≢_}
+use mathlib.Core.List.{List, [], _∷_}
+use Prim.Native.Nat.{ℕ, zero, suc, _-_, _≤_, _<_, min}
+use native.Mathlib.Omega.{arith}
+use lib.ListN.{length}
+use lib.Dec.{ltb}
+use Rattle.laws.specs.Choice.{pick}
+use Rattle.graph.specs.Graph.{Graph, target}
+use Rattle.machine.specs.Row.{countMove}
+use Rattle.machine.specs.declared.Counts.{Counts}
+use Rattle.machine.specs.Run.{Run, run, runFrom, carried, keep, half}
+use Rattle.machine.specs.Machine.{State, asking, denied, busy, Cell, empty, from, poll, phase, worker, giver, receiver, answer, shares}
+use Rattle.machine.proofs.Facts.{busy-below, busy-carried, asker-asking, asker-below, asker-other}
+use Rattle.machine.proofs.Runs.{halves}
+use Rattle.machine.proofs.Step.{phase-batch, share-pays}
+use Rattle.worker.specs.declared.stretch.Top.{Top}
+use Rattle.worker.specs.Registers.{blockAt, putAt, storeAt}
+use Rattle.worker.specs.declared.registers.Block.{Block}
+use Rattle.worker.proofs.Blocks.{replaced, Stored, put-stored, store-stored}
+use Rattle.turns.specs.declared.Setup.{Setup}
+use Rattle.turns.specs.declared.Progress.{Progress}
+use Rattle.turns.specs.Counting.{movedOn, sharedOne}
+use Rattle.turns.specs.Polling.{batchedBlock, sharedBlock, givenBlock}
+use Rattle.turns.specs.Held.{memory, settingOf, stretchAt, phaseWord, nextTarget, topOf, BusyIs, Holds, Scene}
+use Rattle.turns.specs.Turned.{turned, Ready, IsPolling, IsAsked, Dividing, Divided}
+use Rattle.turns.proofs.Bounds.{block-room, stretch-room}
+use Rattle.turns.proofs.Each.{all-same, stored-then, hold-one, hold-two}
+use Rattle.turns.proofs.Asking.{turn-as}
+
+-- a batch that is not over is a look
+phase-look : (k : ℕ) → 0 < k → 6 ≡ phaseWord (phase k)
+phase-look zero h = absurd (omega arith)
+phase-look (suc k) h = refl
+
+module _ {G : Graph} {g : Setup} {s : State} {work regs : List ℕ} {p : Progress} (c : Scene G g s) (h : Holds G g s (memory work regs p)) where
+  long : length (s .workers) ≡ g .workers
+  long = c .sound .workers-length
+
+  module _ (b : ℕ) {cell : Cell} {n : ℕ} {rs : List Run} (e : worker s b ≡ busy cell n poll rs) where
+    pub poll-low : b < g .workers
+    poll-low = busy-below (c .accepted) (c .sound) b e
+
+    pub poll-is : BusyIs G cell n poll rs (blockAt regs b) (stretchAt (g .stretch) b work)
+    poll-is = rw e at (h .each b poll-low)
+
+    -- the block with a batch begun
+    batched-is : BusyIs G empty n (phase (min (g .batch) (carried rs))) rs (batchedBlock (blockAt regs b) (min (g .batch) (blockAt regs b .carried)))
+        (stretchAt (g .stretch) b work)
+    batched-is =
+        let t = poll-is in
+        let some : 0 < min (g .batch) (carried rs) = omega (arith, c .accepted .some-batch, busy-carried (c .accepted) (c .sound) b e) in
+        record {
+          status = phase-look (min (g .batch) (carried rs)) some;
+          cell = refl;
+          since = t .since;
+          batch = ap (λ (k : ℕ). min (g .batch) k) (t .carrying .number) ∙ sym (phase-batch (min (g .batch) (carried rs)));
+          carrying = record { number = t .carrying .number; told = t .carrying .told };
+          target = t .target;
+        }
+
+    batched-stored : Stored regs b (batchedBlock (blockAt regs b) (min (g .batch) (blockAt regs b .carried)))
+        (storeAt regs b (batchedBlock (blockAt regs b) (min (g .batch) (blockAt regs b .carried))))
+    batched-stored = store-stored regs b (block-room c h b poll-low .long) _
+
+  -- nobody asks: two words of the block change
+  pub holds-polled : (b v : ℕ) {n : ℕ} {rs : List Run} → worker s b ≡ busy empty n poll rs
+      → Holds G g (turned g b v G s)
+      (memory work (putAt (putAt regs b 1 (min (g .batch) (blockAt regs b .carried))) b 0 6) (movedOn p 0))
+  holds-polled b v {n} {rs} e =
+      let k = min (g .batch) (blockAt regs b .carried) in
+      let r = block-room c h b (poll-low b e) in
+      let st = put-stored regs b (r .long) 1 k (omega arith) in
+      let st′ =
+      subst (λ (x : Block). Stored (putAt regs b 1 k) b (replaced 0 6 x) (putAt (putAt regs b 1 k) b 0 6)) (st .here)
+      (put-stored (putAt regs b 1 k) b (rw (st .long) (r .long)) 0 6 (omega arith))
+      in
+      let t = batched-is b e in
+      rw (turn-as g b v G s e)
+      (hold-one h long b (poll-low b e) e (busy empty n (phase (min (g .batch) (carried rs))) rs) work
+      (stored-then st st′) refl (all-same (g .workers) (g .stretch) b work)
+      (record {
+        status = t .status;
+        cell = poll-is b e .cell;
+        since = t .since;
+        batch = t .batch;
+        carrying = record { number = t .carrying .number; told = t .carrying .told };
+        target = t .target;
+      })
+      refl
+      refl
+      refl
+      (ap (λ (x : Counts). countMove x 0 0) (h .counts-are)))
+
+  -- a worker with an asker
+  module _ (b : ℕ) {a n : ℕ} {rs : List Run} (e : worker s b ≡ busy (from a) n poll rs) where
+    asker : worker s a ≡ asking
+    asker = asker-asking (c .accepted) (c .sound) b e
+
+    pub asker-low : a < g .workers
+    asker-low = asker-below (c .accepted) (c .sound) b e
+
+    other : a ≢ b
+    other = asker-other (c .accepted) (c .sound) b e
+
+    pub asker-word : blockAt regs b .cell ≡ suc a
+    asker-word = poll-is b e .cell
+
+    turn-answers : (t : Bool) (v : ℕ) → shares (g .cutoff) n (carried rs) ≡ t → turned g b v G s ≡ answer t (settingOf g) s b a n rs
+    turn-answers t v q = turn-as g b v G s e ∙ ap (λ (x : Bool). answer x (settingOf g) s b a n rs) q
+
+    -- it is refused
+    pub holds-refused : shares (g .cutoff) n (carried rs) ≡ false → (v : ℕ)
+        → Holds G g (turned g b v G s)
+        (memory work
+        (putAt (storeAt regs b (batchedBlock (blockAt regs b) (min (g .batch) (blockAt regs b .carried)))) (blockAt regs b .cell - 1) 0 2)
+        (movedOn p 1))
+    holds-refused q v =
+        let i : blockAt regs b .cell - 1 ≡ a = omega (arith, asker-word) in
+        let st = batched-stored b e in
+        rw (turn-answers false v q, i)
+        (hold-two h long b (poll-low b e) e (busy empty n (phase (min (g .batch) (carried rs))) rs) st a asker-low other asker denied work
+        (put-stored _ a (rw (st .long) (block-room c h a asker-low .long)) 0 2 (omega arith))
+        refl
+        (λ i l k m. refl)
+        (batched-is b e)
+        refl
+        refl
+        refl
+        refl
+        (ap (λ (x : Counts). countMove x 0 1) (h .counts-are)))
+
+    -- ---- sharing
+
+    module _ (q : shares (g .cutoff) n (carried rs) ≡ true) where
+      pub two-carried : 2 ≤ carried rs
+      two-carried = share-pays (g .cutoff) n (carried rs) (c .accepted .some-cutoff) q .0
+
+      -- the work memory can be divided
+      abbrev dividing : (k : ℕ) → k ≡ half (carried rs) → Dividing (g .stretch) work b a (topOf (blockAt regs b)) k
+      dividing k is =
+          record {
+            runs = rs;
+            told = poll-is b e .carrying .told;
+            some = omega (arith, is, two-carried);
+            enough = omega (arith, is, two-carried);
+            other = other;
+            giver-room = stretch-room c h b (poll-low b e);
+            asker-room = stretch-room c h a asker-low;
+          }
+
+      -- the first reference stays the first
+      first-stays : (k : ℕ) → 0 < k → nextTarget G rs ≡ nextTarget G (keep k rs)
+      unfolding keep
+      first-stays k some = by rs
+        where
+          runs : (t : Bool) (f j : ℕ) (rs : List Run) (k : ℕ) → 0 < k
+              → target G f ≡ nextTarget G (pick t (run f j ∷ keep (k - suc j) rs) (runFrom f k))
+          runs true f j rs k some = refl
+          runs false f j rs zero some = absurd (omega arith)
+          runs false f j rs (suc k) some = refl
+
+          by : (rs : List Run) → nextTarget G rs ≡ nextTarget G (keep k rs)
+          by [] = refl
+          by (run f j ∷ rs) = runs (ltb j k) f j rs k some
+
+      holds-shared-runs : (v : ℕ) (work′ : List ℕ) (kept gave : Top)
+          → Divided (g .stretch) work b a (topOf (blockAt regs b)) (half (carried rs)) work′ kept gave
+          → Holds G g (turned g b v G s)
+          (memory work′
+          (storeAt (storeAt regs b (sharedBlock (blockAt regs b) (min (g .batch) (half (carried rs))) (half (carried rs)) kept)) a
+          (givenBlock gave (carried rs - half (carried rs))))
+          (sharedOne p))
+      holds-shared-runs v work′ kept gave d =
+          let k = half (carried rs) in
+          let x = dividing k refl in
+          let st = store-stored regs b (block-room c h b (poll-low b e) .long) (sharedBlock (blockAt regs b) (min (g .batch) k) k kept) in
+          let hk = halves rs in
+          let m = min (g .batch) (carried (keep k rs)) in
+          let some : 0 < m = omega (arith, c .accepted .some-batch, hk, two-carried) in
+          rw (turn-answers true v q)
+          (hold-two h long b (poll-low b e) e (giver (settingOf g) n rs) st a asker-low other asker (receiver rs) work′
+          (store-stored _ a (rw (st .long) (block-room c h a asker-low .long)) _)
+          (d .long)
+          (λ i l k m. d .others i k m)
+          (record {
+            status = phase-look m some;
+            cell = refl;
+            since = refl;
+            batch = ap (λ (i : ℕ). min (g .batch) i) (sym (hk .0)) ∙ sym (phase-batch m);
+            carrying = record { number = sym (hk .0); told = d .giver x };
+            target = poll-is b e .target ∙ first-stays k (omega (arith, two-carried));
+          })
+          (refl, record { number = omega (arith, hk); told = d .receiver x })
+          (omega arith)
+          refl
+          refl
+          (ap (λ (x : Counts). countMove x 1 0) (h .counts-are)))
+
+      -- the same, as the words tell it
+      words : (blockAt regs b .cell - 1 ≡ a) × (blockAt regs b .carried ≡ carried rs)
+      words = (omega (arith, asker-word), poll-is b e .carrying .number)
+
+      pub dividing-words : Dividing (g .stretch) work b (blockAt regs b .cell - 1) (topOf (blockAt regs b)) (half (blockAt regs b .carried))
+      dividing-words = rw (words .0, words .1) (dividing (half (carried rs)) refl)
+
+      pub holds-shared : (v : ℕ) (work′ : List ℕ) (kept gave : Top)
+          → Divided (g .stretch) work b (blockAt regs b .cell - 1) (topOf (blockAt regs b)) (half (blockAt regs b .carried)) work′ kept gave
+          → Holds G g (turned g b v G s)
+          (memory work′
+          (storeAt
+          (storeAt regs b (sharedBlock (blockAt regs b) (min (g .batch) (half (blockAt regs b .carried))) (half (blockAt regs b .carried)) kept))
+          (blockAt regs b .cell - 1)
+          (givenBlock gave (blockAt regs b .carried - half (blockAt regs b .carried))))
+          (sharedOne p))
+      holds-shared v work′ kept gave d =
+          rw (words .0, words .1) (holds-shared-runs v work′ kept gave (rw (words .0, words .1) at d))
+
+-- ---- the two kinds of a poll
+
+-- a worker that polls with a cell that is not empty is asked, and answers as its words tell
+pub asked-here : {g : Setup} {work regs : List ℕ} {p : Progress} (b : ℕ) (t : Bool) → blockAt regs b .cell ≢ 0
+    → shares (g .cutoff) (blockAt regs b .since) (blockAt regs b .carried) ≡ t → (x : Ready (IsPolling b) g (memory work regs p))
+    → IsAsked g t b (x .graph) (x .state)
+asked-here {g} {work} {regs} b t m q x = by (x .here .cell) (x .here .is)
+  where
+    is : {cell : Cell} → worker (x .state) b ≡ busy cell (x .here .since) poll (x .here .runs)
+        → BusyIs (x .graph) cell (x .here .since) poll (x .here .runs) (blockAt regs b) (stretchAt (g .stretch) b work)
+    is e = poll-is (x .scene) (x .holds) b e
+
+    by : (cell : Cell) → worker (x .state) b ≡ busy cell (x .here .since) poll (x .here .runs) → IsAsked g t b (x .graph) (x .state)
+    by empty e = absurd (m (is e .cell))
+    by (from a) e =
+        record {
+          asker = a;
+          since = x .here .since;
+          runs = x .here .runs;
+          is = e;
+          answers = rw (is e .since, is e .carrying .number) at q;
+        }
+
+abbrev pub asked : {g : Setup} {work regs : List ℕ} {p : Progress} (b : ℕ) (t : Bool) → blockAt regs b .cell ≢ 0
+    → shares (g .cutoff) (blockAt regs b .since) (blockAt regs b .carried) ≡ t → Ready (IsPolling b) g (memory work regs p)
+    → Ready (IsAsked g t b) g (memory work regs p)
+asked b t m q x =
+    record { graph = x .graph; state = x .state; scene = x .scene; holds = x .holds; here = asked-here b t m q x }
+
+-- and one whose cell is empty is not
+pub unasked : {g : Setup} {work regs : List ℕ} {p : Progress} (b v : ℕ) → blockAt regs b .cell ≡ 0
+    → (x : Ready (IsPolling b) g (memory work regs p))
+    → Holds (x .graph) g (turned g b v (x .graph) (x .state))
+    (memory work (putAt (putAt regs b 1 (min (g .batch) (blockAt regs b .carried))) b 0 6) (movedOn p 0))
+unasked {g} {work} {regs} {p} b v z x = by (x .here .cell) (x .here .is)
+  where
+    by : (cell : Cell) → worker (x .state) b ≡ busy cell (x .here .since) poll (x .here .runs)
+        → Holds (x .graph) g (turned g b v (x .graph) (x .state))
+        (memory work (putAt (putAt regs b 1 (min (g .batch) (blockAt regs b .carried))) b 0 6) (movedOn p 0))
+    by empty e = holds-polled (x .scene) (x .holds) b v e
+    by (from a) e = absurd (omega (arith, z, poll-is (x .scene) (x .holds) b e .cell))

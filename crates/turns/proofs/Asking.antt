@@ -1,0 +1,192 @@
+-- The turns in which registers alone change: waking, ending, asking, taking up.
+use mathlib.Core.Path.{_≡_, refl, sym, ap, _∙_}
+use mathlib.Core.Logic.{_≢_, _⊎_, inl, inr}
+use mathlib.Core.List.{List, [], _∷_}
+use Prim.Native.Nat.{ℕ, zero, suc, _+_, _≤_, _<_}
+use native.Mathlib.Omega.{arith}
+use lib.ListN.{length}
+use Rattle.laws.specs.Every.{Every}
+use Rattle.graph.specs.Graph.{Graph, references, target}
+use Rattle.machine.specs.Row.{countMove}
+use Rattle.machine.specs.declared.Counts.{Counts}
+use Rattle.machine.specs.Run.{Run, run}
+use Rattle.machine.specs.Machine.{State, Worker, idle, asking, denied, ended, given, busy, empty, from, Phase, poll, look, claim, worker, carriedAll, turn, asks, idleTurn, workerTurn}
+use Rattle.machine.proofs.Facts.{below-workers, busy-below, given-below, given-carries, given-runs-limit, InTargets}
+use Rattle.worker.specs.declared.stretch.Top.{Top}
+use Rattle.worker.specs.Stretch.{TopIs}
+use Rattle.worker.specs.Registers.{blockAt, putAt, storeAt}
+use Rattle.worker.proofs.Blocks.{put-stored, store-stored}
+use Rattle.turns.specs.declared.Setup.{Setup}
+use Rattle.turns.specs.declared.Progress.{Progress}
+use Rattle.turns.specs.Counting.{carries?, movedOn, endedOne}
+use Rattle.turns.specs.Claiming.{takenBlock}
+use Rattle.turns.specs.Held.{memory, settingOf, stretchAt, phaseWord, nextTarget, topOf, Carrying, BusyIs, BlockIs, Holds, Scene}
+use Rattle.turns.specs.Turned.{turned}
+use Rattle.turns.proofs.Bounds.{block-room, carrying-none, carrying-some, running-at}
+use Rattle.turns.proofs.Each.{SameBut, all-same, hold-one, hold-two}
+
+-- the state after worker b's turn, by what b is
+pub turn-as : (g : Setup) (b v : ℕ) (G : Graph) (s : State) {w : Worker} → worker s b ≡ w
+    → turned g b v G s ≡ workerTurn w G (settingOf g) s b v
+unfolding turn
+turn-as g b v G s e = rw e
+
+-- the first reference of runs, as their top tells it: it is there, and where it leads
+pub first-told : (G : Graph) (rs : List Run) (t : Top) → 0 < length rs → Every (InTargets G) rs → TopIs rs t
+    → (t .first < references G) × (target G (t .first) ≡ nextTarget G rs)
+first-told G [] t some l e = absurd (omega arith)
+first-told G (run f j ∷ rs) t some l e =
+    let q : t .first ≡ f = ap (λ (x : Top). x .first) e in
+    (omega (arith, q, l .0), ap (λ (i : ℕ). target G i) q)
+
+module _ {G : Graph} {g : Setup} {s : State} {work regs : List ℕ} {p : Progress} (c : Scene G g s) (h : Holds G g s (memory work regs p)) where
+  long : length (s .workers) ≡ g .workers
+  long = c .sound .workers-length
+
+  -- a block with another status and no more to say
+  stays : (b : ℕ) → SameBut (g .workers) (g .stretch) b work work
+  stays b = all-same (g .workers) (g .stretch) b work
+
+  -- a refused asker wakes
+  pub holds-woken : (b v : ℕ) → worker s b ≡ denied → Holds G g (turned g b v G s) (memory work (putAt regs b 0 0) (movedOn p 0))
+  holds-woken b v e =
+      let low = below-workers (c .accepted) (c .sound) b (rw e (omega arith)) in
+      rw (turn-as g b v G s e)
+      (hold-one h long b low e idle work (put-stored regs b (block-room c h b low .long) 0 0 (omega arith)) refl (stays b) refl refl refl refl
+      (ap (λ (x : Counts). countMove x 0 0) (h .counts-are)))
+
+  module _ (b v : ℕ) (e : worker s b ≡ idle) where
+    pub idle-low : b < g .workers
+    idle-low = below-workers (c .accepted) (c .sound) b (rw e (omega arith))
+
+    pub idle-running : 1 ≤ p .running
+    idle-running = rw e at (running-at c h b)
+
+    -- an idle worker ends
+    pub holds-ended : p .carrying ≡ 0 → Holds G g (turned g b v G s) (memory work (putAt regs b 0 3) (endedOne p))
+    holds-ended z =
+        rw (turn-as g b v G s e, carrying-none c h z)
+        (hold-one h long b idle-low e ended work (put-stored regs b (block-room c h b idle-low .long) 0 3 (omega arith)) refl (stays b) refl refl
+        (omega (arith, rw e at (running-at c h b))) refl
+        (ap (λ (x : Counts). countMove x 0 0) (h .counts-are)))
+
+    -- it asks, by what the named worker is
+    asks-as : p .carrying ≢ 0 → turned g b v G s ≡ asks (worker s v) s b v
+    asks-as n = turn-as g b v G s e ∙ by (carriedAll s) (carrying-some c h n)
+      where
+        by : (k : ℕ) → k ≢ 0 → idleTurn k s b v ≡ asks (worker s v) s b v
+        by zero q = absurd (q refl)
+        by (suc k) q = refl
+
+    -- nobody is asked where the named worker is not busy with an empty cell
+    pub holds-still : p .carrying ≢ 0 → ((n : ℕ) (q : Phase) (rs : List Run) → worker s v ≡ busy empty n q rs → ⊥)
+        → Holds G g (turned g b v G s) (memory work regs p)
+    holds-still n none = rw (asks-as n ∙ still (worker s v) refl) h
+      where
+        still : (w : Worker) → worker s v ≡ w → asks w s b v ≡ s
+        still idle q = refl
+        still asking q = refl
+        still denied q = refl
+        still ended q = refl
+        still (given rs) q = refl
+        still (busy empty n r rs) q = absurd (none n r rs q)
+        still (busy (from a) n r rs) q = refl
+
+    -- it is asked
+    pub holds-asked : p .carrying ≢ 0 → v < g .workers → (n : ℕ) (q : Phase) (rs : List Run) → worker s v ≡ busy empty n q rs
+        → Holds G g (turned g b v G s) (memory work (putAt (putAt regs v 2 (b + 1)) b 0 1) (movedOn p 0))
+    holds-asked m lv n q rs f =
+        let r = block-room c h v lv in
+        let st = put-stored regs v (r .long) 2 (b + 1) (omega arith) in
+        let is : BusyIs G empty n q rs (blockAt regs v) (stretchAt (g .stretch) v work) = rw f at (h .each v lv) in
+        let other : b ≢ v = λ z. omega (arith, ap carries? (sym e ∙ ap (λ (i : ℕ). worker s i) z ∙ f)) in
+        rw (asks-as m, f)
+        (hold-two h long v lv f (busy (from b) n q rs) st b idle-low other e asking work
+        (put-stored (putAt regs v 2 (b + 1)) b (rw (st .long) (block-room c h b idle-low .long)) 0 1 (omega arith))
+        refl
+        (λ i l k m. refl)
+        (record {
+          status = is .status;
+          cell = omega arith;
+          since = is .since;
+          batch = is .batch;
+          carrying = record { number = is .carrying .number; told = is .carrying .told };
+          target = is .target;
+        })
+        refl
+        refl
+        refl
+        refl
+        (ap (λ (x : Counts). countMove x 0 0) (h .counts-are)))
+
+  -- ---- what a block tells of its worker
+
+  pub phase-limit : (q : Phase) → 5 ≤ phaseWord q
+  phase-limit poll = omega arith
+  phase-limit (look k) = omega arith
+  phase-limit (claim k) = omega arith
+
+  -- a worker whose status is that of a busy one, with an empty cell
+  pub record Free (v : ℕ) : Type 0 where
+    pub since : ℕ
+    pub phase : Phase
+    pub runs : List Run
+    pub is : worker s v ≡ busy empty since phase runs
+
+  pub free-if : (v : ℕ) → v < g .workers → 5 ≤ blockAt regs v .status → blockAt regs v .cell ≡ 0 → Free v
+  free-if v lv st ce = by (worker s v) refl (h .each v lv)
+    where
+      by : (w : Worker) → worker s v ≡ w → BlockIs G w (blockAt regs v) (stretchAt (g .stretch) v work) → Free v
+      by idle q t = absurd (omega (arith, t))
+      by asking q t = absurd (omega (arith, t))
+      by denied q t = absurd (omega (arith, t))
+      by ended q t = absurd (omega (arith, t))
+      by (given rs) q t = absurd (omega (arith, t .0))
+      by (busy empty n r rs) q t = record { since = n; phase = r; runs = rs; is = q }
+      by (busy (from a) n r rs) q t = absurd (omega (arith, t .cell, ce))
+
+  pub not-free : (v : ℕ) → (blockAt regs v .status < 5) ⊎ (blockAt regs v .cell ≢ 0) → (n : ℕ) (q : Phase) (rs : List Run)
+      → worker s v ≡ busy empty n q rs → ⊥
+  not-free v (inl l) n q rs f =
+      let t : BusyIs G empty n q rs _ _ = rw f at (h .each v (busy-below (c .accepted) (c .sound) v f)) in
+      omega (arith, t .status, phase-limit q)
+  not-free v (inr m) n q rs f =
+      let t : BusyIs G empty n q rs _ _ = rw f at (h .each v (busy-below (c .accepted) (c .sound) v f)) in
+      m (t .cell)
+
+  pub not-there : (v : ℕ) → g .workers ≤ v → (n : ℕ) (q : Phase) (rs : List Run) → worker s v ≡ busy empty n q rs → ⊥
+  not-there v l n q rs f = omega (arith, busy-below (c .accepted) (c .sound) v f)
+
+  -- ---- a hand-over is taken up
+
+  module _ (b : ℕ) {rs : List Run} (e : worker s b ≡ given rs) where
+    pub given-low : b < g .workers
+    given-low = given-below (c .accepted) (c .sound) b e
+
+    given-is : (blockAt regs b .status ≡ 4) × Carrying rs (blockAt regs b) (stretchAt (g .stretch) b work)
+    given-is = rw e at (h .each b given-low)
+
+    -- the first reference is there, and where it leads
+    pub first-given : (blockAt regs b .first < references G) × (target G (blockAt regs b .first) ≡ nextTarget G rs)
+    first-given =
+        first-told G rs (topOf (blockAt regs b)) (given-carries (c .accepted) (c .sound) b e .some)
+        (given-runs-limit (c .accepted) (c .sound) b e) (given-is .1 .told .top)
+
+    pub holds-taken : (v t : ℕ) → t ≡ target G (blockAt regs b .first)
+        → Holds G g (turned g b v G s) (memory work (storeAt regs b (takenBlock (blockAt regs b) t)) (movedOn p 0))
+    holds-taken v t q =
+        rw (turn-as g b v G s e)
+        (hold-one h long b given-low e (busy empty 0 poll rs) work
+        (store-stored regs b (block-room c h b given-low .long) (takenBlock (blockAt regs b) t)) refl (stays b)
+        (record {
+          status = refl;
+          cell = refl;
+          since = refl;
+          batch = refl;
+          carrying = record { number = given-is .1 .number; told = given-is .1 .told };
+          target = q ∙ first-given .1;
+        })
+        refl
+        refl
+        refl
+        (ap (λ (x : Counts). countMove x 0 0) (h .counts-are)))

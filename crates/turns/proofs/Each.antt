@@ -1,0 +1,105 @@
+-- The memories hold a state with one worker changed, or two: its block and its stretch are written, the others stay.
+use mathlib.Core.Path.{_≡_, refl, _∙_}
+use mathlib.Core.Logic.{_≢_, by-cases}
+use mathlib.Core.List.{List}
+use Prim.Native.Nat.{ℕ, _+_, _<_}
+use native.Mathlib.Decide.{decLt}
+use native.Mathlib.Omega.{arith}
+use lib.ListN.{length, set, length-set}
+use lib.Seq.{getD-set-same, getD-set-other}
+use Rattle.laws.specs.Sum.{sum}
+use Rattle.laws.proofs.Sum.{sum-set}
+use Rattle.graph.specs.Graph.{Graph}
+use Rattle.machine.specs.Machine.{State, Worker, ended, worker}
+use Rattle.worker.specs.declared.registers.Block.{Block}
+use Rattle.worker.proofs.Blocks.{Stored}
+use Rattle.turns.specs.declared.Setup.{Setup}
+use Rattle.turns.specs.declared.Progress.{Progress}
+use Rattle.turns.specs.Counting.{carries?, running?}
+use Rattle.turns.specs.Held.{memory, stretchAt, BlockIs, Each, Holds}
+
+-- every stretch but b's is as it was
+abbrev pub SameBut : ℕ → ℕ → ℕ → List ℕ → List ℕ → Type 0
+SameBut W L b work work′ = (a : ℕ) → a < W → a ≢ b → stretchAt L a work′ ≡ stretchAt L a work
+
+pub all-same : (W L b : ℕ) (work : List ℕ) → SameBut W L b work work
+all-same W L b work a l h = refl
+
+-- two stores in one block are one
+pub stored-then : {regs regs₁ regs₂ : List ℕ} {b : ℕ} {r r′ : Block} → Stored regs b r regs₁ → Stored regs₁ b r′ regs₂ → Stored regs b r′ regs₂
+stored-then p q =
+    record { long = q .long ∙ p .long; here = q .here; others = λ a h. q .others a h ∙ p .others a h }
+
+either-way : (a b : ℕ) {P : Type 0} → (a ≡ b → P) → (a ≢ b → P) → P
+either-way a b f g =
+    by-cases (decLt a b) (λ (p : a < b). g (λ e. omega arith))
+    (λ (p : ¬ (a < b)). by-cases (decLt b a) (λ (q : b < a). g (λ e. omega arith)) (λ (q : ¬ (b < a)). f (omega (arith, p, q))))
+
+module _ (G : Graph) (W L : ℕ) (ws : List Worker) (regs work : List ℕ) (long : length ws ≡ W) (each : Each G W L ws regs work) where
+  pub each-set : (b : ℕ) (w : Worker) {r : Block} {regs′ : List ℕ} (work′ : List ℕ) → Stored regs b r regs′ → SameBut W L b work work′
+      → BlockIs G w r (stretchAt L b work′) → Each G W L (set ws b w) regs′ work′
+  each-set b w {r} {regs′} work′ st same is a low =
+      either-way a b
+      (λ (e : a ≡ b).
+      rw (e, getD-set-same ws b w ended (omega (arith, long)), st .here) is)
+      (λ (h : a ≢ b).
+      rw (getD-set-other ws b a w ended h, st .others a h, same a low h) (each a low))
+
+-- one worker changes
+module _ {G : Graph} {g : Setup} {s : State} {work regs : List ℕ} {p : Progress} (h : Holds G g s (memory work regs p))
+    (long : length (s .workers) ≡ g .workers) (b : ℕ) (low : b < g .workers) {x : Worker} (is : worker s b ≡ x) where
+  pub hold-one : (w : Worker) {r : Block} {regs′ : List ℕ} (work′ : List ℕ) {p′ : Progress} → Stored regs b r regs′ → length work′ ≡ length work
+      → SameBut (g .workers) (g .stretch) b work work′ → BlockIs G w r (stretchAt (g .stretch) b work′)
+      → p′ .carrying + carries? x ≡ p .carrying + carries? w → p′ .running + running? x ≡ p .running + running? w
+      → {s′ : State} → s′ .workers ≡ set (s .workers) b w → p′ .counts ≡ s′ .counts → Holds G g s′ (memory work′ regs′ p′)
+  hold-one w {r} {regs′} work′ {p′} st wl same bl ca ru {s′} ws co =
+      record {
+        counts-are = co;
+        carrying-is = rw ws (omega (arith, ca, h .carrying-is, sum-set carries? ended (s .workers) b x w is (omega (arith, long))));
+        running-is = rw ws (omega (arith, ru, h .running-is, sum-set running? ended (s .workers) b x w is (omega (arith, long))));
+        regs-long = st .long ∙ h .regs-long;
+        work-long = wl ∙ h .work-long;
+        each = rw ws (each-set G (g .workers) (g .stretch) (s .workers) regs work long (h .each) b w work′ st same bl);
+      }
+
+  -- and another one
+  pub hold-two : (w : Worker) {r : Block} {regs₁ : List ℕ} → Stored regs b r regs₁ → (a : ℕ) → a < g .workers → a ≢ b → {y : Worker}
+      → worker s a ≡ y → (z : Worker) {q : Block} {regs′ : List ℕ} (work′ : List ℕ) {p′ : Progress} → Stored regs₁ a q regs′
+      → length work′ ≡ length work
+      → ((i : ℕ) → i < g .workers → i ≢ b → i ≢ a → stretchAt (g .stretch) i work′ ≡ stretchAt (g .stretch) i work)
+      → BlockIs G w r (stretchAt (g .stretch) b work′) → BlockIs G z q (stretchAt (g .stretch) a work′)
+      → p′ .carrying + carries? x + carries? y ≡ p .carrying + carries? w + carries? z
+      → p′ .running + running? x + running? y ≡ p .running + running? w + running? z
+      → {s′ : State} → s′ .workers ≡ set (set (s .workers) b w) a z → p′ .counts ≡ s′ .counts → Holds G g s′ (memory work′ regs′ p′)
+  hold-two w {r} {regs₁} st a la other {y} iy z {q} {regs′} work′ {p′} st′ wl same bl bl′ ca ru {s′} ws co =
+      record {
+        counts-are = co;
+        carrying-is = rw ws (omega (arith, ca, h .carrying-is, sums carries?, sums′ carries?));
+        running-is = rw ws (omega (arith, ru, h .running-is, sums running?, sums′ running?));
+        regs-long = st′ .long ∙ st .long ∙ h .regs-long;
+        work-long = wl ∙ h .work-long;
+        each = rw ws each′;
+      }
+    where
+      ws₁ : List Worker
+      ws₁ = set (s .workers) b w
+
+      long₁ : length ws₁ ≡ g .workers
+      long₁ = simp length-set long
+
+      sums : (f : Worker → ℕ) → sum f ws₁ + f x ≡ sum f (s .workers) + f w
+      sums f = sum-set f ended (s .workers) b x w is (omega (arith, long))
+
+      sums′ : (f : Worker → ℕ) → sum f (set ws₁ a z) + f y ≡ sum f ws₁ + f z
+      sums′ f = sum-set f ended ws₁ a y z (getD-set-other (s .workers) b a w ended other ∙ iy) (omega (arith, long₁))
+
+      each′ : Each G (g .workers) (g .stretch) (set ws₁ a z) regs′ work′
+      each′ i li =
+          either-way i a
+          (λ (e : i ≡ a). rw (e, getD-set-same ws₁ a z ended (omega (arith, long₁)), st′ .here) bl′)
+          (λ (na : i ≢ a).
+          either-way i b
+          (λ (e : i ≡ b).
+          rw (getD-set-other ws₁ a i z ended na, st′ .others i na, e, getD-set-same (s .workers) b w ended (omega (arith, long)), st .here) bl)
+          (λ (nb : i ≢ b).
+          rw (getD-set-other ws₁ a i z ended na, st′ .others i na, getD-set-other (s .workers) b i w ended nb, st .others i nb, same i li nb na) (h .each i li)))

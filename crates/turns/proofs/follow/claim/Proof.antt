@@ -1,0 +1,39 @@
+-- `claim`: what is found at the target, and then following.
+use Rattle.turns.proofs.Bounds.{block-room}
+use Rattle.turns.proofs.Looking.{claim-low, claim-there, claimed, marks-claimed}
+use borrow.Author.Needs.{needs}
+use Rattle.turns.proofs.follow.claim.Statement.{statement}
+use Rattle.turns.proofs.follow.claim.Tie as tie
+
+load-requires : tie.Need-load-requires
+load-requires c κs =
+    let start = c .before .before .before .before .before .before in
+    let x = start .pre in
+    block-room (x .scene) (x .holds) (start .args .b) (claim-low x)
+
+claim-target-requires : tie.Need-claim-target-requires
+claim-target-requires c κs =
+    let at-load = c .before in
+    let start = at-load .before .before .before .before .before .before .before in
+    rw (at-load .load .ensures) (claim-there (start .pre))
+
+follow-requires : tie.Need-follow-requires
+follow-requires c κs =
+    let at-claim-target = c .before .before .before .before in
+    let at-load = at-claim-target .before .before in
+    let start = at-load .before .before .before .before .before .before .before in
+    (at-load .load .ensures, rw (at-claim-target .claim-target .ensures .0, at-load .load .ensures) (claimed (start .pre)))
+
+returns : tie.Need-returns
+returns c =
+    let at-follow = c .before .before .before .before in
+    let at-claim-target = at-follow .before .before .before .before .before in
+    let at-load = at-claim-target .before .before in
+    let d = rw (at-claim-target .claim-target .ensures .0, at-load .load .ensures) at (at-follow .follow .ensures) in
+    (λ v x. d v (claimed x), λ v x. rw (at-claim-target .claim-target .ensures .1, at-load .load .ensures) (marks-claimed x v))
+
+pub claim-spec : {M : Type 1} → statement M
+claim-spec =
+    tie.close
+    (tie.spec load-requires claim-target-requires follow-requires (λ c. search needs) (λ c. search needs)
+    (λ c. search needs) returns)

@@ -1,0 +1,50 @@
+-- `take_up`: the block of a busy worker with the runs that it is owed.
+use native.Mathlib.Omega.{arith}
+use Rattle.turns.proofs.Bounds.{block-room, roomy}
+use Rattle.turns.proofs.Asking.{given-low, first-given, holds-taken}
+use borrow.Author.Needs.{needs}
+use Rattle.turns.proofs.follow.take_up.Statement.{statement}
+use Rattle.turns.proofs.follow.take_up.Tie as tie
+
+load-requires : tie.Need-load-requires
+load-requires c κs =
+    let start = c .before .before .before in
+    let x = start .pre .1 in
+    block-room (x .scene) (x .holds) (start .args .b) (given-low (x .scene) (x .holds) (start .args .b) (x .here .is))
+
+shared-slice-read-taken : tie.Need-shared-slice-read-taken
+shared-slice-read-taken c =
+    let at-load = c .before .before .before in
+    let start = at-load .before .before .before .before in
+    let x = start .pre .1 in
+    let f = first-given (x .scene) (x .holds) (start .args .b) (x .here .is) .0 in
+    rw (at-load .load .ensures, x .here .targets-are) f
+
+store-requires : tie.Need-store-requires
+store-requires c κs =
+    let start = c .before .before .before .before .before .before .before .before in
+    let x = start .pre .1 in
+    block-room (x .scene) (x .holds) (start .args .b) (given-low (x .scene) (x .holds) (start .args .b) (x .here .is))
+
+moved-requires : tie.Need-moved-requires
+moved-requires c κs =
+    let start = c .before .before .before .before .before .before .before .before .before .before .before in
+    let x = start .pre .1 in
+    (roomy (x .scene) (x .holds), omega arith)
+
+returns : tie.Need-returns
+returns c =
+    let at-store = c .before .before .before in
+    let at-taken = at-store .before in
+    let at-load = at-taken .before .before .before .before in
+    let start = at-load .before .before .before .before in
+    let a = start .args in
+    λ work v x.
+    rw (at-store .store .ensures, at-taken .taken .ensures, at-load .load .ensures, c .moved .ensures)
+    (holds-taken (x .scene) (x .holds) (a .b) (x .here .is) v _ (rw (x .here .targets-are)))
+
+pub take-up-spec : {M : Type 1} → statement M
+take-up-spec =
+    tie.close
+    (tie.spec load-requires (λ c. search needs) (λ c. search needs) shared-slice-read-taken (λ c κs. search needs)
+    store-requires moved-requires (λ c. search needs) returns)

@@ -1,0 +1,85 @@
+-- `share`: the work memory is divided, and both blocks are written.
+use Rattle.turns.proofs.Answering.{poll-low, poll-is, asker-low, asker-word, dividing-words, holds-shared}
+use native.Mathlib.Omega.{arith}
+use mathlib.Core.Path.{ap}
+use Rattle.worker.specs.declared.registers.Block.{Block}
+use Rattle.machine.specs.Run.{carried}
+use Rattle.machine.proofs.Facts.{busy-carried-limit}
+use Rattle.turns.proofs.Bounds.{block-room, roomy, carrying-limit}
+use borrow.Author.Needs.{needs}
+use Rattle.turns.proofs.poll.share.Statement.{statement}
+use Rattle.turns.proofs.poll.share.Tie as tie
+
+sub-asker : tie.Need-sub-asker
+sub-asker c =
+    let start = c .before .before .before in
+    let x = start .pre .1 in
+    omega (arith, ap (λ (r : Block). r .cell) (start .pre .0), asker-word (x .scene) (x .holds) (start .args .b) (x .here .is))
+
+add-half : tie.Need-add-half
+add-half c =
+    let start = c .before .before .before in
+    let x = start .pre .1 in
+    let n = ap (λ (r : Block). r .carried) (start .pre .0) in
+    omega (
+      arith,
+      n,
+      poll-is (x .scene) (x .holds) (start .args .b) (x .here .is) .carrying .number,
+      busy-carried-limit (x .scene .accepted) (x .scene .sound) (start .args .b) (x .here .is),
+      x .scene .references-limit,
+    )
+
+divide-requires : tie.Need-divide-requires
+divide-requires c κs =
+    let start = c .before .before .before .before in
+    let x = start .pre .1 in
+    rw (start .pre .0) (dividing-words (x .scene) (x .holds) (start .args .b) (x .here .is) (x .here .answers))
+
+store-requires : tie.Need-store-requires
+store-requires c κs =
+    let start = c .before .before .before .before .before .before .before .before .before in
+    let x = start .pre .1 in
+    block-room (x .scene) (x .holds) (start .args .b) (poll-low (x .scene) (x .holds) (start .args .b) (x .here .is))
+
+store-requires-2 : tie.Need-store-requires-2
+store-requires-2 c κs =
+    let at-store = c .before .before .before .before in
+    let start = at-store .before .before .before .before .before .before .before .before .before .before in
+    let x = start .pre .1 in
+    let i = asker-word (x .scene) (x .holds) (start .args .b) (x .here .is) in
+    let r = block-room (x .scene) (x .holds) (x .here .asker) (asker-low (x .scene) (x .holds) (start .args .b) (x .here .is)) in
+    let e = ap (λ (r : Block). r .cell) (start .pre .0) in
+    record { low = omega (arith, e, i, r .low); long = omega (arith, e, i, r .long, at-store .store .kept .0) }
+
+count-move-requires : tie.Need-count-move-requires
+count-move-requires c κs =
+    let start = c .before .before .before .before .before .before .before .before .before .before .before .before .before .before .before .before .before .before in
+    let x = start .pre .1 in
+    (roomy (x .scene) (x .holds), omega arith, omega arith)
+
+add-t13 : tie.Need-add-t13
+add-t13 c =
+    let start = c .before .before .before .before .before .before .before .before .before .before .before .before .before .before .before .before .before .before .before .before in
+    let x = start .pre .1 in
+    omega (arith, carrying-limit (x .scene) (x .holds))
+
+returns : tie.Need-returns
+returns c =
+    let at-count-move = c .before in
+    let at-store2 = at-count-move .before .before .before .before in
+    let at-given = at-store2 .before in
+    let at-store = at-given .before .before .before .before in
+    let at-shared = at-store .before in
+    let at-divide = at-shared .before .before .before .before in
+    let start = at-divide .before .before .before .before .before in
+    let d = rw (start .pre .0) at (at-divide .divide .ensures) in
+    λ v x.
+    rw (at-store2 .store2 .ensures, at-store .store .ensures, at-shared .shared .ensures, at-given .given .ensures, at-count-move .count-move .ensures, start .pre .0)
+    (holds-shared (x .scene) (x .holds) (start .args .b) (x .here .is) (x .here .answers) v _ _ _ d)
+
+pub share-spec : {M : Type 1} → statement M
+share-spec =
+    tie.close
+    (tie.spec sub-asker add-half divide-requires (λ c κs. search needs) store-requires (λ c. search needs)
+    (λ c κs. search needs) store-requires-2 count-move-requires add-t13 (λ c. search needs) (λ c. search needs)
+    returns)

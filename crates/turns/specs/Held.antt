@@ -1,0 +1,106 @@
+-- The state of the machine as the lent memories hold it.
+use Prim.Native.Nat.{ℕ, suc, _+_, _*_, _<_, _≤_, _^_}
+use mathlib.Core.Path.{_≡_}
+use mathlib.Core.List.{List, [], _∷_}
+use lib.ListN.{length, getD, take, drop}
+use Rattle.laws.specs.Sum.{sum}
+use Rattle.graph.specs.Graph.{Graph, objects, references, target}
+use Rattle.graph.specs.Limits.{most-objects, most-references}
+use Rattle.machine.specs.Run.{Run, run, carried}
+use Rattle.machine.specs.Machine.{Setting, State, Worker, idle, asking, denied, ended, given, busy, Cell, empty, from, Phase, poll, look, claim, stretchLength}
+use Rattle.machine.specs.Accepted.{Accepted}
+use Rattle.machine.specs.Sound.{Sound, batchOf}
+use Rattle.worker.specs.declared.registers.Block.{Block}
+use Rattle.worker.specs.declared.stretch.Top.{Top}
+use Rattle.worker.specs.Registers.{blockAt, block-words, status-idle, status-asking, status-denied, status-ended, status-given, status-poll, status-look, status-claim}
+use Rattle.worker.specs.Stretch.{topWith, Told}
+use Rattle.turns.specs.declared.Setup.{Setup}
+use Rattle.turns.specs.declared.Progress.{Progress}
+use Rattle.turns.specs.Counting.{carries?, running?}
+
+-- what is lent and changed by turns, but for the marks, and what is kept by value
+pub record Memory : Type 0 where
+  pub work : List ℕ
+  pub regs : List ℕ
+  pub progress : Progress
+
+abbrev pub memory : List ℕ → List ℕ → Progress → Memory
+memory work regs p = record { work = work; regs = regs; progress = p }
+
+-- D and K
+abbrev pub settingOf : Setup → Setting
+settingOf g = record { batch = g .batch; cutoff = g .cutoff }
+
+-- worker b's stretch of the work memory, of L words
+abbrev pub stretchAt : ℕ → ℕ → List ℕ → List ℕ
+stretchAt L b work = take L (drop (b * L) work)
+
+-- ---- one worker
+
+-- an empty cell is 0, one that holds asker a is a + 1
+abbrev pub cellWord : Cell → ℕ
+cellWord empty = 0
+cellWord (from a) = suc a
+
+-- the status of a busy worker
+abbrev pub phaseWord : Phase → ℕ
+phaseWord poll = status-poll
+phaseWord (look k) = status-look
+phaseWord (claim k) = status-claim
+
+-- where the first reference leads
+abbrev pub nextTarget : Graph → List Run → ℕ
+nextTarget G [] = 0
+nextTarget G (run e j ∷ rs) = target G e
+
+-- the top that a block tells of
+abbrev pub topOf : Block → Top
+topOf r = topWith (r .used) (r .first) (r .end)
+
+-- the block and the stretch hold these runs
+pub record Carrying (rs : List Run) (r : Block) (s : List ℕ) : Type 0 where
+  pub number : r .carried ≡ carried rs
+  pub told : Told rs (topOf r) s
+
+pub record BusyIs (G : Graph) (c : Cell) (n : ℕ) (p : Phase) (rs : List Run) (r : Block) (s : List ℕ) : Type 0 where
+  pub status : r .status ≡ phaseWord p
+  pub cell : r .cell ≡ cellWord c
+  pub since : r .since ≡ n
+  pub batch : r .batch ≡ batchOf p
+  pub carrying : Carrying rs r s
+  pub target : r .target ≡ nextTarget G rs
+
+-- a worker's block and stretch; what a worker does not have, its words do not say
+abbrev pub BlockIs : Graph → Worker → Block → List ℕ → Type 0
+BlockIs G idle r s = r .status ≡ status-idle
+BlockIs G asking r s = r .status ≡ status-asking
+BlockIs G denied r s = r .status ≡ status-denied
+BlockIs G ended r s = r .status ≡ status-ended
+BlockIs G (given rs) r s = (r .status ≡ status-given) × Carrying rs r s
+BlockIs G (busy c n p rs) r s = BusyIs G c n p rs r s
+
+-- ---- the state
+
+-- every worker's
+abbrev pub Each : Graph → ℕ → ℕ → List Worker → List ℕ → List ℕ → Type 0
+Each G W L ws regs work = (b : ℕ) → b < W → BlockIs G (getD ws b ended) (blockAt regs b) (stretchAt L b work)
+
+-- the state but for its marks
+pub record Holds (G : Graph) (g : Setup) (s : State) (μ : Memory) : Type 0 where
+  pub counts-are : μ .progress .counts ≡ s .counts
+  pub carrying-is : μ .progress .carrying ≡ sum carries? (s .workers)
+  pub running-is : μ .progress .running ≡ sum running? (s .workers)
+  pub regs-long : length (μ .regs) ≡ block-words * g .workers
+  pub work-long : length (μ .work) ≡ g .workers * g .stretch
+  pub each : Each G (g .workers) (g .stretch) (s .workers) (μ .regs) (μ .work)
+
+-- a state of an accepted call, and that its counts have room for one more turn
+pub record Scene (G : Graph) (g : Setup) (s : State) : Type 0 where
+  pub starts : List ℕ
+  pub accepted : Accepted G starts (g .workers) (settingOf g)
+  pub sound : Sound G starts (g .workers) (settingOf g) s
+  pub objects-limit : objects G ≤ most-objects
+  pub references-limit : references G ≤ most-references
+  pub stretch-is : g .stretch ≡ stretchLength (objects G)
+  pub handed-room : s .counts .handed + 1 < 2 ^ 64
+  pub moved-room : s .counts .moved + 1 < 2 ^ 64

@@ -1,0 +1,228 @@
+// The turns of a worker that looks or claims, and following; and taking a hand-over up.
+use crate::Progress;
+use crate::Setup;
+use worker::registers;
+use worker::registers::Block;
+use worker::stretch;
+use worker::stretch::Top;
+ghost use mathlib.Core.Path.{_≡_};
+ghost use mathlib.Core.List.{List};
+ghost use Prim.Native.Nat.{ℕ, _+_, _<_};
+ghost use lib.ListN.{length};
+ghost use Rattle.machine.specs.Machine.{claimMark};
+ghost use Rattle.worker.specs.Registers.{blockAt};
+ghost use Rattle.turns.specs.Claiming.{openedNone, openedAt, claimedMarks, nextWord, Advancing, advancedBlock, takenBlock};
+ghost use Rattle.turns.specs.Held.{memory};
+ghost use Rattle.turns.specs.Turned.{Ready, DoesAny, Marks, IsGiven, IsLooking, IsClaiming, IsFollowing};
+
+// What is found at a target: how many marks are new, and the run that opens, from `first` to `end`.
+pub struct Opened {
+    pub won: u64,
+    pub first: u32,
+    pub end: u32,
+}
+
+// The target is marked already.
+fn lost() -> Opened
+    ensures { λ r. ⌜ r ≡ openedNone ⌝ }
+{
+    Opened {
+        won: 0,
+        first: 0,
+        end: 0,
+    }
+}
+
+// Worker b reads the mark of t again, and marks t if it is still unmarked.
+fn claim_target(offsets: &[u32], marks: &mut [u8], b: u32, t: u32) -> Opened
+    requires { ⌜ (t < length (now marks)) × (t + 1 < length (now offsets)) ⌝ }
+    ensures { λ r. ⌜ r ≡ openedAt (now (offsets .entry)) (now (marks .entry)) t ⌝ }
+    ensures { λ _. ⌜ now (marks .exit) ≡ claimedMarks (now (marks .entry)) b t ⌝ }
+{
+    let v = t as usize;
+    let again = marks[v];
+    if again != 0 {
+        return lost();
+    }
+    marks[v] = claim_mark(b);
+    Opened {
+        won: 1,
+        first: offsets[v],
+        end: offsets[v + 1],
+    }
+}
+
+// The mark that a claim of worker b leaves.
+fn claim_mark(b: u32) -> u8
+    ensures { λ r. ⌜ r ≡ claimMark b ⌝ }
+{
+    1
+}
+
+// A busy worker's next turn, by its batch.
+fn phase(batch: u32) -> u32
+    ensures { λ r. ⌜ r ≡ nextWord batch ⌝ }
+{
+    if batch == 0 {
+        registers::POLL
+    } else {
+        registers::LOOK
+    }
+}
+
+// The block of a worker that goes on after following, with so many more references opened.
+fn advanced(r: Block, opened: u32, top: Top, target: u32) -> Block
+    requires { ⌜ Advancing r opened ⌝ }
+    ensures { λ q. ⌜ q ≡ advancedBlock r opened top target ⌝ }
+{
+    let batch = r.batch - 1;
+    Block {
+        status: phase(batch),
+        cell: r.cell,
+        since: r.since + 1,
+        batch,
+        carried: r.carried - 1 + opened,
+        used: top.used,
+        first: top.first,
+        end: top.end,
+        target,
+    }
+}
+
+// The block of a worker that takes up a hand-over.
+fn taken(r: Block, target: u32) -> Block
+    ensures { λ q. ⌜ q ≡ takenBlock r target ⌝ }
+{
+    Block {
+        status: registers::POLL,
+        cell: 0,
+        since: 0,
+        batch: 0,
+        carried: r.carried,
+        used: r.used,
+        first: r.first,
+        end: r.end,
+        target,
+    }
+}
+
+// Worker b, with the block r, follows its first reference, at whose target c was found.
+fn follow(
+    targets: &[u32],
+    setup: Setup,
+    work: &mut [u32],
+    regs: &mut [u32],
+    p: Progress,
+    b: u32,
+    r: Block,
+    c: Opened,
+) -> Progress
+    requires { ⌜ r ≡ blockAt (now regs) b ⌝ }
+    requires { ⌜ Ready (IsFollowing setup (now targets) c b) setup (memory (now work) (now regs) p) ⌝ }
+    ensures { λ q. ⌜ DoesAny (IsFollowing setup (now (targets .entry)) c b) setup b
+        (memory (now (work .entry)) (now (regs .entry)) p)
+        (memory (now (work .exit)) (now (regs .exit)) q) ⌝ }
+{
+    let len = setup.stretch;
+    let from = b as usize * len;
+    let f = c.first;
+    let g = c.end;
+    let top = stretch::next(
+        &mut work[from..from + len],
+        Top {
+            used: r.used,
+            first: r.first,
+            end: r.end,
+        },
+        f,
+        g,
+    );
+    let first = top.first;
+    let counts = p.counts;
+    let end = top.end;
+    if first < end {
+        let target = targets[first as usize];
+        registers::store(regs, b, advanced(r, g - f, top, target));
+        return Progress {
+            counts: machine::count_follow(counts, c.won, 0),
+            carrying: p.carrying,
+            running: p.running,
+        };
+    }
+    registers::put(regs, b, registers::STATUS, registers::IDLE);
+    let cell = r.cell;
+    if cell == 0 {
+        return Progress {
+            counts: machine::count_follow(counts, c.won, 0),
+            carrying: p.carrying - 1,
+            running: p.running,
+        };
+    }
+    registers::put(regs, cell - 1, registers::STATUS, registers::DENIED);
+    Progress {
+        counts: machine::count_follow(counts, c.won, 1),
+        carrying: p.carrying - 1,
+        running: p.running,
+    }
+}
+
+// A look: where the target is marked, the reference is followed; where not, the next turn is a claim.
+pub fn look(
+    targets: &[u32],
+    setup: Setup,
+    marks: &[u8],
+    work: &mut [u32],
+    regs: &mut [u32],
+    p: Progress,
+    b: u32,
+) -> Progress
+    requires { ⌜ Ready (IsLooking (now targets) (now marks) b) setup (memory (now work) (now regs) p) ⌝ }
+    ensures { λ q. ⌜ DoesAny (IsLooking (now (targets .entry)) (now (marks .entry)) b) setup b
+        (memory (now (work .entry)) (now (regs .entry)) p)
+        (memory (now (work .exit)) (now (regs .exit)) q) ⌝ }
+{
+    let r = registers::load(regs, b);
+    let t = r.target as usize;
+    let seen = marks[t];
+    if seen != 0 {
+        return follow(targets, setup, work, regs, p, b, r, lost());
+    }
+    registers::put(regs, b, registers::STATUS, registers::CLAIM);
+    crate::moved(p, 0)
+}
+
+// A claim; the reference is followed, whether the claim is won or lost.
+pub fn claim(
+    offsets: &[u32],
+    targets: &[u32],
+    setup: Setup,
+    marks: &mut [u8],
+    work: &mut [u32],
+    regs: &mut [u32],
+    p: Progress,
+    b: u32,
+) -> Progress
+    requires { ⌜ Ready (IsClaiming (now offsets) (now targets) (now marks) b) setup (memory (now work) (now regs) p) ⌝ }
+    ensures { λ q. ⌜ DoesAny (IsClaiming (now (offsets .entry)) (now (targets .entry)) (now (marks .entry)) b) setup b
+        (memory (now (work .entry)) (now (regs .entry)) p)
+        (memory (now (work .exit)) (now (regs .exit)) q) ⌝ }
+    ensures { λ _. ⌜ ((v : ℕ) → Marks (IsClaiming (now (offsets .entry)) (now (targets .entry)) (now (marks .entry)) b) setup b v
+        (memory (now (work .entry)) (now (regs .entry)) p) (now (marks .exit))) ⌝ }
+{
+    let r = registers::load(regs, b);
+    let found = claim_target(offsets, marks, b, r.target);
+    follow(targets, setup, work, regs, p, b, r, found)
+}
+
+// An asker takes the hand-over up that it is owed.
+pub fn take_up(targets: &[u32], setup: Setup, regs: &mut [u32], p: Progress, b: u32) -> Progress
+    requires { ⌜ ((work : List ℕ) × Ready (IsGiven (now targets) b) setup (memory work (now regs) p)) ⌝ }
+    ensures { λ q. ⌜ ((work : List ℕ) → DoesAny (IsGiven (now (targets .entry)) b) setup b
+        (memory work (now (regs .entry)) p)
+        (memory work (now (regs .exit)) q)) ⌝ }
+{
+    let r = registers::load(regs, b);
+    let first = r.first as usize;
+    registers::store(regs, b, taken(r, targets[first]));
+    crate::moved(p, 0)
+}

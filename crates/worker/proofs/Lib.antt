@@ -1,0 +1,6 @@
+pub mod Blocks
+pub mod Copy
+pub mod Cutting
+pub mod Next
+pub mod Pairs
+pub mod Settling

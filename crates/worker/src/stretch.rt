@@ -1,0 +1,136 @@
+// One worker's stretch of the work memory: the runs below the one being followed as pairs (first,
+// end), the run to be followed last standing first. The words behind them say nothing.
+ghost use mathlib.Core.Path.{_≡_};
+ghost use Prim.Native.Nat.{_+_, _-_, _≤_};
+ghost use lib.ListN.{length, drop};
+ghost use lib.Seq.{paste};
+ghost use Rattle.worker.specs.Stretch.{Nextable, nextTop, nextWords, Copyable, Cuttable, CutFound, Cleft, KeptAbove, settled};
+
+// The run being followed, from its next reference to its end, and how many words the others take.
+// Where first is the end, there is none.
+pub struct Top {
+    pub used: u32,
+    pub first: u32,
+    pub end: u32,
+}
+
+// Takes one reference off the run being followed. The run from f to g, if it has any, goes directly
+// below what is left; where nothing is left, the next run comes up.
+pub fn next(s: &mut [u32], t: Top, f: u32, g: u32) -> Top
+    requires { ⌜ Nextable (now s) t ⌝ }
+    ensures { λ r. ⌜ r ≡ nextTop (now (s .entry)) t f g ⌝ }
+    ensures { λ _. ⌜ now (s .exit) ≡ nextWords (now (s .entry)) t f g ⌝ }
+{
+    let used = t.used;
+    let rest = t.first + 1;
+    let end = t.end;
+    if rest < end {
+        if f < g {
+            let at = used as usize;
+            s[at] = f;
+            s[at + 1] = g;
+            return Top {
+                used: used + 2,
+                first: rest,
+                end,
+            };
+        }
+        return Top {
+            used,
+            first: rest,
+            end,
+        };
+    }
+    if f < g {
+        return Top {
+            used,
+            first: f,
+            end: g,
+        };
+    }
+    if used < 2 {
+        return Top {
+            used: 0,
+            first: 0,
+            end: 0,
+        };
+    }
+    let at = used as usize - 2;
+    Top {
+        used: used - 2,
+        first: s[at],
+        end: s[at + 1],
+    }
+}
+
+// Where the first k references end: they are the runs above the pair that ends at `place`, and
+// the first `left` references of that pair's run.
+pub struct Cut {
+    pub place: u32,
+    pub left: u32,
+}
+
+// Walks down from the uppermost pair to where the first k references end.
+pub fn find_cut(s: &[u32], used: u32, k: u32) -> Cut
+    requires { ⌜ Cuttable (now s) used k ⌝ }
+    ensures { λ r. ⌜ CutFound (now (s .entry)) used k (r .place) (r .left) ⌝ }
+{
+    let mut place = used;
+    let mut left = k;
+    loop {
+        let at = place as usize;
+        let size = s[at - 1] - s[at - 2];
+        if left < size {
+            return Cut { place, left };
+        }
+        left -= size;
+        place -= 2;
+    }
+}
+
+// Copies `count` words within one slice, in ascending order.
+pub fn copy_words(w: &mut [u32], from: usize, to: usize, count: usize)
+    requires { ⌜ Copyable (now w) from to count ⌝ }
+    ensures { λ _. ⌜ now (w .exit) ≡ paste (now (w .entry)) to (drop from (now (w .entry))) count ⌝ }
+{
+    for i in 0..count {
+        let x = w[from + i];
+        w[to + i] = x;
+    }
+}
+
+// Leaves in a stretch only what stands above the cut. Returns how many words that takes.
+pub fn keep_above(s: &mut [u32], used: u32, cut: Cut) -> u32
+    requires { ⌜ Cleft (now s) used (cut .place) (cut .left) ⌝ }
+    ensures { λ r. ⌜ KeptAbove (now (s .entry)) used (cut .place) (cut .left) (now (s .exit)) r ⌝ }
+{
+    let place = cut.place;
+    let left = cut.left;
+    let at = place as usize;
+    let end = used as usize;
+    if left == 0 {
+        copy_words(s, at, 0, end - at);
+        return used - place;
+    }
+    s[at - 1] = s[at - 2] + left;
+    copy_words(s, at - 2, 0, end - (at - 2));
+    used - (place - 2)
+}
+
+// Writes a stretch out as a call leaves it: all runs, the one being followed last, then zeros.
+pub fn settle(s: &mut [u32], t: Top)
+    requires { ⌜ (t .used + 2 ≤ length (now s)) ⌝ }
+    ensures { λ _. ⌜ now (s .exit) ≡ settled (now (s .entry)) t ⌝ }
+{
+    let at = t.used as usize;
+    let len = s.len();
+    let first = t.first;
+    let end = t.end;
+    if first < end {
+        s[at] = first;
+        s[at + 1] = end;
+        slices::clear(s, at + 2, len);
+    } else {
+        slices::clear(s, 0, len);
+    }
+}
