@@ -4,6 +4,7 @@ use mathlib.Core.Bool.{Bool, true, false, not, _||_}
 use mathlib.Core.List.{List, [], _∷_}
 use Prim.Native.Nat.{ℕ, zero, suc, _+_, _-_, _*_, _≤_, _<_}
 use native.Mathlib.Nat.{mul-le-mul}
+use native.Mathlib.Numerals.{add-one}
 use native.Mathlib.Omega.{arith}
 use borrow.Author.Tests.{lt-ltb, le-ltb, ltb-false, ne-eqb}
 use lib.ListN.{length, getD, drop, drop-of-length-le}
@@ -11,28 +12,34 @@ use lib.Dec.{ltb, eqb}
 use lib.Seq.{drop-cons}
 use Rattle.laws.specs.Choice.{both}
 use Rattle.refusal.proofs.None.{or-none}
-use Rattle.graph.specs.Graph.{wellFormed}
+use Rattle.graph.specs.Graph.{objects, wellFormed}
 use Rattle.graph.specs.Limits.{most-objects, most-references}
 use Rattle.machine.specs.Machine.{stretchLength}
-use Rattle.machine.specs.Call.{Call, graphOf, outside, most-workers, most-setting, scheduleFits, fault}
+use Rattle.machine.specs.Limits.{most-workers, most-setting}
+use Rattle.machine.specs.Call.{Call, graphOf, outside, scheduleFits, fault}
+use Rattle.refusal.specs.declared.Refusal.the-variants.{Setting, Count, Buffer, Graph, Object, Schedule}
+use Rattle.refusal.specs.declared.Verdict.the-variants.{Fine, Faulty}
+use Rattle.marker.specs.Answer.{Finds}
 
 -- the length that is asked for fits
 pub wanted-small : (n W : ℕ) → n ≤ 65536 → W ≤ 16 → W * (2 * n + 4) ≤ 2097216
 wanted-small n W h k = let m : 2 * n + 4 ≤ 131076 = omega arith in omega (arith, mul-le-mul k m)
 
-module _ (W : ℕ) (l : List ℕ) (i : ℕ) (h : i < length l) where
-  pair-is : 2 ≤ length l - i → drop i l ≡ getD l i 0 ∷ getD l (suc i) 0 ∷ drop (i + 2) l
-  pair-is o =
+module _ (l : List ℕ) (i : ℕ) (h : i < length l) (room : 2 ≤ length l - i) where
+  -- the entry at i
+  pub pair-is : drop i l ≡ getD l i 0 ∷ getD l (i + 1) 0 ∷ drop (i + 2) l
+  pair-is =
+      let n : i + 1 ≡ suc i = add-one i in
       let m : i + 2 ≡ suc (suc i) = omega arith in
-      rw m (drop-cons l i 0 h ∙ ap (λ (t : List ℕ). getD l i 0 ∷ t) (drop-cons l (suc i) 0 (omega arith)))
+      rw (n, m) (drop-cons l i 0 h ∙ ap (λ (t : List ℕ). getD l i 0 ∷ t) (drop-cons l (suc i) 0 (omega arith)))
 
-  fits-wrong : 2 ≤ length l - i → W ≤ getD l i 0 → scheduleFits W (drop i l) ≡ false
+  fits-wrong : (W : ℕ) → W ≤ getD l i 0 → scheduleFits W (drop i l) ≡ false
   unfolding scheduleFits
-  fits-wrong o w = ap (λ (t : List ℕ). scheduleFits W t) (pair-is o) ∙ rw (le-ltb (getD l i 0) W w)
+  fits-wrong W w = ap (λ (t : List ℕ). scheduleFits W t) pair-is ∙ rw (le-ltb (getD l i 0) W w)
 
-  fits-next : 2 ≤ length l - i → getD l i 0 < W → scheduleFits W (drop (i + 2) l) ≡ scheduleFits W (drop i l)
+  fits-next : (W : ℕ) → getD l i 0 < W → scheduleFits W (drop (i + 2) l) ≡ scheduleFits W (drop i l)
   unfolding scheduleFits
-  fits-next o w = sym (ap (λ (t : List ℕ). scheduleFits W t) (pair-is o) ∙ rw (lt-ltb (getD l i 0) W w))
+  fits-next W w = sym (ap (λ (t : List ℕ). scheduleFits W t) pair-is ∙ rw (lt-ltb (getD l i 0) W w))
 
 fits-done : (W : ℕ) (l : List ℕ) (i : ℕ) → length l ≤ i → scheduleFits W (drop i l) ≡ true
 unfolding scheduleFits
@@ -66,13 +73,13 @@ module _ (W : ℕ) (l : List ℕ) (k wrong : ℕ) (room : 2 * k + 2 ≤ length l
   scan-wrong h = record { none = λ e. absurd (omega arith); some = λ z. found wrong refl }
     where
       found : (n : ℕ) → wrong ≡ n → scheduleFits W l ≡ false
-      found zero e = sym (x .none e) ∙ fits-wrong W l (2 * k) (omega arith) (omega arith) h
+      found zero e = sym (x .none e) ∙ fits-wrong l (2 * k) (omega arith) (omega arith) W h
       found (suc n) e = x .some (λ z. absurd (omega arith))
 
   pub scan-right : getD l (2 * k) 0 < W → Scan W l (k + 1) wrong
   scan-right h =
       record {
-        none = λ e. rw next-place (fits-next W l (2 * k) (omega arith) (omega arith) h ∙ x .none e);
+        none = λ e. rw next-place (fits-next l (2 * k) (omega arith) (omega arith) W h ∙ x .none e);
         some = x .some;
       }
 
@@ -82,60 +89,62 @@ scan-end W l k (suc n) h x = rw (ne-eqb (suc n) 0 (λ e. absurd (omega arith))) 
 
 -- ---- the first fault, by what the checks answer
 
-abbrev pub Setting? : Call → Bool
-Setting? c = outside most-workers (c .workers) || outside most-setting (c .batch) || outside most-setting (c .cutoff)
+-- what a check's answer says of its test
+pub so : {r test t : Bool} → r ≡ test → r ≡ t → test ≡ t
+so e h = sym e ∙ h
 
-abbrev pub Count? : Call → Bool
-Count? c = ltb (length (c .offsets)) 2 || ltb most-objects (length (c .offsets) - 1) || ltb most-references (length (c .targets))
+abbrev pub Setting? : ℕ → ℕ → ℕ → Bool
+Setting? W D K = outside most-workers W || outside most-setting D || outside most-setting K
 
-abbrev pub Buffer? : Call → ℕ → ℕ → Bool
-Buffer? c marks work =
-    not (eqb marks (length (c .offsets) - 1)) || not (eqb work (c .workers * stretchLength (length (c .offsets) - 1)))
+abbrev pub Count? : ℕ → ℕ → Bool
+Count? offsets targets = ltb offsets 2 || ltb most-objects (offsets - 1) || ltb most-references targets
+
+abbrev pub Buffer? : ℕ → ℕ → ℕ → ℕ → Bool
+Buffer? n W marks work = not (eqb marks n) || not (eqb work (W * stretchLength n))
 
 -- what a check that finds no fault leaves to the next
-pub workers-low : (c : Call) → Setting? c ≡ false → c .workers ≤ 16
-workers-low c e =
-    let s = or-none (outside most-workers (c .workers) || outside most-setting (c .batch)) (outside most-setting (c .cutoff)) e in
-    let t = or-none (outside most-workers (c .workers)) (outside most-setting (c .batch)) (s .0) in
-    let u = or-none (ltb (c .workers) 1) (ltb most-workers (c .workers)) (t .0) in
-    ltb-false most-workers (c .workers) (u .1)
+pub workers-low : (W D K : ℕ) → Setting? W D K ≡ false → W ≤ most-workers
+workers-low W D K e =
+    let s = or-none (outside most-workers W || outside most-setting D) (outside most-setting K) e in
+    let t = or-none (outside most-workers W) (outside most-setting D) (s .0) in
+    ltb-false most-workers W (or-none (ltb W 1) (ltb most-workers W) (t .0) .1)
 
-pub objects-low : (c : Call) → Count? c ≡ false → (2 ≤ length (c .offsets)) × (length (c .offsets) - 1 ≤ 65536)
-objects-low c e =
-    let s = or-none (ltb (length (c .offsets)) 2 || ltb most-objects (length (c .offsets) - 1)) (ltb most-references (length (c .targets))) e in
-    let t = or-none (ltb (length (c .offsets)) 2) (ltb most-objects (length (c .offsets) - 1)) (s .0) in
-    (ltb-false (length (c .offsets)) 2 (t .0), ltb-false most-objects (length (c .offsets) - 1) (t .1))
+pub objects-low : (o m : ℕ) → Count? o m ≡ false → (2 ≤ o) × (o - 1 ≤ most-objects)
+objects-low o m e =
+    let s = or-none (ltb o 2 || ltb most-objects (o - 1)) (ltb most-references m) e in
+    let t = or-none (ltb o 2) (ltb most-objects (o - 1)) (s .0) in
+    (ltb-false o 2 (t .0), ltb-false most-objects (o - 1) (t .1))
 
-module _ (c : Call) (marks work : ℕ) where
-  pub fault-8 : Setting? c ≡ true → 8 ≡ fault c marks work
+module _ {c : Call} {marks work : ℕ} where
+  pub finds-8 : Setting? (c .workers) (c .batch) (c .cutoff) ≡ true → Finds (Faulty Setting) c marks work
   unfolding fault
-  fault-8 e = rw e
+  finds-8 e = record { number-is = rw e }
 
-  module _ (e₈ : Setting? c ≡ false) where
-    pub fault-4 : Count? c ≡ true → 4 ≡ fault c marks work
+  module _ (e₈ : Setting? (c .workers) (c .batch) (c .cutoff) ≡ false) where
+    pub finds-4 : Count? (length (c .offsets)) (length (c .targets)) ≡ true → Finds (Faulty Count) c marks work
     unfolding fault
-    fault-4 e = rw (e₈, e)
+    finds-4 e = record { number-is = rw (e₈, e) }
 
-    module _ (e₄ : Count? c ≡ false) where
-      pub fault-7 : Buffer? c marks work ≡ true → 7 ≡ fault c marks work
+    module _ (e₄ : Count? (length (c .offsets)) (length (c .targets)) ≡ false) where
+      pub finds-7 : Buffer? (objects (graphOf c)) (c .workers) marks work ≡ true → Finds (Faulty Buffer) c marks work
       unfolding fault
-      fault-7 e = rw (e₈, e₄, e)
+      finds-7 e = record { number-is = rw (e₈, e₄, e) }
 
-      module _ (e₇ : Buffer? c marks work ≡ false) where
-        pub fault-10 : wellFormed (graphOf c) ≡ false → 10 ≡ fault c marks work
+      module _ (e₇ : Buffer? (objects (graphOf c)) (c .workers) marks work ≡ false) where
+        pub finds-10 : wellFormed (graphOf c) ≡ false → Finds (Faulty Graph) c marks work
         unfolding fault
-        fault-10 e = rw (e₈, e₄, e₇, e)
+        finds-10 e = record { number-is = rw (e₈, e₄, e₇, e) }
 
         module _ (e₁₀ : wellFormed (graphOf c) ≡ true) where
-          pub fault-5 : length (c .offsets) - 1 ≤ c .index → 5 ≡ fault c marks work
+          pub finds-5 : objects (graphOf c) ≤ c .index → Finds (Faulty Object) c marks work
           unfolding fault
-          fault-5 h = rw (e₈, e₄, e₇, e₁₀, le-ltb (c .index) (length (c .offsets) - 1) h)
+          finds-5 h = record { number-is = rw (e₈, e₄, e₇, e₁₀, le-ltb (c .index) (objects (graphOf c)) h) }
 
-          module _ (low : c .index < length (c .offsets) - 1) where
-            pub fault-9 : scheduleFits (c .workers) (c .schedule) ≡ false → 9 ≡ fault c marks work
+          module _ (low : c .index < objects (graphOf c)) where
+            pub finds-9 : scheduleFits (c .workers) (c .schedule) ≡ false → Finds (Faulty Schedule) c marks work
             unfolding fault
-            fault-9 e = rw (e₈, e₄, e₇, e₁₀, lt-ltb (c .index) (length (c .offsets) - 1) low, e)
+            finds-9 e = record { number-is = rw (e₈, e₄, e₇, e₁₀, lt-ltb (c .index) (objects (graphOf c)) low, e) }
 
-            pub fault-0 : scheduleFits (c .workers) (c .schedule) ≡ true → 0 ≡ fault c marks work
+            pub finds-none : scheduleFits (c .workers) (c .schedule) ≡ true → Finds Fine c marks work
             unfolding fault
-            fault-0 e = rw (e₈, e₄, e₇, e₁₀, lt-ltb (c .index) (length (c .offsets) - 1) low, e)
+            finds-none e = record { number-is = rw (e₈, e₄, e₇, e₁₀, lt-ltb (c .index) (objects (graphOf c)) low, e) }

@@ -1,2 +1,5 @@
+pub mod Begin
 pub mod Checks
-pub mod Collects
+pub mod Loop
+pub mod Settling
+pub mod Stages

@@ -1,77 +1,84 @@
-// The marker's call: its checks in their order, the run, and the answer.
+// The marker's call: its checks in their order, the start, the turns of the schedule, and the answer.
+use machine::Counts;
 use refusal::Refusal;
-use registers::Counts;
-use turns::Setting;
+use refusal::Verdict;
+use turns::Progress;
+use turns::Setup;
+use worker::registers;
+use worker::registers::Block;
+use worker::stretch;
+use worker::stretch::Top;
 ghost use mathlib.Core.Path.{_≡_};
 ghost use mathlib.Core.Bool.{not, _||_};
 ghost use Prim.Native.Nat.{_*_, _-_, _≤_};
-ghost use lib.ListN.{length};
+ghost use lib.ListN.{length, replicate};
 ghost use lib.Dec.{ltb, eqb};
-ghost use Rattle.machine.specs.Machine.{stretchLength};
-ghost use Rattle.machine.specs.Call.{outside, most-workers, most-setting, scheduleFits, fault};
 ghost use Rattle.graph.specs.Limits.{most-objects, most-references};
-ghost use Rattle.marker.specs.Answer.{callOf, numberOf, row, answerRow, CallReady, CallDone, Collected, Answered};
-
-// What a finished or unfinished call tells.
-pub struct Tally {
-    pub live: u64,
-    pub followed: u64,
-    pub handed: u64,
-    pub refused: u64,
-    pub moved: u64,
-}
+ghost use Rattle.machine.specs.Limits.{most-workers, most-setting};
+ghost use Rattle.machine.specs.Machine.{stretchLength};
+ghost use Rattle.machine.specs.Call.{outside, scheduleFits};
+ghost use Rattle.turns.specs.Held.{memory};
+ghost use Rattle.turns.specs.Turned.{Ready};
+ghost use Rattle.marker.specs.Answer.{callOf, row, Finds, Answered};
+ghost use Rattle.marker.specs.Stages.{Startable, Started, IsBegun, DoesAll, topFor, Settling, Settled, rowOf, callWith, Faultless, Collectable, Collected};
 
 pub enum Marked {
     // All workers have ended.
-    Finished(Tally),
-    Unfinished(Tally),
+    Finished(Counts),
+    Unfinished(Counts),
     Refused(Refusal),
 }
 
-// What the checks find.
-pub enum Verdict {
-    Fine,
-    Faulty(Refusal),
+// The number of a refusal, or 0.
+pub fn refusal_of(marked: Marked) -> u8
+    ensures { λ r. ⌜ r ≡ row marked .number ⌝ }
+{
+    match marked {
+        Marked::Finished(_) => 0,
+        Marked::Unfinished(_) => 0,
+        Marked::Refused(cause) => refusal::number_of(cause),
+    }
+}
+
+// A number that is not 1 to the largest.
+fn out_of_range(x: u32, most: u32) -> bool
+    ensures { λ r. ⌜ r ≡ outside most x ⌝ }
+{
+    if x < 1 {
+        return true;
+    }
+    most < x
 }
 
 // Check 8: W is not 1 to 16, or D or K is not 1 to 65,535.
 pub fn setting_outside(workers: u32, batch: u32, cutoff: u32) -> bool
     ensures { λ r. ⌜ r ≡ (outside most-workers workers || outside most-setting batch || outside most-setting cutoff) ⌝ }
 {
-    if workers < 1 {
+    if out_of_range(workers, machine::MOST_WORKERS) {
         return true;
     }
-    if 16 < workers {
+    if out_of_range(batch, machine::MOST_SETTING) {
         return true;
     }
-    if batch < 1 {
-        return true;
-    }
-    if 65535 < batch {
-        return true;
-    }
-    if cutoff < 1 {
-        return true;
-    }
-    65535 < cutoff
+    out_of_range(cutoff, machine::MOST_SETTING)
 }
 
 // Check 4: from the number of offsets and of targets, n or m is outside its range.
-pub fn counts_outside(offsets: usize, targets: usize) -> bool
+fn counts_outside(offsets: usize, targets: usize) -> bool
     ensures { λ r. ⌜ r ≡ (ltb offsets 2 || ltb most-objects (offsets - 1) || ltb most-references targets) ⌝ }
 {
     if offsets < 2 {
         return true;
     }
-    if 65536 < offsets - 1 {
+    if graph::MOST_OBJECTS < offsets - 1 {
         return true;
     }
-    1048576 < targets
+    graph::MOST_REFERENCES < targets
 }
 
 // Check 7: the lent buffers' lengths.
-pub fn buffers_wrong(n: usize, workers: u32, marks: usize, work: usize) -> bool
-    requires { ⌜ (n ≤ 65536) × (workers ≤ 16) ⌝ }
+fn buffers_wrong(n: usize, workers: u32, marks: usize, work: usize) -> bool
+    requires { ⌜ (n ≤ most-objects) × (workers ≤ most-workers) ⌝ }
     ensures { λ r. ⌜ r ≡ (not (eqb marks n) || not (eqb work (workers * stretchLength n))) ⌝ }
 {
     let wanted = workers as usize * (2 * n + 4);
@@ -82,7 +89,7 @@ pub fn buffers_wrong(n: usize, workers: u32, marks: usize, work: usize) -> bool
 }
 
 // Check 9: whole entries, each with a worker below W.
-pub fn schedule_fits(schedule: &[u8], workers: u32) -> bool
+fn schedule_fits(schedule: &[u8], workers: u32) -> bool
     ensures { λ r. ⌜ r ≡ scheduleFits workers (now (schedule .entry)) ⌝ }
 {
     let entries = schedule.len() / 2;
@@ -91,19 +98,17 @@ pub fn schedule_fits(schedule: &[u8], workers: u32) -> bool
     }
     // Looks at every entry, so that the loop is compiled without a jump out of it.
     let mut wrong: u32 = 0;
-    let mut k: usize = 0;
-    while k < entries {
+    for k in 0..entries {
         let b = schedule[2 * k] as u32;
         if workers <= b {
             wrong = 1;
         }
-        k += 1;
     }
     wrong == 0
 }
 
 // The checks, in their order.
-pub fn check(
+fn check(
     offsets: &[u32],
     targets: &[u32],
     index: u32,
@@ -114,7 +119,7 @@ pub fn check(
     marks: usize,
     work: usize,
 ) -> Verdict
-    ensures { λ v. ⌜ numberOf v ≡ fault (callOf (now (offsets .entry)) (now (targets .entry)) index workers batch cutoff (now (schedule .entry))) marks work ⌝ }
+    ensures { λ v. ⌜ Finds v (callOf (now (offsets .entry)) (now (targets .entry)) index workers batch cutoff (now (schedule .entry))) marks work ⌝ }
 {
     if setting_outside(workers, batch, cutoff) {
         return Verdict::Faulty(Refusal::Setting);
@@ -138,56 +143,160 @@ pub fn check(
     Verdict::Fine
 }
 
-// The answer from the counts.
-pub fn answer(ended: bool, live: u64, counts: Counts) -> Marked
-    ensures { λ r. ⌜ row r ≡ answerRow ended live counts ⌝ }
+// No object is marked.
+fn clear_marks(marks: &mut [u8])
+    ensures { λ _. ⌜ now (marks .exit) ≡ replicate (length (now (marks .entry))) 0 ⌝ }
 {
-    let tally = Tally {
-        live,
-        followed: counts.followed,
-        handed: counts.handed,
-        refused: counts.refused,
-        moved: counts.moved,
-    };
-    if ended {
-        return Marked::Finished(tally);
-    }
-    Marked::Unfinished(tally)
+    let n = marks.len();
+    slices::clear_bytes(marks, 0, n);
 }
 
-// A checked call with its registers, all zero.
-pub fn run(
+// The start: only the index is marked, and worker 0 carries its run.
+fn start(
     offsets: &[u32],
     targets: &[u32],
     index: u32,
-    setting: Setting,
+    setup: Setup,
+    marks: &mut [u8],
+    regs: &mut [u32],
+) -> Progress
+    requires { ⌜ Startable (now offsets) (now targets) index setup (now marks) (now regs) ⌝ }
+    ensures { λ p. ⌜ Started (now (offsets .entry)) (now (targets .entry)) index setup (now (marks .exit)) (now (regs .exit)) p ⌝ }
+{
+    clear_marks(marks);
+    let v = index as usize;
+    marks[v] = 1;
+    let first = offsets[v];
+    let end = offsets[v + 1];
+    let counts = machine::fresh(1);
+    if end <= first {
+        return Progress {
+            counts,
+            carrying: 0,
+            running: setup.workers,
+        };
+    }
+    registers::store(
+        regs,
+        0,
+        Block {
+            status: registers::POLL,
+            cell: 0,
+            since: 0,
+            batch: 0,
+            carried: end - first,
+            used: 0,
+            first,
+            end,
+            target: targets[first as usize],
+        },
+    );
+    Progress {
+        counts,
+        carrying: 1,
+        running: setup.workers,
+    }
+}
+
+// The runs that a block tells of: none where the worker carries nothing.
+fn top_of(r: Block) -> Top
+    ensures { λ t. ⌜ t ≡ topFor r ⌝ }
+{
+    let status = r.status;
+    if status < registers::GIVEN {
+        return Top {
+            used: 0,
+            first: 0,
+            end: 0,
+        };
+    }
+    Top {
+        used: r.used,
+        first: r.first,
+        end: r.end,
+    }
+}
+
+// Writes each worker's stretch out as the call leaves it.
+fn settle(setup: Setup, work: &mut [u32], regs: &[u32])
+    requires { ⌜ Settling (setup .workers) (setup .stretch) (now work) (now regs) ⌝ }
+    ensures { λ _. ⌜ Settled (setup .workers) (setup .stretch) (now (work .entry)) (now (regs .entry)) (now (work .exit)) ⌝ }
+{
+    let workers = setup.workers;
+    let len = setup.stretch;
+    for b in 0..workers {
+        let top = top_of(registers::load(regs, b));
+        let from = b as usize * len;
+        stretch::settle(&mut work[from..from + len], top);
+    }
+}
+
+// The turns of a schedule, in order, until all workers have ended.
+fn take_turns(
+    offsets: &[u32],
+    targets: &[u32],
+    setup: Setup,
+    schedule: &[u8],
+    marks: &mut [u8],
+    work: &mut [u32],
+    regs: &mut [u32],
+    begun: Progress,
+) -> Progress
+    requires { ⌜ Ready (IsBegun setup (now offsets) (now targets) (now schedule) (now marks)) setup (memory (now work) (now regs) begun) ⌝ }
+    ensures { λ p. ⌜ DoesAll (IsBegun setup (now (offsets .entry)) (now (targets .entry)) (now (schedule .entry)) (now (marks .entry)))
+        setup (now (schedule .entry)) (memory (now (work .entry)) (now (regs .entry)) begun)
+        (memory (now (work .exit)) (now (regs .exit)) p) (now (marks .exit)) ⌝ }
+{
+    let mut p = begun;
+    let mut i: usize = 0;
+    while i < schedule.len() {
+        let running = p.running;
+        if running == 0 {
+            return p;
+        }
+        let b = schedule[i] as u32;
+        let v = schedule[i + 1] as u32;
+        p = turns::turn(offsets, targets, setup, marks, work, regs, p, b, v);
+        i += 2;
+    }
+    p
+}
+
+// The answer of a collection that is so far.
+fn answer(p: Progress) -> Marked
+    ensures { λ r. ⌜ row r ≡ rowOf p ⌝ }
+{
+    let counts = p.counts;
+    let running = p.running;
+    if running == 0 {
+        return Marked::Finished(counts);
+    }
+    Marked::Unfinished(counts)
+}
+
+// A checked call, with its registers all zero.
+fn collected(
+    offsets: &[u32],
+    targets: &[u32],
+    index: u32,
+    setup: Setup,
     schedule: &[u8],
     marks: &mut [u8],
     work: &mut [u32],
     regs: &mut [u32],
 ) -> Marked
-    requires { ⌜ CallReady (now offsets) (now targets) index setting (now schedule) (now marks) (now work) (now regs) ⌝ }
-    ensures { λ r. ⌜ CallDone (now (offsets .entry)) (now (targets .entry)) index setting (now (schedule .entry)) (now (marks .entry)) (now (work .entry)) (now (regs .entry)) r (now (marks .exit)) (now (work .exit)) ⌝ }
+    requires { ⌜ Collectable (callWith (now offsets) (now targets) index setup (now schedule)) setup (now marks) (now work) (now regs) ⌝ }
+    ensures { λ r. ⌜ Collected (callWith (now (offsets .entry)) (now (targets .entry)) index setup (now (schedule .entry)))
+        r (now (marks .exit)) (now (work .exit)) ⌝ }
 {
-    let workers = setting.workers;
-    let begun = runs::start(offsets, index, marks, work, regs);
-    let counts = runs::run_turns(
-        offsets,
-        targets,
-        setting,
-        schedule,
-        marks,
-        work,
-        regs,
-        begun,
-    );
-    let live = runs::count_live(marks);
-    let ended = runs::all_ended(regs, workers);
-    answer(ended, live, counts)
+    let begun = start(offsets, targets, index, setup, marks, regs);
+    let p = take_turns(offsets, targets, setup, schedule, marks, work, regs, begun);
+    settle(setup, work, regs);
+    answer(p)
 }
 
 // A checked call.
-pub fn collect(
+fn mark_checked(
     offsets: &[u32],
     targets: &[u32],
     index: u32,
@@ -198,24 +307,24 @@ pub fn collect(
     marks: &mut [u8],
     work: &mut [u32],
 ) -> Marked
-    requires { ⌜ fault (callOf (now offsets) (now targets) index workers batch cutoff (now schedule)) (length (now marks)) (length (now work)) ≡ 0 ⌝ }
-    ensures { λ r. ⌜ Collected (callOf (now (offsets .entry)) (now (targets .entry)) index workers batch cutoff (now (schedule .entry))) r (now (marks .exit)) (now (work .exit)) ⌝ }
+    requires { ⌜ Faultless (callOf (now offsets) (now targets) index workers batch cutoff (now schedule)) (now marks) (now work) ⌝ }
+    ensures { λ r. ⌜ Collected (callOf (now (offsets .entry)) (now (targets .entry)) index workers batch cutoff (now (schedule .entry)))
+        r (now (marks .exit)) (now (work .exit)) ⌝ }
 {
     let n = offsets.len() - 1;
-    let stretch = 2 * n + 4;
-    let setting = Setting {
+    let setup = Setup {
         workers,
         batch,
         cutoff,
-        stretch,
+        stretch: 2 * n + 4,
     };
-    let mut registers = [0u32; 128];
-    let size = 8 * workers as usize;
-    run(
+    let mut registers = [0u32; 144];
+    let size = registers::BLOCK * workers as usize;
+    collected(
         offsets,
         targets,
         index,
-        setting,
+        setup,
         schedule,
         marks,
         work,
@@ -235,7 +344,8 @@ pub fn mark(
     marks: &mut [u8],
     work: &mut [u32],
 ) -> Marked
-    ensures { λ r. ⌜ Answered (callOf (now (offsets .entry)) (now (targets .entry)) index workers batch cutoff (now (schedule .entry))) (now (marks .entry)) (now (work .entry)) r (now (marks .exit)) (now (work .exit)) ⌝ }
+    ensures { λ r. ⌜ Answered (callOf (now (offsets .entry)) (now (targets .entry)) index workers batch cutoff (now (schedule .entry)))
+        (now (marks .entry)) (now (work .entry)) r (now (marks .exit)) (now (work .exit)) ⌝ }
 {
     let verdict = check(
         offsets,
@@ -250,7 +360,7 @@ pub fn mark(
     );
     match verdict {
         Verdict::Faulty(cause) => Marked::Refused(cause),
-        Verdict::Fine => collect(
+        Verdict::Fine => mark_checked(
             offsets,
             targets,
             index,

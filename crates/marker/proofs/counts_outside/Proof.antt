@@ -1,3 +1,4 @@
+-- The first test that holds decides.
 use borrow.Author.Needs.{needs}
 use borrow.Author.Tests.{lt-ltb, le-ltb}
 use Rattle.marker.proofs.counts_outside.Statement.{statement}
@@ -6,9 +7,6 @@ use Rattle.marker.proofs.counts_outside.Tie as tie
 returns : tie.Need-returns
 returns c = simp (lt-ltb _ _ (c .if1 .taken))
 
-sub-if2 : tie.Need-sub-if2
-sub-if2 c = search needs
-
 returns-2 : tie.Need-returns-2
 returns-2 c = simp (le-ltb _ _ (c .before .if1 .left), lt-ltb _ _ (c .if2 .taken))
 
@@ -16,4 +14,4 @@ returns-3 : tie.Need-returns-3
 returns-3 c = simp (le-ltb _ _ (c .before .if1 .left), le-ltb _ _ (c .if2 .left))
 
 pub counts-outside-spec : {M : Type 1} → statement M
-counts-outside-spec = tie.close (tie.spec returns sub-if2 returns-2 returns-3)
+counts-outside-spec = tie.close (tie.spec returns (λ c. search needs) returns-2 returns-3)

@@ -1,3 +1,4 @@
+-- Whether an entry passed was wrong; if none was, the entries that are left decide.
 use Prim.Native.Nat.{_≤_, _+_, _-_, _*_}
 use mathlib.Core.Path.{sym}
 use mathlib.Core.Logic.{⊎-elim}
@@ -13,29 +14,14 @@ Inv-loop schedule workers entries wrong₀ k₀ wrong k = (k ≤ entries) × Sca
 abbrev μ-loop : tie.MeasureT-loop
 μ-loop schedule workers entries wrong₀ k₀ wrong k = entries - k
 
-mul-if1 : tie.Need-mul-if1 Inv-loop μ-loop
-mul-if1 c = omega arith
-
 returns : tie.Need-returns Inv-loop μ-loop
 returns c = sym (fits-odd (c .before .args .workers) (c .before .args .schedule .now) (λ k e. c .if1 .taken (omega arith)))
 
 loop-holds : tie.Need-loop-holds Inv-loop μ-loop
 loop-holds c = (omega arith, scan-start (c .before .args .workers) (c .before .args .schedule .now))
 
-mul-b : tie.Need-mul-b Inv-loop μ-loop
-mul-b c = omega arith
-
-shared-slice-read-b : tie.Need-shared-slice-read-b Inv-loop μ-loop
-shared-slice-read-b c = omega arith
-
 cast-b : tie.Need-cast-b Inv-loop μ-loop
 cast-b c = omega (arith, c .shared-slice-known .given (2 * c .before .before .loop .k))
-
-add-k : tie.Need-add-k Inv-loop μ-loop
-add-k c = omega arith
-
-loop-less : tie.Need-loop-less Inv-loop μ-loop
-loop-less c = omega arith
 
 loop-again : tie.Need-loop-again Inv-loop μ-loop
 loop-again c =
@@ -58,16 +44,5 @@ returns-2 c =
 pub schedule-fits-spec : {M : Type 1} → statement M
 schedule-fits-spec =
     tie.close
-    (tie.spec
-    Inv-loop
-    μ-loop
-    mul-if1
-    returns
-    loop-holds
-    mul-b
-    shared-slice-read-b
-    cast-b
-    add-k
-    loop-less
-    loop-again
-    returns-2)
+    (tie.spec Inv-loop μ-loop (λ c. omega arith) returns loop-holds (λ c. omega arith) (λ c. omega arith) cast-b
+    (λ c. omega arith) (λ c. omega arith) loop-again returns-2)

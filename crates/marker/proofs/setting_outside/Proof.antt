@@ -1,25 +1,25 @@
-use borrow.Author.Tests.{lt-ltb, le-ltb}
+-- The first number that is out of its range decides.
+use borrow.Author.Needs.{needs}
+use Rattle.marker.proofs.Checks.{so}
 use Rattle.marker.proofs.setting_outside.Statement.{statement}
 use Rattle.marker.proofs.setting_outside.Tie as tie
 
 returns : tie.Need-returns
-returns c = simp (lt-ltb _ _ (c .if1 .taken))
+returns c = rw (so (c .before .out-of-range .ensures) (c .if1 .taken))
 
 returns-2 : tie.Need-returns-2
-returns-2 c = simp (le-ltb _ _ (c .before .if1 .left), lt-ltb _ _ (c .if2 .taken))
+returns-2 c =
+    let first = c .before .before in
+    rw (so (first .before .out-of-range .ensures) (first .if1 .left), so (c .before .out-of-range2 .ensures) (c .if2 .taken))
 
 returns-3 : tie.Need-returns-3
-returns-3 c = simp (le-ltb _ _ (c .before .before .if1 .left), le-ltb _ _ (c .before .if2 .left), lt-ltb _ _ (c .if3 .taken))
-
-returns-4 : tie.Need-returns-4
-returns-4 c = simp (le-ltb _ _ (c .before .before .before .if1 .left), le-ltb _ _ (c .before .before .if2 .left), le-ltb _ _ (c .before .if3 .left), lt-ltb _ _ (c .if4 .taken))
-
-returns-5 : tie.Need-returns-5
-returns-5 c = simp (le-ltb _ _ (c .before .before .before .before .if1 .left), le-ltb _ _ (c .before .before .before .if2 .left), le-ltb _ _ (c .before .before .if3 .left), le-ltb _ _ (c .before .if4 .left), lt-ltb _ _ (c .if5 .taken))
-
-returns-6 : tie.Need-returns-6
-returns-6 c = simp (le-ltb _ _ (c .before .before .before .before .if1 .left), le-ltb _ _ (c .before .before .before .if2 .left), le-ltb _ _ (c .before .before .if3 .left), le-ltb _ _ (c .before .if4 .left), le-ltb _ _ (c .if5 .left))
+returns-3 c =
+    let second = c .before in
+    let first = second .before .before in
+    rw (so (first .before .out-of-range .ensures) (first .if1 .left), so (second .before .out-of-range2 .ensures) (second .if2 .left))
+    (c .out-of-range3 .ensures)
 
 pub setting-outside-spec : {M : Type 1} → statement M
 setting-outside-spec =
-    tie.close (tie.spec returns returns-2 returns-3 returns-4 returns-5 returns-6)
+    tie.close
+    (tie.spec (λ c κs. search needs) returns (λ c κs. search needs) returns-2 (λ c κs. search needs) returns-3)

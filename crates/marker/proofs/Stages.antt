@@ -1,0 +1,178 @@
+-- From the checks to the stages, and from the stages to the answer.
+use mathlib.Core.Path.{_≡_, refl, sym, ap, _∙_}
+use mathlib.Core.List.{List, _∷_}
+use Prim.Native.Nat.{ℕ, zero, suc, _*_, _≤_}
+use native.Mathlib.Omega.{arith}
+use lib.ListN.{length, replicate, take}
+use lib.Dec.{eqb}
+use lib.Seq.{length-take-le}
+use Rattle.refusal.specs.declared.Refusal.{Refusal}
+use Rattle.refusal.specs.Number.{number, numberOf}
+use Rattle.refusal.proofs.Numbers.{numbered}
+use Rattle.machine.specs.Machine.{start, entries, allEnded}
+use Rattle.machine.specs.Row.{refusedRow}
+use Rattle.machine.specs.Sound.{Sound}
+use Rattle.machine.specs.Call.{Call, graphOf, settingOf, startsOf, fault, final, answerFor, marksFor, workFor}
+use Rattle.machine.proofs.Accept.{Checked, checked}
+use Rattle.machine.proofs.Facts.{runs-room}
+use Rattle.machine.proofs.Start.{sound-start, sound}
+use Rattle.machine.proofs.Demand2.{demand2}
+use Rattle.machine.proofs.Demand3.{demand3}
+use Rattle.turns.specs.declared.Setup.{Setup}
+use Rattle.turns.specs.declared.Progress.{Progress}
+use Rattle.turns.specs.Held.{memory, Holds}
+use Rattle.turns.specs.Turned.{Ready}
+use Rattle.marker.specs.declared.Marked.{Marked}
+use Rattle.marker.specs.declared.Marked.the-variants.{Refused}
+use Rattle.refusal.specs.declared.Verdict.{Verdict}
+use Rattle.refusal.specs.declared.Verdict.the-variants.{Fine, Faulty}
+use Rattle.marker.specs.Answer.{row, Finds, Answered}
+use Rattle.marker.specs.Stages.{Startable, Started, IsBegun, DoesAll, Settling, Settled, rowOf, callWith, setupOf, Faultless, Collectable, Collected}
+use Rattle.marker.proofs.Loop.{all-ended}
+
+-- what the checks establish
+facts : {c : Call} {marks work : List ℕ} → Faultless c marks work → Checked c (length marks) (length work)
+facts {c} {marks} {work} x = checked c (length marks) (length work) (x .none)
+
+module _ {offsets targets : List ℕ} {index : ℕ} {g : Setup} {schedule marks work regs : List ℕ}
+    (x : Collectable (callWith offsets targets index g schedule) g marks work regs) where
+  abbrev call : Call
+  call = callWith offsets targets index g schedule
+
+  known : Checked call (length marks) (length work)
+  known = facts (x .faultless)
+
+  sound-final : Sound (graphOf call) (startsOf call) (g .workers) (settingOf call) (final call)
+  sound-final = sound (known .accepted) (entries schedule)
+
+  pub start-ready : Startable offsets targets index g marks regs
+  start-ready = record { accepted = known .accepted; marks-long = known .marks-exact; regs-are = x .regs-are }
+
+  -- after the start
+  module _ {marks₁ regs₁ : List ℕ} {p₁ : Progress} (d : Started offsets targets index g marks₁ regs₁ p₁) where
+    pub turns-ready : Ready (IsBegun g offsets targets schedule marks₁) g (memory work regs₁ p₁)
+    unfolding start
+    turns-ready =
+        record {
+          graph = graphOf call;
+          state = start (graphOf call) (startsOf call) (g .workers);
+          scene =
+              record {
+                starts = startsOf call;
+                accepted = known .accepted;
+                sound = sound-start (known .accepted);
+                objects-limit = known .objects-limit;
+                references-limit = known .references-limit;
+                stretch-is = x .stretch-is;
+                handed-room = omega arith;
+                moved-room = omega arith;
+              };
+          holds = d .holds work (known .work-exact ∙ ap (λ (L : ℕ). g .workers * L) (sym (x .stretch-is)));
+          here =
+              record {
+                graph-is = refl;
+                marks-are = d .marks-are;
+                fits = known .schedule-fits;
+                none-handed = refl;
+                none-moved = refl;
+              };
+        }
+
+    -- after the turns
+    module _ {marks₂ work₂ regs₂ : List ℕ} {p₂ : Progress}
+        (t : DoesAll (IsBegun g offsets targets schedule marks₁) g schedule (memory work regs₁ p₁) (memory work₂ regs₂ p₂) marks₂) where
+      final-held : Holds (graphOf call) g (final call) (memory work₂ regs₂ p₂)
+      unfolding turns-ready
+      final-held = t .holds turns-ready
+
+      final-marks : marks₂ ≡ final call .marks
+      unfolding turns-ready
+      final-marks = t .marks-are turns-ready
+
+      pub settle-ready : Settling (g .workers) (g .stretch) work₂ regs₂
+      settle-ready =
+          record {
+            graph = graphOf call;
+            workers = final call .workers;
+            count = sound-final .workers-length;
+            few = known .accepted .workers-limit;
+            objects-limit = known .objects-limit;
+            stretch-is = x .stretch-is;
+            regs-long = final-held .regs-long;
+            work-long = final-held .work-long;
+            each = final-held .each;
+            room = runs-room (known .accepted) sound-final;
+          }
+
+      -- after the stretches are written out
+      pub all-collected : {work₃ : List ℕ} → Settled (g .workers) (g .stretch) work₂ regs₂ work₃
+          → (r : Marked) → row r ≡ rowOf p₂ → Collected (callWith offsets targets index g schedule) r marks₂ work₃
+      unfolding settle-ready
+      all-collected s r e =
+          let f : eqb (p₂ .running) 0 ≡ allEnded (final call .workers) =
+          ap (λ (k : ℕ). eqb k 0) (final-held .running-is) ∙ all-ended (final call .workers) in
+          record {
+            row-is = e ∙ rw (f, final-held .counts-are);
+            marks-are = final-marks;
+            work-is = s settle-ready;
+          }
+
+-- ---- the registers, all zero
+
+zeros-front : (k m : ℕ) → k ≤ m → take {A = ℕ} k (replicate m 0) ≡ replicate k 0
+zeros-front zero m h = refl
+zeros-front (suc k) zero h = absurd (omega arith)
+zeros-front (suc k) (suc m) h = ap (λ (t : List ℕ). 0 ∷ t) (zeros-front k m (omega arith))
+
+module _ {c : Call} {marks work : List ℕ} (x : Faultless c marks work) where
+  pub offsets-some : 2 ≤ length (c .offsets)
+  offsets-some = facts x .offsets-some
+
+  pub workers-few : c .workers ≤ 16
+  workers-few = facts x .accepted .workers-limit
+
+  pub registers-long : length (take {A = ℕ} (9 * c .workers) (replicate 144 0)) ≡ 9 * c .workers
+  registers-long = length-take-le (9 * c .workers) (replicate 144 0) (omega (arith, workers-few))
+
+  pub collectable : Collectable c (setupOf c) marks work (take (9 * c .workers) (replicate 144 0))
+  collectable =
+      record {
+        faultless = x;
+        stretch-is = refl;
+        regs-are = zeros-front (9 * c .workers) 144 (omega (arith, workers-few));
+      }
+
+-- ---- the promise
+
+module _ (c : Call) (marks work : List ℕ) where
+  -- what the call leaves, by the number k of the fault
+  abbrev Leaves : ℕ → Marked → List ℕ → List ℕ → Type 0
+  Leaves k r marks′ work′ = (row r ≡ answerFor k c) × ((marks′ ≡ marksFor k c marks) × (work′ ≡ workFor k c work))
+
+  promised : {r : Marked} {marks′ work′ : List ℕ} → Leaves (fault c (length marks) (length work)) r marks′ work′
+      → Answered c marks work r marks′ work′
+  promised l =
+      record {
+        row-is = l .0;
+        marks-are = l .1 .0;
+        work-is = l .1 .1;
+        demand2 = λ e. demand2 (checked c (length marks) (length work) e .accepted) (entries (c .schedule));
+        demand3 = λ e. demand3 (checked c (length marks) (length work) e .accepted) (entries (c .schedule));
+      }
+
+  -- any other number than 0 is a refusal, and the buffers stay
+  refused : (cause : Refusal) (k : ℕ) → number cause ≡ k → Leaves k (Refused cause) marks work
+  refused cause zero e = absurd (omega (arith, numbered cause))
+  refused cause (suc k) e = (ap refusedRow e, (refl, refl))
+
+module _ {c : Call} {marks work : List ℕ} {v : Verdict} (found : Finds v c (length marks) (length work)) where
+  -- by what the checks find
+  pub answered-refused : {cause : Refusal} → v ≡ Faulty cause → Answered c marks work (Refused cause) marks work
+  answered-refused {cause} e =
+      promised c marks work (refused c marks work cause (fault c (length marks) (length work)) (sym (ap numberOf e) ∙ found .number-is))
+
+  pub none-found : v ≡ Fine → Faultless c marks work
+  none-found e = record { none = sym (found .number-is) ∙ ap numberOf e }
+
+  pub answered-fine : v ≡ Fine → {r : Marked} {marks′ work′ : List ℕ} → Collected c r marks′ work′ → Answered c marks work r marks′ work′
+  answered-fine e d = promised c marks work (rw (none-found e .none) (d .row-is, (d .marks-are, d .work-is)))

@@ -1,0 +1,122 @@
+-- What the stages of a call without a fault ask and leave: the start, the turns, and the work memory written out.
+use Prim.Native.Nat.{ℕ, suc, _*_, _≤_}
+use mathlib.Core.Path.{_≡_}
+use mathlib.Core.Bool.{true}
+use mathlib.Core.List.{List, [], _∷_}
+use lib.ListN.{length, getD, replicate}
+use lib.Dec.{ltb, eqb}
+use Rattle.laws.specs.Choice.{pick}
+use Rattle.graph.specs.Graph.{Graph, graph, objects}
+use Rattle.graph.specs.Limits.{most-objects}
+use Rattle.machine.specs.Limits.{most-workers}
+use Rattle.machine.specs.Row.{Row}
+use Rattle.machine.specs.Machine as machine
+use Rattle.machine.specs.Machine.{State, Worker, ended, runsOf, start, turns, entries, result, stretchLength}
+use Rattle.machine.specs.Accepted.{Accepted}
+use Rattle.machine.specs.Call.{Call, graphOf, fault, final, scheduleFits}
+use Rattle.worker.specs.declared.registers.Block.{Block}
+use Rattle.worker.specs.declared.stretch.Top.{Top}
+use Rattle.worker.specs.Registers.{block-words, status-given}
+use Rattle.worker.specs.Stretch.{topWith}
+use Rattle.turns.specs.declared.Setup.{Setup}
+use Rattle.turns.specs.declared.Progress.{Progress}
+use Rattle.turns.specs.Held.{Memory, memory, settingOf, topOf, Each, Holds}
+use Rattle.turns.specs.Turned.{Ready}
+use Rattle.marker.specs.declared.Marked.{Marked}
+use Rattle.marker.specs.Answer.{callOf, row}
+
+-- ---- the start
+
+-- an accepted call, its marks, and registers that are all zero
+pub record Startable (offsets targets : List ℕ) (index : ℕ) (g : Setup) (marks regs : List ℕ) : Type 0 where
+  pub accepted : Accepted (graph offsets targets) (index ∷ []) (g .workers) (settingOf g)
+  pub marks-long : length marks ≡ objects (graph offsets targets)
+  pub regs-are : regs ≡ replicate (block-words * g .workers) 0
+
+-- the state before the first turn
+abbrev pub begin : List ℕ → List ℕ → ℕ → Setup → State
+begin offsets targets index g = start (graph offsets targets) (index ∷ []) (g .workers)
+
+-- the memories hold it, whatever words the work memory has
+pub record Started (offsets targets : List ℕ) (index : ℕ) (g : Setup) (marks′ regs′ : List ℕ) (p : Progress) : Type 0 where
+  pub marks-are : marks′ ≡ begin offsets targets index g .marks
+  pub holds : (work : List ℕ) → length work ≡ g .workers * g .stretch
+      → Holds (graph offsets targets) g (begin offsets targets index g) (memory work regs′ p)
+
+-- ---- the turns
+
+-- a state from which no turn was made yet, on what is lent
+pub record IsBegun (g : Setup) (offsets targets schedule marks : List ℕ) (G : Graph) (s : State) : Type 0 where
+  pub graph-is : G ≡ graph offsets targets
+  pub marks-are : marks ≡ s .marks
+  pub fits : scheduleFits (g .workers) schedule ≡ true
+  pub none-handed : s .counts .handed ≡ 0
+  pub none-moved : s .counts .moved ≡ 0
+
+-- the state after the turns of a schedule
+abbrev pub scheduled : Setup → List ℕ → Graph → State → State
+scheduled g schedule G s = turns G (settingOf g) s (entries schedule)
+
+-- "does all turns": the memories afterwards hold that state, and the marks are its marks
+pub record DoesAll (P : Graph → State → Type 0) (g : Setup) (schedule : List ℕ) (μ μ′ : Memory) (marks′ : List ℕ) : Type 0 where
+  pub holds : (x : Ready P g μ) → Holds (x .graph) g (scheduled g schedule (x .graph) (x .state)) μ′
+  pub marks-are : (x : Ready P g μ) → marks′ ≡ scheduled g schedule (x .graph) (x .state) .marks
+
+-- ---- the work memory written out
+
+-- the runs that a block tells of: none where the worker carries nothing
+abbrev pub topFor : Block → Top
+topFor r = pick (ltb (r .status) status-given) (topWith 0 0 0) (topOf r)
+
+-- workers that the registers and the work memory hold
+pub record Settling (W L : ℕ) (work regs : List ℕ) : Type 0 where
+  pub graph : Graph
+  pub workers : List Worker
+  pub count : length workers ≡ W
+  pub few : W ≤ most-workers
+  pub objects-limit : objects graph ≤ most-objects
+  pub stretch-is : L ≡ stretchLength (objects graph)
+  pub regs-long : length regs ≡ block-words * W
+  pub work-long : length work ≡ W * L
+  pub each : Each graph W L workers regs work
+  pub room : (b : ℕ) → length (runsOf (getD workers b ended)) ≤ suc (objects graph)
+
+-- their stretches stand in the work memory as SPECIFICATION 4.5 says
+abbrev pub Settled : ℕ → ℕ → List ℕ → List ℕ → List ℕ → Type 0
+Settled W L work regs work′ = (x : Settling W L work regs) → work′ ≡ machine.memory (objects (x .graph)) (x .workers)
+
+-- ---- the whole call
+
+-- the answer of a collection that is so far: it is finished where nobody is running
+abbrev pub rowOf : Progress → Row
+rowOf p = record { number = 0; finished = eqb (p .running) 0; counts = p .counts }
+
+-- the call whose setting is this
+abbrev pub callWith : List ℕ → List ℕ → ℕ → Setup → List ℕ → Call
+callWith offsets targets index g schedule = callOf offsets targets index (g .workers) (g .batch) (g .cutoff) schedule
+
+-- its setting, with the length of a stretch
+abbrev pub setupOf : Call → Setup
+setupOf c =
+    record {
+      workers = c .workers;
+      batch = c .batch;
+      cutoff = c .cutoff;
+      stretch = stretchLength (objects (graphOf c));
+    }
+
+-- the checks find no fault
+pub record Faultless (c : Call) (marks work : List ℕ) : Type 0 where
+  pub none : fault c (length marks) (length work) ≡ 0
+
+-- a call without a fault, with registers that are all zero
+pub record Collectable (c : Call) (g : Setup) (marks work regs : List ℕ) : Type 0 where
+  pub faultless : Faultless c marks work
+  pub stretch-is : g .stretch ≡ stretchLength (objects (graphOf c))
+  pub regs-are : regs ≡ replicate (block-words * g .workers) 0
+
+-- what it leaves: the result, the marks and the work words of the state after its turns
+pub record Collected (c : Call) (r : Marked) (marks′ work′ : List ℕ) : Type 0 where
+  pub row-is : row r ≡ result (final c)
+  pub marks-are : marks′ ≡ final c .marks
+  pub work-is : work′ ≡ machine.memory (objects (graphOf c)) (final c .workers)

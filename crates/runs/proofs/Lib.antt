@@ -1,3 +1,0 @@
-pub mod Begin
-pub mod Loop
-pub mod Scan
