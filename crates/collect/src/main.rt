@@ -2,6 +2,9 @@
 // collection did. What it prints is made by `report::answer`; here are only files.
 use libc::STDOUT_FILENO;
 use report::Loaded;
+use report::limits::MOST_ORDER_BYTES;
+use report::limits::MOST_STORE_BYTES;
+use report::limits::TEXT_ROOM;
 ghost use Prim.Native.Nat.{_≤_};
 ghost use lib.ListN.{length};
 
@@ -78,28 +81,28 @@ fn load(path: &[u8], buffer: &mut [u8], limit: i64) -> Got
 }
 
 // Makes the answer and writes it whole.
-fn respond(store: Got, catalogue: &[u8], order: Got, run: &[u8], out: &mut [u8])
-    requires { ⌜ (store .len ≤ length (now catalogue)) × (order .len ≤ length (now run)) ⌝ }
+fn respond(storefile: Got, store: &[u8], orderfile: Got, order: &[u8], out: &mut [u8])
+    requires { ⌜ (storefile .len ≤ length (now store)) × (orderfile .len ≤ length (now order)) ⌝ }
 {
-    let store_len = store.len;
-    let order_len = order.len;
-    let store_file = store.file;
-    let order_file = order.file;
+    let store_len = storefile.len;
+    let order_len = orderfile.len;
+    let store_got = storefile.file;
+    let order_got = orderfile.file;
     let n = report::answer(
-        store_file,
-        &catalogue[..store_len],
-        order_file,
-        &run[..order_len],
+        store_got,
+        &store[..store_len],
+        order_got,
+        &order[..order_len],
         out,
     );
     io::write_all(STDOUT_FILENO, &out[..n]);
 }
 
 fn main() {
-    let mut catalogue = [0u8; 60016];
-    let mut run = [0u8; 65536];
-    let mut out = [0u8; 49152];
-    let store = load(b"store.cat", &mut catalogue, 60016);
-    let order = load(b"order.run", &mut run, 65536);
-    respond(store, &catalogue, order, &run, &mut out);
+    let mut store = [0u8; MOST_STORE_BYTES];
+    let mut order = [0u8; MOST_ORDER_BYTES];
+    let mut out = [0u8; TEXT_ROOM];
+    let storefile = load(b"store.cat", &mut store, MOST_STORE_BYTES as i64);
+    let orderfile = load(b"order.run", &mut order, MOST_ORDER_BYTES as i64);
+    respond(storefile, &store, orderfile, &order, &mut out);
 }

@@ -1,8 +1,6 @@
-pub mod Course
-pub mod Marking
+pub mod Listing
 pub mod Opening
-pub mod Reader
-pub mod Rows
-pub mod Storing
+pub mod Ordering
+pub mod Printed
+pub mod Reading
 pub mod Sweeping
-pub mod Tags

@@ -1,6 +1,7 @@
 -- What a sweep of buffers that it takes leaves: the dead numbers in front of the list, their count and their sum.
 use mathlib.Core.Path.{_≡_, refl, ap}
-use mathlib.Core.List.{List, [], _∷_}
+use mathlib.Core.Bool.{true}
+use mathlib.Core.List.{List, [], _∷_, _++_}
 use Prim.Native.Nat.{ℕ, zero, suc, _+_, _≤_, _<_}
 use native.Mathlib.Omega.{arith}
 use lib.ListN.{length, getD, take, length-append}
@@ -8,10 +9,14 @@ use lib.Seq.{take-at}
 use Rattle.refusal.specs.declared.Refusal.{Refusal}
 use Rattle.refusal.specs.Number.{number}
 use Rattle.refusal.proofs.Numbers.{numbered}
+use Rattle.sweep.specs.declared.Swept.{Swept}
 use Rattle.sweep.specs.declared.Swept.the-variants.{Dead, Refused}
 use Rattle.sweep.specs.Sweep.{Row, deadFrom, dead, sizesOf, row, sweeping, listAfter, fault}
 use Rattle.sweep.proofs.Fault.{fault-free}
-use Rattle.report.specs.Ready.{Sweepable}
+use Rattle.report.specs.Limits.{dead-room}
+use Rattle.report.specs.Lines.{deadLines, freedLine}
+use Rattle.report.specs.Report.{deadText}
+use Rattle.report.specs.Ready.{Below, Sweepable}
 
 dead-few : (b : ℕ) (ms : List ℕ) → length (deadFrom b ms) ≤ length ms
 unfolding deadFrom
@@ -26,39 +31,41 @@ dead-below b (zero ∷ ms) zero h = omega arith
 dead-below b (zero ∷ ms) (suc i) h = omega (arith, dead-below (suc b) ms i (omega arith))
 dead-below b (suc k ∷ ms) i h = omega (arith, dead-below (suc b) ms i h)
 
-pub record SweptTo (marks sizes list : List ℕ) (count freed : ℕ) : Type 0 where
-  pub counted : count ≡ length (dead marks)
+pub record SweptTo (sizes marks list out : List ℕ) (at count freed : ℕ) : Type 0 where
   pub summed : freed ≡ sizesOf sizes (dead marks)
   pub front : take count list ≡ dead marks
-  pub few : count ≤ length sizes
   pub inside : count ≤ length list
-  pub objects : (i : ℕ) → i < length (take count list) → getD (take count list) i 0 < length sizes
+  pub objects : Below (take count list) (length sizes)
+  pub room : at + (dead-room (length (take count list)) + 27) ≤ length out
 
-module _ (marks sizes list out : List ℕ) (at : ℕ) (s : Sweepable marks sizes list out at) where
+module _ {sizes marks list out : List ℕ} {at : ℕ} (s : Sweepable sizes marks list out at) where
   free : fault marks sizes list ≡ 0
   free = fault-free marks sizes list (s .some) (omega (arith, s .few)) (s .all-marks) (s .all-list) (s .sizes-fit)
 
-  pub swept-to : (count freed : ℕ) (list′ : List ℕ) → row (Dead count freed) ≡ sweeping marks sizes list → list′ ≡ listAfter marks sizes list
-      → SweptTo marks sizes list′ count freed
-  swept-to count freed list′ r l =
-      let q = rw free at r in
-      let c : count ≡ length (dead marks) = ap (λ (x : Row). x .count) q in
+  pub swept-to : {w : Swept} {count freed : ℕ} {list′ : List ℕ} → w ≡ Dead count freed → row w ≡ sweeping marks sizes list
+      → list′ ≡ listAfter marks sizes list → SweptTo sizes marks list′ out at count freed
+  swept-to {w} {count} {freed} {list′} e r l =
+      let q : row (Dead count freed) ≡ _ = rw free at (rw e at r) in
       let z = rw free at l in
-      let n = s .all-marks in
+      let c : count ≡ length (dead marks) = ap (λ (x : Row). x .count) q in
       let few = dead-few 0 marks in
       let front : take count list′ ≡ dead marks = rw (z, c) (take-at (dead marks) _ (length (dead marks)) refl) in
       record {
-        counted = c;
         summed = ap (λ (x : Row). x .freed) q;
         front = front;
-        few = omega arith;
         inside = rw z (simp length-append (omega arith));
         objects = λ i h. rw front (let d = dead-below 0 marks i (rw front at h) in omega arith);
+        room = rw front (omega arith);
       }
 
   -- it is never refused
-  pub not-refused : (k : Refusal) → row (Refused k) ≡ sweeping marks sizes list → ⊥
-  not-refused k r =
-      let q = rw free at r in
-      let e : number k ≡ 0 = ap (λ (x : Row). x .number) q in
+  pub not-refused : {w : Swept} {k : Refusal} → w ≡ Refused k → row w ≡ sweeping marks sizes list → ⊥
+  not-refused {k = k} e r =
+      let q = rw free at (rw e at r) in
+      let z : number k ≡ 0 = ap (λ (x : Row). x .number) q in
       omega (arith, numbered k)
+
+-- the lines of the list and of the sum are those that are due
+pub swept-text : {sizes marks list out : List ℕ} {at count freed : ℕ} → SweptTo sizes marks list out at count freed
+    → deadLines sizes (take count list) ++ freedLine freed ≡ deadText true sizes (dead marks)
+swept-text s = rw (s .front, s .summed)

@@ -1,3 +1,4 @@
+pub mod Limits
+pub mod Lines
 pub mod Ready
 pub mod Report
-pub mod Room

@@ -1,81 +1,94 @@
 -- What the functions of the program hand to each other.
 use mathlib.Core.Path.{_≡_}
 use mathlib.Core.Bool.{true}
-use mathlib.Core.List.{List}
-use Prim.Native.Nat.{ℕ, _+_, _≤_, _<_}
-use lib.ListN.{length, take}
+use mathlib.Core.List.{List, _++_}
+use Prim.Native.Nat.{ℕ, _+_, _*_, _≤_, _<_}
+use lib.ListN.{length, getD, drop}
 use Rattle.graph.specs.Graph.{graph, objects as graph-objects}
 use Rattle.catalogue.specs.Store.{objects, references}
 use Rattle.catalogue.specs.Reading.{storeOf}
-use Rattle.machine.specs.Call.{settingFault, countFault, bufferFault, graphFault, indexFault}
+use Rattle.machine.specs.Machine.{stretchLength}
+use Rattle.machine.specs.Call.{settingFault, countFault, graphFault, indexFault}
 use Rattle.sweep.specs.Sweep.{allFit}
-use Rattle.report.specs.Report.{workersOf, batchOf, cutoffOf}
-use Rattle.report.specs.Room.{swept-room, text-room, work-room}
+use Rattle.report.specs.declared.order.Order.{Order}
+use Rattle.report.specs.Limits.{order-length, most-objects, most-references, work-room, swept-room, text-room}
+use Rattle.report.specs.Report.{Contents}
+
+-- every number of a list lies below n
+abbrev pub Below : List ℕ → ℕ → Type 0
+Below l n = (i : ℕ) → i < length l → getD l i 0 < n
+
+-- the buffers that a collection writes
+pub record Lent : Type 0 where
+  pub marks : List ℕ
+  pub work : List ℕ
+  pub list : List ℕ
+  pub out : List ℕ
+
+-- the buffers with these parts
+abbrev pub lent : List ℕ → List ℕ → List ℕ → List ℕ → Lent
+lent marks work list out = record { marks = marks; work = work; list = list; out = out }
+
+-- as many marks and places of the list as the program's objects, and room for the answer
+pub record Fitting (sizes marks list out : List ℕ) : Type 0 where
+  pub few : length sizes ≤ most-objects
+  pub all-marks : length marks ≡ length sizes
+  pub all-list : length list ≡ length sizes
+  pub room : text-room ≤ length out
+
+-- contents in which neither the marker nor the sweep finds a fault
+pub record Passing (s : Contents) : Type 0 where
+  pub counts : countFault (s .offsets) (s .targets) ≡ 0
+  pub formed : graphFault (graph (s .offsets) (s .targets)) ≡ 0
+  pub start : indexFault (graph-objects (graph (s .offsets) (s .targets))) (s .index) ≡ 0
+  pub objects-are : graph-objects (graph (s .offsets) (s .targets)) ≡ length (s .sizes)
+  pub some : 1 ≤ length (s .sizes)
+  pub sizes-fit : allFit (s .sizes) ≡ true
 
 -- buffers that the sweep takes, and room for its lines
-pub record Sweepable (marks sizes list out : List ℕ) (at : ℕ) : Type 0 where
+pub record Sweepable (sizes marks list out : List ℕ) (at : ℕ) : Type 0 where
   pub some : 1 ≤ length sizes
-  pub few : length sizes ≤ 1000
+  pub few : length sizes ≤ most-objects
   pub all-marks : length marks ≡ length sizes
   pub all-list : length list ≡ length sizes
   pub sizes-fit : allFit sizes ≡ true
   pub room : at + swept-room ≤ length out
 
--- W, D and K of `order.run`
-pub record Ordered (run : List ℕ) (W D K : ℕ) : Type 0 where
-  pub workers-are : W ≡ workersOf run
-  pub batch-is : D ≡ batchOf run
-  pub cutoff-is : K ≡ cutoffOf run
-  pub small-batch : D < 65536
-  pub small-cutoff : K < 65536
-
 -- a call in which the marker can find no fault but in its schedule, and buffers that the sweep takes after it
-pub record Runnable (offsets targets sizes : List ℕ) (index W D K : ℕ) (marks work list out : List ℕ) : Type 0 where
-  pub settings : settingFault W D K ≡ 0
-  pub counts : countFault offsets targets ≡ 0
-  pub buffers : bufferFault (graph-objects (graph offsets targets)) W (length marks) (length work) ≡ 0
-  pub formed : graphFault (graph offsets targets) ≡ 0
-  pub start : indexFault (graph-objects (graph offsets targets)) index ≡ 0
-  pub some : 1 ≤ length sizes
-  pub few : length sizes ≤ 1000
-  pub all-marks : length marks ≡ length sizes
-  pub all-list : length list ≡ length sizes
-  pub sizes-fit : allFit sizes ≡ true
-  pub room : text-room ≤ length out
+pub record Collectable (s : Contents) (o : Order) (l : Lent) : Type 0 where
+  pub passing : Passing s
+  pub fitting : Fitting (s .sizes) (l .marks) (l .list) (l .out)
+  pub settings : settingFault (o .workers) (o .batch) (o .cutoff) ≡ 0
+  pub all-work : length (l .work) ≡ o .workers * stretchLength (length (s .sizes))
+
+-- contents that were read, whole settings, and work words for every W that the program takes
+pub record Orderly (s : Contents) (order : List ℕ) (l : Lent) : Type 0 where
+  pub passing : Passing s
+  pub fitting : Fitting (s .sizes) (l .marks) (l .list) (l .out)
+  pub whole-order : order-length ≤ length order
+  pub much-work : work-room ≤ length (l .work)
 
 -- buffers of exactly the lengths of the store that the bytes tell, if they tell one
-pub record Readable (bytes run offsets targets sizes marks work list out : List ℕ) : Type 0 where
-  pub whole-order : 5 ≤ length run
-  pub all-offsets : length offsets ≡ objects (storeOf bytes) + 1
-  pub all-targets : length targets ≡ references (storeOf bytes)
-  pub all-sizes : length sizes ≡ objects (storeOf bytes)
-  pub few : length sizes ≤ 1000
-  pub all-marks : length marks ≡ length sizes
-  pub all-list : length list ≡ length sizes
-  pub much-work : work-room ≤ length work
-  pub room : text-room ≤ length out
+pub record Readable (store order offsets targets sizes : List ℕ) (l : Lent) : Type 0 where
+  pub all-offsets : length offsets ≡ objects (storeOf store) + 1
+  pub all-targets : length targets ≡ references (storeOf store)
+  pub all-sizes : length sizes ≡ objects (storeOf store)
+  pub fitting : Fitting sizes (l .marks) (l .list) (l .out)
+  pub whole-order : order-length ≤ length order
+  pub much-work : work-room ≤ length (l .work)
 
 -- the store that the bytes tell has n objects and m references, few enough for the program
-pub record Holding (bytes run : List ℕ) (n m : ℕ) (out : List ℕ) : Type 0 where
-  pub whole-order : 5 ≤ length run
-  pub objects-are : n ≡ objects (storeOf bytes)
-  pub references-are : m ≡ references (storeOf bytes)
-  pub few-objects : n ≤ 1000
-  pub few-references : m ≤ 4000
+pub record Holding (store order : List ℕ) (n m : ℕ) (out : List ℕ) : Type 0 where
+  pub objects-are : n ≡ objects (storeOf store)
+  pub references-are : m ≡ references (storeOf store)
+  pub few-objects : n ≤ most-objects
+  pub few-references : m ≤ most-references
+  pub whole-order : order-length ≤ length order
   pub room : text-room ≤ length out
 
--- and the buffers are the program's own
-pub record Cuttable (bytes run : List ℕ) (n m : ℕ) (offsets targets sizes marks work list out : List ℕ) : Type 0 where
-  pub holding : Holding bytes run n m out
-  pub much-offsets : length offsets ≡ 1001
-  pub much-targets : length targets ≡ 4000
-  pub much-sizes : length sizes ≡ 1000
-  pub much-marks : length marks ≡ 1000
-  pub much-work : length work ≡ work-room
-  pub much-list : length list ≡ 1000
-
--- a buffer that was `before` and is `after`, of which the first `end` bytes are the text; one without room is unchanged
+-- A buffer that was `before` and is `after`: where there is room, the first `end` bytes are the text and the bytes
+-- behind it are as they were; one without room is unchanged.
 pub record Prints (before text after : List ℕ) (end : ℕ) : Type 0 where
-  pub prints : text-room ≤ length before → take end after ≡ text
+  pub prints : text-room ≤ length before → (end ≡ length text) × (after ≡ text ++ drop (length text) before)
   pub keeps : length before < text-room → (end ≡ 0) × (after ≡ before)
   pub inside : end ≤ length after

@@ -1,122 +1,154 @@
--- Document 01, "The program": from the two files to what is printed.
+-- SPECIFICATION 7: from the two files to what is printed.
 use Prim.Native.Nat.{ℕ, zero, suc}
 use mathlib.Core.Bool.{Bool, true, false, _||_}
 use mathlib.Core.List.{List, [], _++_}
 use lib.ListN.{length, drop}
 use lib.Dec.{ltb}
+use Rattle.laws.specs.Words.{word}
+use Rattle.refusal.specs.declared.Refusal.the-variants.{Large, File}
+use Rattle.refusal.specs.Number.{number}
 use Rattle.refusal.specs.Order.{raise, first}
 use Rattle.catalogue.specs.Store.{Store, offsetsOf, targetsOf}
 use Rattle.catalogue.specs.Answer.{headerRow}
-use Rattle.catalogue.specs.Reading.{catalogueFault, storeOf, field}
-use Rattle.machine.specs.Machine.{State, result}
+use Rattle.catalogue.specs.Reading.{catalogueFault, storeOf}
+use Rattle.machine.specs.Row.{Row}
+use Rattle.machine.specs.Machine.{result}
 use Rattle.machine.specs.Call.{Call, settingFault, scheduleFault, final}
 use Rattle.sweep.specs.Sweep.{dead, sizesOf}
-use Rattle.lines.specs.Lines.{refusalLine, runLines, deadLines, freedLine}
 use Rattle.report.specs.declared.Loaded.{Loaded}
 use Rattle.report.specs.declared.Loaded.the-variants.{Whole, TooLong, Unreadable}
+use Rattle.report.specs.declared.order.Order.{Order}
+use Rattle.report.specs.Limits.{most-store-bytes, most-order-bytes, order-length, most-objects, most-references, most-workers}
+use Rattle.report.specs.Lines.{refusalLine, countLines, deadLines, freedLine}
 
 -- ---- what the program takes
 
-abbrev pub most-store-bytes : ℕ
-most-store-bytes = 60016
+-- `store.cat` and `order.run`: how each was got, and its bytes
+pub record Files : Type 0 where
+  pub store-file : Loaded
+  pub store : List ℕ
+  pub order-file : Loaded
+  pub order : List ℕ
 
-abbrev pub most-order-bytes : ℕ
-most-order-bytes = 65536
+-- the files with these parts
+abbrev pub files : Loaded → List ℕ → Loaded → List ℕ → Files
+files s store o order = record { store-file = s; store = store; order-file = o; order = order }
 
-abbrev pub most-objects : ℕ
-most-objects = 1000
+-- the settings: one byte is W, the two words of two bytes behind it are D and K
+abbrev pub orderOf : List ℕ → Order
+orderOf order = record { workers = word 1 order; batch = word 2 (drop 1 order); cutoff = word 2 (drop 3 order) }
 
-abbrev pub most-references : ℕ
-most-references = 4000
-
-abbrev pub most-workers : ℕ
-most-workers = 4
-
--- `order.run`: "W in 1 byte, D and K in 2 each, then entries"
-abbrev pub workersOf : List ℕ → ℕ
-workersOf order = field 1 0 order
-
-abbrev pub batchOf : List ℕ → ℕ
-batchOf order = field 2 1 order
-
-abbrev pub cutoffOf : List ℕ → ℕ
-cutoffOf order = field 2 3 order
-
+-- the schedule stands behind the settings
 abbrev pub scheduleOf : List ℕ → List ℕ
-scheduleOf order = drop 5 order
+scheduleOf order = drop order-length order
 
--- ---- the checks: "12, file sizes (11), header, n and m (11), the rest, 8, W (11), then 9"
+-- ---- the checks in their order: reading (12), the files' lengths (11), the header, its n and m (11), the rest of the
+-- ---- catalogue, the settings (8), W (11), the schedule (9)
 
+-- a file that was not got at all
 abbrev pub unreadable : Loaded → Bool
 unreadable Whole = false
 unreadable TooLong = false
 unreadable Unreadable = true
 
-abbrev pub tooLong : Loaded → Bool
-tooLong Whole = false
-tooLong TooLong = true
-tooLong Unreadable = false
+-- a file with more bytes than the program takes, so many of them at hand
+abbrev pub larger : Loaded → ℕ → ℕ → Bool
+larger Whole len most = ltb most len
+larger TooLong len most = true
+larger Unreadable len most = ltb most len
 
--- 12: "a file cannot be read, or `order.run` is under 5 bytes"
-abbrev pub fileFault : Loaded → Loaded → List ℕ → ℕ
-fileFault s o order = raise (unreadable s || unreadable o || ltb (length order) 5) 12 0
+-- the files themselves: one that cannot be read, or an order without its settings; then one too long
+abbrev pub filesFault : Files → ℕ
+filesFault f =
+    first (raise (unreadable (f .store-file) || unreadable (f .order-file) || ltb (length (f .order)) order-length) (number File) 0)
+    (raise (larger (f .store-file) (length (f .store)) most-store-bytes || larger (f .order-file) (length (f .order)) most-order-bytes) (number Large) 0)
 
--- 11: a file too large
-abbrev pub lengthFault : Loaded → List ℕ → Loaded → List ℕ → ℕ
-lengthFault s store o order =
-    raise (tooLong s || ltb most-store-bytes (length store) || (tooLong o || ltb most-order-bytes (length order))) 11 0
+-- n or m too large for the program
+abbrev pub countsFault : ℕ → ℕ → ℕ
+countsFault n m = raise (ltb most-objects n || ltb most-references m) (number Large) 0
 
--- 11: n or m too large for the program
+-- the same of what the header says
 abbrev pub headerFault : List ℕ → ℕ
-headerFault store = raise (ltb most-objects (headerRow store .n) || ltb most-references (headerRow store .m)) 11 0
+headerFault store = countsFault (headerRow store .n) (headerRow store .m)
 
--- 11: W too large for the program
-abbrev pub workersFault : List ℕ → ℕ
-workersFault order = raise (ltb most-workers (workersOf order)) 11 0
+-- the settings: outside their ranges, or W too large for the program
+abbrev pub orderFault : Order → ℕ
+orderFault o =
+    first (settingFault (o .workers) (o .batch) (o .cutoff)) (raise (ltb most-workers (o .workers)) (number Large) 0)
+
+-- what the call of the marker is refused for once the store is read
+abbrev pub callFault : Order → List ℕ → ℕ
+callFault o schedule = first (orderFault o) (scheduleFault (o .workers) schedule)
 
 -- the number of the first fault behind the header, or 0
 abbrev pub laterFault : List ℕ → List ℕ → ℕ
-laterFault store order =
-    first (catalogueFault store)
-    (first (settingFault (workersOf order) (batchOf order) (cutoffOf order))
-    (first (workersFault order) (scheduleFault (workersOf order) (scheduleOf order))))
+laterFault store order = first (catalogueFault store) (callFault (orderOf order) (scheduleOf order))
 
 -- the number of the first fault, or 0
-abbrev pub programFault : Loaded → List ℕ → Loaded → List ℕ → ℕ
-programFault s store o order =
-    first (fileFault s o order)
-    (first (lengthFault s store o order)
-    (first (headerRow store .refusal) (first (headerFault store) (laterFault store order))))
+abbrev pub programFault : Files → ℕ
+programFault f =
+    first (filesFault f)
+    (first (headerRow (f .store) .refusal) (first (headerFault (f .store)) (laterFault (f .store) (f .order))))
 
 -- ---- what is printed
 
--- the marker's call on the store
-abbrev pub callOf : Store → List ℕ → Call
-callOf s order =
+-- what the reader leaves of a store
+pub record Contents : Type 0 where
+  pub offsets : List ℕ
+  pub targets : List ℕ
+  pub sizes : List ℕ
+  pub index : ℕ
+
+-- the contents with these parts
+abbrev pub contents : List ℕ → List ℕ → List ℕ → ℕ → Contents
+contents offsets targets sizes index = record { offsets = offsets; targets = targets; sizes = sizes; index = index }
+
+-- what is left of this store
+abbrev pub contentsOf : Store → Contents
+contentsOf s = contents (offsetsOf s) (targetsOf s) (s .sizes) (s .index)
+
+-- the marker's call on it
+abbrev pub callOf : Contents → Order → List ℕ → Call
+callOf s o schedule =
     record {
-      offsets = offsetsOf s;
-      targets = targetsOf s;
+      offsets = s .offsets;
+      targets = s .targets;
       index = s .index;
-      workers = workersOf order;
-      batch = batchOf order;
-      cutoff = cutoffOf order;
-      schedule = scheduleOf order;
+      workers = o .workers;
+      batch = o .batch;
+      cutoff = o .cutoff;
+      schedule = schedule;
     }
 
--- "An unfinished run stops after `moved`."
+-- an unfinished collection has no lines of dead objects
 abbrev pub deadText : Bool → List ℕ → List ℕ → List ℕ
 deadText true sizes vs = deadLines sizes vs ++ freedLine (sizesOf sizes vs)
 deadText false sizes vs = []
 
-abbrev pub runText : List ℕ → State → List ℕ
-runText sizes f = runLines (result f) ++ deadText (result f .finished) sizes (dead (f .marks))
+-- a collection's result, with its sizes and marks
+abbrev pub resultText : Row → List ℕ → List ℕ → List ℕ
+resultText r sizes marks = countLines (r .finished) (r .counts) ++ deadText (r .finished) sizes (dead marks)
 
 -- what is printed where the first fault has this number, 0 for none
-abbrev pub printed : ℕ → List ℕ → Call → List ℕ
-printed zero sizes c = runText sizes (final c)
-printed (suc k) sizes c = refusalLine (suc k)
+abbrev pub printed : ℕ → Contents → Order → List ℕ → List ℕ
+printed zero s o schedule =
+    resultText (result (final (callOf s o schedule))) (s .sizes) (final (callOf s o schedule) .marks)
+printed (suc k) s o schedule = refusalLine (suc k)
+
+-- what is printed where only the schedule can be refused
+abbrev pub collectionText : Contents → Order → List ℕ → List ℕ
+collectionText s o schedule = printed (scheduleFault (o .workers) schedule) s o schedule
+
+-- what is printed once the store is read
+abbrev pub orderText : Contents → List ℕ → List ℕ
+orderText s order = printed (callFault (orderOf order) (scheduleOf order)) s (orderOf order) (scheduleOf order)
+
+-- what is printed where no fault lies in front of the rest of the catalogue
+abbrev pub laterText : List ℕ → List ℕ → List ℕ
+laterText store order =
+    printed (laterFault store order) (contentsOf (storeOf store)) (orderOf order) (scheduleOf order)
 
 -- all that the program prints
-abbrev pub programText : Loaded → List ℕ → Loaded → List ℕ → List ℕ
-programText s store o order =
-    printed (programFault s store o order) (storeOf store .sizes) (callOf (storeOf store) order)
+abbrev pub programText : Files → List ℕ
+programText f =
+    printed (programFault f) (contentsOf (storeOf (f .store))) (orderOf (f .order)) (scheduleOf (f .order))

@@ -1,14 +1,13 @@
-// The checks of the two files, before anything is read of them.
+// The checks of the two files, and of the numbers of objects and references.
 use crate::Loaded;
+use crate::limits;
+use refusal::Refusal;
+use refusal::Verdict;
 ghost use mathlib.Core.Path.{_≡_};
-ghost use Rattle.refusal.specs.Order.{first};
-ghost use Rattle.report.specs.Report.{unreadable, tooLong, fileFault, lengthFault};
+ghost use Rattle.refusal.specs.Number.{numberOf};
+ghost use Rattle.report.specs.Report.{unreadable, larger, files, filesFault, countsFault};
 
-const MOST_STORE_BYTES: usize = 60016;
-
-const MOST_ORDER_BYTES: usize = 65536;
-
-pub fn is_unreadable(file: Loaded) -> bool
+fn is_unreadable(file: Loaded) -> bool
     ensures { λ r. ⌜ r ≡ unreadable file ⌝ }
 {
     match file {
@@ -18,40 +17,48 @@ pub fn is_unreadable(file: Loaded) -> bool
     }
 }
 
-pub fn is_too_long(file: Loaded) -> bool
-    ensures { λ r. ⌜ r ≡ tooLong file ⌝ }
+// Whether a file has more bytes than the program takes.
+fn is_larger(file: Loaded, len: usize, most: usize) -> bool
+    ensures { λ r. ⌜ r ≡ larger file len most ⌝ }
 {
     match file {
-        Loaded::Whole => false,
+        Loaded::Whole => most < len,
         Loaded::TooLong => true,
-        Loaded::Unreadable => false,
+        Loaded::Unreadable => most < len,
     }
 }
 
-// The number of the first fault of the files, or 0.
-pub fn file_fault(store: Loaded, catalogue: &[u8], order: Loaded, run: &[u8]) -> u8
-    ensures { λ r. ⌜ r ≡ first (fileFault store order (now (run .entry))) (lengthFault store (now (catalogue .entry)) order (now (run .entry))) ⌝ }
+// The first fault of the files.
+pub fn check(storefile: Loaded, store: &[u8], orderfile: Loaded, order: &[u8]) -> Verdict
+    ensures { λ r. ⌜ numberOf r ≡ filesFault (files storefile (now (store .entry)) orderfile (now (order .entry))) ⌝ }
 {
-    if is_unreadable(store) {
-        return 12;
+    if is_unreadable(storefile) {
+        return Verdict::Faulty(Refusal::File);
     }
-    if is_unreadable(order) {
-        return 12;
+    if is_unreadable(orderfile) {
+        return Verdict::Faulty(Refusal::File);
     }
-    if run.len() < 5 {
-        return 12;
+    if order.len() < limits::ORDER_LENGTH {
+        return Verdict::Faulty(Refusal::File);
     }
-    if is_too_long(store) {
-        return 11;
+    if is_larger(storefile, store.len(), limits::MOST_STORE_BYTES) {
+        return Verdict::Faulty(Refusal::Large);
     }
-    if MOST_STORE_BYTES < catalogue.len() {
-        return 11;
+    if is_larger(orderfile, order.len(), limits::MOST_ORDER_BYTES) {
+        return Verdict::Faulty(Refusal::Large);
     }
-    if is_too_long(order) {
-        return 11;
+    Verdict::Fine
+}
+
+// Whether the program takes so many objects and references.
+pub fn check_counts(n: u32, m: u32) -> Verdict
+    ensures { λ r. ⌜ numberOf r ≡ countsFault n m ⌝ }
+{
+    if limits::MOST_OBJECTS < n as usize {
+        return Verdict::Faulty(Refusal::Large);
     }
-    if MOST_ORDER_BYTES < run.len() {
-        return 11;
+    if limits::MOST_REFERENCES < m as usize {
+        return Verdict::Faulty(Refusal::Large);
     }
-    0
+    Verdict::Fine
 }

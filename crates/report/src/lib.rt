@@ -1,21 +1,23 @@
 // From the bytes of the two files to the bytes of the answer: all of the program but opening,
 // reading and writing.
-pub mod buffers;
-pub mod dead;
-pub mod files;
-pub mod order;
-pub mod run;
-pub mod store;
+mod buffers;
+mod collection;
+mod dead;
+mod files;
+pub mod limits;
+mod lines;
+mod order;
+mod store;
 
 use catalogue::Answer;
-ghost use Rattle.report.specs.Report.{programText};
+use limits::TEXT_ROOM;
+use refusal::Verdict;
+ghost use Prim.Native.Nat.{_≤_};
+ghost use lib.ListN.{length};
+ghost use Rattle.text.specs.Text.{Put};
+ghost use Rattle.report.specs.Limits.{text-room};
+ghost use Rattle.report.specs.Report.{files, programText};
 ghost use Rattle.report.specs.Ready.{Prints};
-
-const TEXT_ROOM: usize = 49152;
-
-const MOST_OBJECTS: u32 = 1000;
-
-const MOST_REFERENCES: u32 = 4000;
 
 // A file as the program got it: whole, with more bytes than its limit, or not at all.
 pub enum Loaded {
@@ -24,27 +26,47 @@ pub enum Loaded {
     Unreadable,
 }
 
-// Writes what the program prints to the buffer's beginning, and returns how many bytes that is. A
-// buffer with less than room for every answer gets nothing.
-pub fn answer(store: Loaded, catalogue: &[u8], order: Loaded, run: &[u8], out: &mut [u8]) -> usize
-    ensures { λ r. ⌜ Prints (now (out .entry)) (programText store (now (catalogue .entry)) order (now (run .entry))) (now (out .exit)) r ⌝ }
+// Writes the answer into a buffer that has room for every answer.
+fn put_answer(
+    storefile: Loaded,
+    store: &[u8],
+    orderfile: Loaded,
+    order: &[u8],
+    out: &mut [u8],
+) -> usize
+    requires { ⌜ text-room ≤ length (now out) ⌝ }
+    ensures { λ r. ⌜ Put (now (out .entry)) 0
+        (programText (files storefile (now (store .entry)) orderfile (now (order .entry)))) (now (out .exit)) r ⌝ }
+{
+    let found = files::check(storefile, store, orderfile, order);
+    if let Verdict::Faulty(refusal) = found {
+        return lines::put_refusal(out, 0, refusal::number_of(refusal));
+    }
+    let head = catalogue::header(store);
+    let Answer::Read { n, m, index: _ } = head else {
+        return lines::put_refusal(out, 0, catalogue::refusal_of(head));
+    };
+    let counted = files::check_counts(n, m);
+    if let Verdict::Faulty(refusal) = counted {
+        return lines::put_refusal(out, 0, refusal::number_of(refusal));
+    }
+    buffers::put_in_buffers(store, order, n as usize, m as usize, out)
+}
+
+// Writes what the program prints to the buffer's beginning, leaves the bytes behind it, and returns
+// how many bytes it is. A buffer with less than room for every answer gets nothing.
+pub fn answer(
+    storefile: Loaded,
+    store: &[u8],
+    orderfile: Loaded,
+    order: &[u8],
+    out: &mut [u8],
+) -> usize
+    ensures { λ r. ⌜ Prints (now (out .entry))
+        (programText (files storefile (now (store .entry)) orderfile (now (order .entry)))) (now (out .exit)) r ⌝ }
 {
     if out.len() < TEXT_ROOM {
         return 0;
     }
-    let fault = files::file_fault(store, catalogue, order, run);
-    if fault != 0 {
-        return lines::put_refusal(out, 0, fault);
-    }
-    let head = catalogue::header(catalogue);
-    let Answer::Found { n, m, index: _ } = head else {
-        return lines::put_refusal(out, 0, store::refusal_of(head));
-    };
-    if MOST_OBJECTS < n {
-        return lines::put_refusal(out, 0, 11);
-    }
-    if MOST_REFERENCES < m {
-        return lines::put_refusal(out, 0, 11);
-    }
-    buffers::put_in_buffers(catalogue, run, n as usize, m as usize, out)
+    put_answer(storefile, store, orderfile, order, out)
 }

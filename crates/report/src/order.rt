@@ -1,7 +1,13 @@
 // The settings at the front of `order.run`.
+use crate::limits::MOST_WORKERS;
+use refusal::Refusal;
+use refusal::Verdict;
+ghost use mathlib.Core.Path.{_≡_};
 ghost use Prim.Native.Nat.{_≤_};
 ghost use lib.ListN.{length};
-ghost use Rattle.report.specs.Ready.{Ordered};
+ghost use Rattle.refusal.specs.Number.{numberOf};
+ghost use Rattle.report.specs.Limits.{order-length};
+ghost use Rattle.report.specs.Report.{orderOf, orderFault};
 
 // W, D and K.
 pub struct Order {
@@ -11,13 +17,27 @@ pub struct Order {
 }
 
 // One byte, then two words of two bytes.
-pub fn order_of(run: &[u8]) -> Order
-    requires { ⌜ 5 ≤ length (now run) ⌝ }
-    ensures { λ r. ⌜ Ordered (now (run .entry)) (r .workers) (r .batch) (r .cutoff) ⌝ }
+pub fn order_of(order: &[u8]) -> Order
+    requires { ⌜ order-length ≤ length (now order) ⌝ }
+    ensures { λ r. ⌜ r ≡ orderOf (now (order .entry)) ⌝ }
 {
     Order {
-        workers: run[0] as u32,
-        batch: words::word2(run, 1) as u32,
-        cutoff: words::word2(run, 3) as u32,
+        workers: order[0] as u32,
+        batch: slices::word2(order, 1) as u32,
+        cutoff: slices::word2(order, 3) as u32,
     }
+}
+
+// Whether the settings are in their ranges, and W is one that the program takes.
+pub fn check(settings: Order) -> Verdict
+    ensures { λ r. ⌜ numberOf r ≡ orderFault settings ⌝ }
+{
+    let workers = settings.workers;
+    if marker::setting_outside(workers, settings.batch, settings.cutoff) {
+        return Verdict::Faulty(Refusal::Setting);
+    }
+    if MOST_WORKERS < workers {
+        return Verdict::Faulty(Refusal::Large);
+    }
+    Verdict::Fine
 }

@@ -1,34 +1,55 @@
-// The store: read whole, then run.
+// The store: read whole, then collected as the order says.
+use crate::collection;
+use crate::limits::ORDER_LENGTH;
+use crate::lines;
 use crate::order;
-use crate::run;
 use catalogue::Answer;
-ghost use Rattle.catalogue.specs.Answer.{row};
-ghost use Rattle.catalogue.specs.Reading.{storeOf};
-ghost use mathlib.Core.Path.{_≡_};
+use refusal::Verdict;
 ghost use Rattle.text.specs.Text.{Put};
-ghost use Rattle.report.specs.Report.{printed, callOf, laterFault};
-ghost use Rattle.report.specs.Ready.{Readable};
+ghost use Rattle.report.specs.Report.{contents, orderText, laterText};
+ghost use Rattle.report.specs.Ready.{lent, Orderly, Readable};
 
-const MOST_WORKERS: u32 = 4;
-
-// The number of a refused reading, or 0.
-pub fn refusal_of(answer: Answer) -> u8
-    ensures { λ r. ⌜ r ≡ row answer .refusal ⌝ }
+// Checks the settings, and collects in work words of exactly the length that they ask for.
+fn put_ordered(
+    offsets: &[u32],
+    targets: &[u32],
+    sizes: &[u64],
+    index: u32,
+    order: &[u8],
+    marks: &mut [u8],
+    work: &mut [u32],
+    list: &mut [u32],
+    out: &mut [u8],
+) -> usize
+    requires { ⌜ Orderly (contents (now offsets) (now targets) (now sizes) index) (now order) (lent (now marks) (now work) (now list) (now out)) ⌝ }
+    ensures { λ r. ⌜ Put (now (out .entry)) 0
+        (orderText (contents (now (offsets .entry)) (now (targets .entry)) (now (sizes .entry)) index) (now (order .entry))) (now (out .exit)) r ⌝ }
 {
-    match answer {
-        Answer::Found {
-            n: _,
-            m: _,
-            index: _,
-        } => 0,
-        Answer::Refused(refusal) => refusal::number_of(refusal),
+    let settings = order::order_of(order);
+    let found = order::check(settings);
+    if let Verdict::Faulty(refusal) = found {
+        return lines::put_refusal(out, 0, refusal::number_of(refusal));
     }
+    let words = settings.workers as usize * (2 * sizes.len() + 4);
+    collection::put_collection(
+        offsets,
+        targets,
+        sizes,
+        index,
+        settings,
+        &order[ORDER_LENGTH..],
+        marks,
+        &mut work[..words],
+        list,
+        out,
+    )
 }
 
-// Reads the store into buffers of exactly its lengths, and runs it in buffers that are long enough.
+// Reads the store into buffers of exactly its lengths, and collects in buffers that are long
+// enough.
 pub fn put_store(
-    bytes: &[u8],
-    run: &[u8],
+    store: &[u8],
+    order: &[u8],
     offsets: &mut [u32],
     targets: &mut [u32],
     sizes: &mut [u64],
@@ -37,31 +58,21 @@ pub fn put_store(
     list: &mut [u32],
     out: &mut [u8],
 ) -> usize
-    requires { ⌜ Readable (now bytes) (now run) (now offsets) (now targets) (now sizes) (now marks) (now work) (now list) (now out) ⌝ }
-    ensures { λ r. ⌜ Put (now (out .entry)) 0 (printed (laterFault (now (bytes .entry)) (now (run .entry))) (storeOf (now (bytes .entry)) .sizes) (callOf (storeOf (now (bytes .entry))) (now (run .entry)))) (now (out .exit)) r ⌝ }
+    requires { ⌜ Readable (now store) (now order) (now offsets) (now targets) (now sizes) (lent (now marks) (now work) (now list) (now out)) ⌝ }
+    ensures { λ r. ⌜ Put (now (out .entry)) 0 (laterText (now (store .entry)) (now (order .entry))) (now (out .exit)) r ⌝ }
 {
-    let found = catalogue::read(bytes, offsets, targets, sizes);
-    let Answer::Found { n: _, m: _, index } = found else {
-        return lines::put_refusal(out, 0, refusal_of(found));
+    let found = catalogue::read(store, offsets, targets, sizes);
+    let Answer::Read { n: _, m: _, index } = found else {
+        return lines::put_refusal(out, 0, catalogue::refusal_of(found));
     };
-    let settings = order::order_of(run);
-    let workers = settings.workers;
-    if marker::setting_outside(workers, settings.batch, settings.cutoff) {
-        return lines::put_refusal(out, 0, 8);
-    }
-    if MOST_WORKERS < workers {
-        return lines::put_refusal(out, 0, 11);
-    }
-    let words = workers as usize * (2 * sizes.len() + 4);
-    run::put_marked(
+    put_ordered(
         offsets,
         targets,
         sizes,
         index,
-        settings,
-        &run[5..],
+        order,
         marks,
-        &mut work[..words],
+        work,
         list,
         out,
     )

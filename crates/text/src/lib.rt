@@ -1,19 +1,19 @@
 // Lines of text in a lent buffer: words, decimal numbers, line ends. Each function writes behind
-// the first `at` bytes and returns how many bytes there are then.
-ghost use mathlib.Core.Path.{_≡_};
-ghost use mathlib.Core.List.{_++_};
+// the first `at` bytes, leaves every other byte as it is, and returns how many bytes there are
+// then.
 ghost use Prim.Native.Nat.{_+_, _≤_};
+ghost use mathlib.Core.List.{_++_};
 ghost use lib.ListN.{length};
-ghost use Rattle.text.specs.Text.{Aligned, decimal, field, line, Put};
+ghost use Rattle.text.specs.Text.{Aligned, decimal, spaced, line, Put, PutIn};
 
 // Decimal digits, right-aligned: those of the number begin at `from`.
-pub struct Digits {
-    pub bytes: [u8; 20],
-    pub from: usize,
+struct Digits {
+    bytes: [u8; 20],
+    from: usize,
 }
 
 // The digits of a number.
-pub fn digits_of(v: u64) -> Digits
+fn digits_of(v: u64) -> Digits
     ensures { λ r. ⌜ Aligned v (r .bytes) (r .from) ⌝ }
 {
     let mut bytes = [0u8; 20];
@@ -44,9 +44,9 @@ pub fn put(out: &mut [u8], at: usize, s: &[u8]) -> usize
 }
 
 // Writes a number.
-pub fn put_number(out: &mut [u8], at: usize, v: u64) -> usize
+fn put_number(out: &mut [u8], at: usize, v: u64) -> usize
     requires { ⌜ at + 20 ≤ length (now out) ⌝ }
-    ensures { λ r. ⌜ Put (now (out .entry)) at (decimal v) (now (out .exit)) r ⌝ }
+    ensures { λ r. ⌜ PutIn 20 (now (out .entry)) at (decimal v) (now (out .exit)) r ⌝ }
 {
     let d = digits_of(v);
     let bytes = d.bytes;
@@ -55,33 +55,40 @@ pub fn put_number(out: &mut [u8], at: usize, v: u64) -> usize
 }
 
 // Writes a space and a number.
-pub fn put_field(out: &mut [u8], at: usize, v: u64) -> usize
+fn put_spaced(out: &mut [u8], at: usize, v: u64) -> usize
     requires { ⌜ at + 21 ≤ length (now out) ⌝ }
-    ensures { λ r. ⌜ Put (now (out .entry)) at (field v) (now (out .exit)) r ⌝ }
+    ensures { λ r. ⌜ PutIn 21 (now (out .entry)) at (spaced v) (now (out .exit)) r ⌝ }
 {
     let next = put(out, at, b" ");
     put_number(out, next, v)
 }
 
-// Writes a line: a word, a space and a number.
-pub fn put_line(out: &mut [u8], at: usize, word: &[u8], v: u64) -> usize
-    requires { ⌜ at + length (now word) + 22 ≤ length (now out) ⌝ }
-    ensures { λ r. ⌜ Put (now (out .entry)) at (line (now (word .entry)) (field v)) (now (out .exit)) r ⌝ }
-    ensures { λ r. ⌜ r ≤ at + length (now (word .entry)) + 22 ⌝ }
+// Writes a word, a space and a number.
+fn put_named(out: &mut [u8], at: usize, word: &[u8], v: u64) -> usize
+    requires { ⌜ at + (length (now word) + 21) ≤ length (now out) ⌝ }
+    ensures { λ r. ⌜ PutIn (length (now (word .entry)) + 21) (now (out .entry)) at (now (word .entry) ++ spaced v) (now (out .exit)) r ⌝ }
 {
-    let named = put(out, at, word);
-    let valued = put_field(out, named, v);
-    put(out, valued, b"\n")
+    let next = put(out, at, word);
+    put_spaced(out, next, v)
+}
+
+// Writes a line: a word and a number.
+pub fn put_line(out: &mut [u8], at: usize, word: &[u8], v: u64) -> usize
+    requires { ⌜ at + (length (now word) + 22) ≤ length (now out) ⌝ }
+    ensures { λ r. ⌜ PutIn (length (now (word .entry)) + 22) (now (out .entry)) at
+        (line (now (word .entry) ++ spaced v)) (now (out .exit)) r ⌝ }
+{
+    let next = put_named(out, at, word, v);
+    put(out, next, b"\n")
 }
 
 // Writes a line: a word and two numbers.
 pub fn put_line_of_two(out: &mut [u8], at: usize, word: &[u8], v: u64, w: u64) -> usize
-    requires { ⌜ at + length (now word) + 43 ≤ length (now out) ⌝ }
-    ensures { λ r. ⌜ Put (now (out .entry)) at (line (now (word .entry)) (field v ++ field w)) (now (out .exit)) r ⌝ }
-    ensures { λ r. ⌜ r ≤ at + length (now (word .entry)) + 43 ⌝ }
+    requires { ⌜ at + (length (now word) + 43) ≤ length (now out) ⌝ }
+    ensures { λ r. ⌜ PutIn (length (now (word .entry)) + 43) (now (out .entry)) at
+        (line (now (word .entry) ++ spaced v ++ spaced w)) (now (out .exit)) r ⌝ }
 {
-    let named = put(out, at, word);
-    let first = put_field(out, named, v);
-    let second = put_field(out, first, w);
+    let first = put_named(out, at, word, v);
+    let second = put_spaced(out, first, w);
     put(out, second, b"\n")
 }

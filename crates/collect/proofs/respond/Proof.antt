@@ -1,45 +1,27 @@
+-- Each file's bytes are a part of its buffer, and so is the answer.
 use mathlib.Core.Path.{sym}
 use lib.Seq.{length-take-le}
 use borrow.Author.Needs.{needs}
 use Rattle.collect.proofs.respond.Statement.{statement}
 use Rattle.collect.proofs.respond.Tie as tie
 
+abbrev entry : tie.After-answer-arg → tie.Start
+entry c = c .before .before .before .before
+
 slice-aggregate-answer : tie.Need-slice-aggregate-answer
 slice-aggregate-answer c =
-    let s = c .before .before .before .before in sym (length-take-le (s .args .store .len) (s .args .catalogue .now) (s .pre .0))
+    let s = entry c in sym (length-take-le (s .args .storefile .len) (s .args .store .now) (s .pre .0))
 
 slice-aggregate-answer-2 : tie.Need-slice-aggregate-answer-2
 slice-aggregate-answer-2 c =
-    let s = c .before .before .before .before .before in sym (length-take-le (s .args .order .len) (s .args .run .now) (s .pre .1))
-
-answer-requires : tie.Need-answer-requires
-answer-requires c κs = search needs
-
-slice-reshare-prefix-write-all : tie.Need-slice-reshare-prefix-write-all
-slice-reshare-prefix-write-all c = search needs
+    let s = entry (c .before) in sym (length-take-le (s .args .orderfile .len) (s .args .order .now) (s .pre .1))
 
 slice-aggregate-write-all : tie.Need-slice-aggregate-write-all
 slice-aggregate-write-all c =
     let d = c .before .before .before .answer in sym (length-take-le (d .result) (d .last .1 .1 .1 .1 .0) (d .ensures .inside))
 
-write-all-requires : tie.Need-write-all-requires
-write-all-requires c κs = search needs
-
-same-length : tie.Need-same-length
-same-length c = search needs
-
-returns : tie.Need-returns
-returns c = search needs
-
 pub respond-spec : {M : Type 1} → statement M
 respond-spec =
     tie.close
-    (tie.spec
-    slice-aggregate-answer
-    slice-aggregate-answer-2
-    answer-requires
-    slice-reshare-prefix-write-all
-    slice-aggregate-write-all
-    write-all-requires
-    same-length
-    returns)
+    (tie.spec slice-aggregate-answer slice-aggregate-answer-2 (λ c κs. search needs) (λ c. search needs)
+    slice-aggregate-write-all (λ c κs. search needs) (λ c. search needs) (λ c. search needs))

@@ -1,9 +1,9 @@
-use lib.ListN.{length-set}
+-- A loop: the digits of what is left stand in front of those made.
 use mathlib.Core.Path.{_≡_, refl, _∙_}
 use mathlib.Core.List.{_++_, append-nil}
 use Prim.Native.Nat.{_≤_}
 use native.Mathlib.Omega.{arith}
-use lib.ListN.{length, drop}
+use lib.ListN.{length, drop, length-set}
 use borrow.Author.Needs.{needs}
 use Rattle.text.specs.Text.{digitsIn, decimal}
 use Rattle.text.proofs.Decimal.{digit-last, digit-more, none-left}
@@ -20,21 +20,11 @@ loop-holds : tie.Need-loop-holds Inv-loop μ-loop
 unfolding decimal
 loop-holds c = (omega arith, (refl, append-nil (decimal (c .args .v))))
 
-sub-i : tie.Need-sub-i Inv-loop μ-loop
-sub-i c = search needs
-
-add-bytes : tie.Need-add-bytes Inv-loop μ-loop
-add-bytes c = search needs
-
-cast-bytes : tie.Need-cast-bytes Inv-loop μ-loop
-cast-bytes c = search needs
-
-array-write-bytes : tie.Need-array-write-bytes Inv-loop μ-loop
-array-write-bytes c = search needs
-
 returns : tie.Need-returns Inv-loop μ-loop
-returns c = let l = c .before .before .loop in
-    let h = c .before .loop-test .taken in
+returns c =
+    let at-test = c .before in
+    let l = at-test .before .loop in
+    let h = at-test .loop-test .taken in
     let n = l .inv .1 .0 in
     record {
       long = rw length-set n;
@@ -42,12 +32,11 @@ returns c = let l = c .before .before .loop in
       digits = digit-last (l .i) (l .left) (l .bytes) h (omega arith) (c .if1 .taken) ∙ l .inv .1 .1;
     }
 
-loop-less : tie.Need-loop-less Inv-loop μ-loop
-loop-less c = search needs
-
 loop-again : tie.Need-loop-again Inv-loop μ-loop
-loop-again c = let l = c .before .before .loop in
-    let h = c .before .loop-test .taken in
+loop-again c =
+    let at-test = c .before in
+    let l = at-test .before .loop in
+    let h = at-test .loop-test .taken in
     let n = l .inv .1 .0 in
     (omega arith, (rw length-set n, digit-more (l .i) (l .left) (l .bytes) h (omega arith) (c .if1 .left) ∙ l .inv .1 .1))
 
@@ -59,15 +48,5 @@ returns-2 c = let l = c .before .loop in
 pub digits-of-spec : {M : Type 1} → statement M
 digits-of-spec =
     tie.close
-    (tie.spec
-    Inv-loop
-    μ-loop
-    loop-holds
-    sub-i
-    add-bytes
-    cast-bytes
-    array-write-bytes
-    returns
-    loop-less
-    loop-again
-    returns-2)
+    (tie.spec Inv-loop μ-loop loop-holds (λ c. search needs) (λ c. search needs) (λ c. search needs)
+    (λ c. search needs) returns (λ c. search needs) loop-again returns-2)

@@ -1,111 +1,67 @@
-use mathlib.Core.Path.{sym, ap, _∙_}
-use mathlib.Core.List.{List, _++_}
+-- What the sweep leaves is written line by line; it is never refused.
+use mathlib.Core.Path.{sym}
+use mathlib.Core.List.{List}
 use Prim.Native.Nat.{ℕ}
 use native.Mathlib.Omega.{arith}
 use lib.Seq.{length-take-le}
-use Rattle.text.proofs.Written.{then, as-text}
-use Rattle.lines.specs.Lines.{deadLines, freedLine}
-use Rattle.sweep.specs.Sweep.{dead}
-use Rattle.report.proofs.Sweeping.{swept-to, not-refused}
+use Rattle.text.proofs.Written.{then, as-text, room-left}
+use Rattle.report.proofs.Sweeping.{SweptTo, swept-to, not-refused, swept-text}
 use borrow.Author.Needs.{needs}
 use Rattle.report.proofs.dead.put_swept.Statement.{statement}
 use Rattle.report.proofs.dead.put_swept.Tie as tie
 
-sweep-requires : tie.Need-sweep-requires
-sweep-requires c κs = search needs
+abbrev entry : tie.After-sweep → tie.Start
+entry c = c .before .before .before .before .before .before
 
-enum-known-swept : tie.Need-enum-known-swept
-enum-known-swept c = search needs
+abbrev at-sweep : tie.After-swept → tie.After-sweep
+at-sweep c = c .before .before .before .before
 
-enum-told : tie.Need-enum-told
-enum-told c = search needs
+abbrev at-swept : tie.After-put-dead-list → tie.After-swept
+at-swept c = c .before .before .before .before
 
-refusal-of-requires : tie.Need-refusal-of-requires
-refusal-of-requires c κs = search needs
+abbrev list : tie.After-swept → List ℕ
+list c = at-sweep c .sweep .last .1 .1 .0
 
-put-refusal-requires : tie.Need-put-refusal-requires
-put-refusal-requires c κs = search needs
+abbrev count : tie.After-swept → ℕ
+count c = c .swept .given .0 .0
 
-same-length : tie.Need-same-length
-same-length c = search needs
-
-same-length-2 : tie.Need-same-length-2
-same-length-2 c = search needs
+left : (c : tie.After-swept) → let a = entry (at-sweep c) .args in
+    SweptTo (a .sizes .now) (a .marks .now) (list c) (a .out .now) (a .at) (count c) (c .swept .given .0 .1 .0)
+left c =
+    let done = at-sweep c .sweep .ensures in
+    swept-to (entry (at-sweep c) .pre) (c .swept .given .1) (done .0) (done .1)
 
 returns : tie.Need-returns
-returns c = let st = c .before .before .before .before .before .before .before .before .before .before .before .before .before .before .before in
-    let told = c .before .before .before .before .before .enum-told .given in
-    absurd (not-refused (st .args .marks .now) (st .args .sizes .now) (st .args .list .now) (st .args .out .now) (st .args .at) (st .pre) (told .0 .0) (rw (told .1) at (c .before .before .before .before .before .before .before .before .before .sweep .ensures .0)))
-
-cast-most : tie.Need-cast-most
-cast-most c = search needs
+returns c =
+    let at-told = c .before .before .before .before .before in
+    let s = at-told .before .before .before .before in
+    absurd (not-refused (entry s .pre) (at-told .enum-told .given .1) (s .sweep .ensures .0))
 
 slice-reshare-prefix-put-dead-list : tie.Need-slice-reshare-prefix-put-dead-list
-slice-reshare-prefix-put-dead-list c = let st = c .before .before .before .before .before .before .before .before .before .before .before .before in
-    let v = c .before .before .swept .given in
-    let done = c .before .before .before .before .before .before .sweep in
-    let list = done .last .1 .1 .0 in
-    let to = swept-to (st .args .marks .now) (st .args .sizes .now) (st .args .list .now) (st .args .out .now) (st .args .at) (st .pre) (v .0 .0) (v .0 .1 .0) list (rw (v .1) at (done .ensures .0)) (done .ensures .1) in
-    to .inside
+slice-reshare-prefix-put-dead-list c = left (c .before .before) .inside
 
 slice-aggregate-put-dead-list : tie.Need-slice-aggregate-put-dead-list
-slice-aggregate-put-dead-list c = let st = c .before .before .before .before .before .before .before .before .before .before .before .before .before in
-    let v = c .before .before .before .swept .given in
-    let done = c .before .before .before .before .before .before .before .sweep in
-    let list = done .last .1 .1 .0 in
-    let to = swept-to (st .args .marks .now) (st .args .sizes .now) (st .args .list .now) (st .args .out .now) (st .args .at) (st .pre) (v .0 .0) (v .0 .1 .0) list (rw (v .1) at (done .ensures .0)) (done .ensures .1) in
-    sym (length-take-le (v .0 .0) list (to .inside))
+slice-aggregate-put-dead-list c = let s = c .before .before .before in sym (length-take-le (count s) (list s) (left s .inside))
 
 put-dead-list-requires : tie.Need-put-dead-list-requires
-put-dead-list-requires c κs = let st = c .before .before .before .before .before .before .before .before .before .before .before .before .before in
-    let v = c .before .before .before .swept .given in
-    let done = c .before .before .before .before .before .before .before .sweep in
-    let list = done .last .1 .1 .0 in
-    let to = swept-to (st .args .marks .now) (st .args .sizes .now) (st .args .list .now) (st .args .out .now) (st .args .at) (st .pre) (v .0 .0) (v .0 .1 .0) list (rw (v .1) at (done .ensures .0)) (done .ensures .1) in
-    let few = to .few in let n = st .pre .few in let room = st .pre .room in
-    (rw (length-take-le (v .0 .0) list (to .inside)) (omega arith), to .objects)
+put-dead-list-requires c κs = let l = left (c .before .before .before) in (omega (arith, l .room), l .objects)
 
 put-freed-requires : tie.Need-put-freed-requires
-put-freed-requires c κs = let st = c .before .before .before .before .before .before .before .before .before .before .before .before .before .before .before .before .before in
-    let v = c .before .before .before .before .before .before .before .swept .given in
-    let done = c .before .before .before .before .before .before .before .before .before .before .before .sweep in
-    let list = done .last .1 .1 .0 in
-    let to = swept-to (st .args .marks .now) (st .args .sizes .now) (st .args .list .now) (st .args .out .now) (st .args .at) (st .pre) (v .0 .0) (v .0 .1 .0) list (rw (v .1) at (done .ensures .0)) (done .ensures .1) in
-    let few = to .few in let n = st .pre .few in let room = st .pre .room in
-    let p = c .before .before .before .put-dead-list .ensures in let l = p .0 .long in let b = p .1 in omega (arith, length-take-le (v .0 .0) list (to .inside))
-
-same-length-3 : tie.Need-same-length-3
-same-length-3 c = search needs
-
-same-length-4 : tie.Need-same-length-4
-same-length-4 c = search needs
+put-freed-requires c κs =
+    let at-list = c .before .before .before in
+    room-left (at-list .put-dead-list .ensures) 27 (left (at-swept at-list) .room)
 
 returns-2 : tie.Need-returns-2
-returns-2 c = let st = c .before .before .before .before .before .before .before .before .before .before .before .before .before .before .before .before .before .before .before .before in
-    let v = c .before .before .before .before .before .before .before .before .before .before .swept .given in
-    let done = c .before .before .before .before .before .before .before .before .before .before .before .before .before .before .sweep in
-    let list = done .last .1 .1 .0 in
-    let to = swept-to (st .args .marks .now) (st .args .sizes .now) (st .args .list .now) (st .args .out .now) (st .args .at) (st .pre) (v .0 .0) (v .0 .1 .0) list (rw (v .1) at (done .ensures .0)) (done .ensures .1) in
-    as-text (ap (λ (vs : List ℕ). deadLines (st .args .sizes .now) vs ++ freedLine (v .0 .1 .0)) (to .front) ∙ ap (λ (x : ℕ). deadLines (st .args .sizes .now) (dead (st .args .marks .now)) ++ freedLine x) (to .summed))
-    (then (c .before .before .before .before .before .before .put-dead-list .ensures .0) (c .before .before .put-freed .ensures))
+returns-2 c =
+    let at-freed = c .before .before in
+    let at-list = at-freed .before .before .before .before in
+    as-text (swept-text (left (at-swept at-list)))
+    (then (at-list .put-dead-list .ensures .put) (at-freed .put-freed .ensures .put))
 
 pub put-swept-spec : {M : Type 1} → statement M
 put-swept-spec =
     tie.close
-    (tie.spec
-    sweep-requires
-    enum-known-swept
-    enum-told
-    refusal-of-requires
-    put-refusal-requires
-    same-length
-    same-length-2
-    returns
-    cast-most
-    slice-reshare-prefix-put-dead-list
-    slice-aggregate-put-dead-list
-    put-dead-list-requires
-    put-freed-requires
-    same-length-3
-    same-length-4
-    returns-2)
+    (tie.spec (λ c κs. search needs) (λ c. search needs) (λ c. search needs) (λ c κs. search needs)
+    (λ c κs. search needs) (λ c. search needs) (λ c. search needs) returns (λ c. search needs)
+    slice-reshare-prefix-put-dead-list slice-aggregate-put-dead-list put-dead-list-requires put-freed-requires
+    (λ c. search needs) (λ c. search needs) returns-2)

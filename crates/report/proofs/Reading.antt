@@ -1,0 +1,113 @@
+-- The reader on buffers of exactly the lengths that the header says: what it refuses is the catalogue's first fault, and
+-- what it accepts passes the marker's checks and the sweep's.
+use mathlib.Core.Path.{_≡_, refl, sym, ap, subst, _∙_}
+use mathlib.Core.Bool.{true}
+use mathlib.Core.List.{List, [], _∷_}
+use Prim.Native.Nat.{ℕ, zero, suc, _+_, _≤_, _<_}
+use native.Mathlib.Omega.{arith}
+use lib.ListN.{length}
+use borrow.Author.Tests.{lt-ltb, le-ltb, le-leb, eq-eqb}
+use Rattle.laws.specs.Every.{Every}
+use Rattle.refusal.specs.declared.Refusal.{Refusal}
+use Rattle.refusal.specs.Number.{number}
+use Rattle.refusal.proofs.Numbers.{numbered, first-found}
+use Rattle.graph.specs.Graph.{objects as graph-objects}
+use Rattle.graph.specs.Limits.{most-objects, most-references, largest-size}
+use Rattle.catalogue.specs.declared.Answer.{Answer}
+use Rattle.catalogue.specs.declared.Answer.the-variants.{Read, Refused}
+use Rattle.catalogue.specs.Store.{Store, InRange, objects, references, offsetsOf, targetsOf}
+use Rattle.catalogue.specs.Reading.{Reading, accepted, judged, reading, catalogueFault, storeOf}
+use Rattle.catalogue.specs.ReadGraph.{ReadGraph, readGraph}
+use Rattle.catalogue.specs.Answer.{Row, row, refusal-row, lent, taken, readRow, offsetsAfter, targetsAfter, sizesAfter, Reads}
+use Rattle.catalogue.proofs.Accepted.{whole-bytes, whole-range}
+use Rattle.catalogue.proofs.ReadGraph.{read-graph}
+use Rattle.sweep.specs.Sweep.{allFit}
+use Rattle.report.specs.Lines.{refusalLine}
+use Rattle.report.specs.Report.{contents, contentsOf, Contents, orderOf, scheduleOf, orderText, laterText}
+use Rattle.report.specs.Ready.{Lent, Passing, Orderly, Readable}
+use Rattle.report.proofs.Printed.{printed-refusal}
+
+every-fits : (l : List ℕ) → Every (λ (x : ℕ). x ≤ largest-size) l → allFit l ≡ true
+unfolding allFit
+every-fits [] h = refl
+every-fits (x ∷ l) h = rw (le-leb x largest-size (h .0)) (every-fits l (h .1))
+
+-- a store that was read passes
+passing : (b : List ℕ) → catalogueFault b ≡ 0 → Passing (contentsOf (storeOf b))
+unfolding reading
+passing b z =
+    let range : InRange (storeOf b) = whole-range b (whole-bytes b z) in
+    let g : ReadGraph (storeOf b) = read-graph b (storeOf b) (ap (λ (k : ℕ). judged k (storeOf b)) z) in
+    record {
+      counts =
+          rw (
+            le-ltb (length (offsetsOf (storeOf b))) 2 (omega arith),
+            le-ltb most-objects (graph-objects (readGraph (storeOf b))) (omega arith),
+            le-ltb most-references (length (targetsOf (storeOf b))) (omega arith),
+          );
+      formed = rw (g .passes);
+      start = rw (lt-ltb (storeOf b .index) (graph-objects (readGraph (storeOf b))) (omega arith));
+      objects-are = g .n-is;
+      some = range .some;
+      sizes-fit = every-fits (storeOf b .sizes) (range .sizes-small);
+    }
+
+-- rows of a reading
+row-refused : (k f : ℕ) (s : Store) → 0 < k → refusal-row k ≡ readRow (judged f s) → k ≡ f
+row-refused k zero s h e = let z = ap (λ (r : Row). r .refusal) e in absurd (omega arith)
+row-refused k (suc f) s h e = ap (λ (r : Row). r .refusal) e
+
+row-read : {n m i : ℕ} (f : ℕ) (s : Store) → row (Read n m i) ≡ readRow (judged f s) → (f ≡ 0) × (i ≡ s .index)
+row-read zero s e = (refl, ap (λ (x : Row). x .index) e)
+row-read (suc f) s e = let q = ap (λ (x : Row). x .refusal) e in absurd (omega arith)
+
+module _ {b order o t s : List ℕ} {l : Lent} (ready : Readable b order o t s l) where
+  taken-by : (k : ℕ) → lent (judged k (storeOf b)) (length o) (length t) (length s) ≡ judged k (storeOf b)
+  taken-by zero =
+      rw (
+        eq-eqb (length o) (objects (storeOf b) + 1) (ready .all-offsets),
+        eq-eqb (length t) (references (storeOf b)) (ready .all-targets),
+        eq-eqb (length s) (objects (storeOf b)) (ready .all-sizes),
+      )
+  taken-by (suc k) = refl
+
+  -- no other fault than the catalogue's own
+  taken-is : taken b o t s ≡ judged (catalogueFault b) (storeOf b)
+  unfolding reading
+  taken-is = taken-by (catalogueFault b)
+
+  module _ {a : Answer} {o′ t′ s′ : List ℕ} (d : Reads b o t s (row a) o′ t′ s′) where
+    pub due-catalogue : {v : ℕ} {r : Refusal} → a ≡ Refused r → v ≡ row a .refusal → refusalLine v ≡ laterText b order
+    due-catalogue {r = r} e h =
+        let f = row-refused (number r) _ (storeOf b) (numbered r) (ap row (sym e) ∙ d .returned ∙ ap readRow taken-is) in
+        printed-refusal (contentsOf (storeOf b)) (orderOf order) (scheduleOf order) r
+        (h ∙ ap (λ (x : Answer). row x .refusal) e)
+        (first-found r (catalogueFault b) _ f)
+
+    module _ {n m i : ℕ} (e : a ≡ Read n m i) where
+      clean : (catalogueFault b ≡ 0) × (i ≡ storeOf b .index)
+      clean = row-read (catalogueFault b) (storeOf b) (ap row (sym e) ∙ d .returned ∙ ap readRow taken-is)
+
+      whole : taken b o t s ≡ accepted (storeOf b)
+      whole = taken-is ∙ ap (λ (k : ℕ). judged k (storeOf b)) (clean .0)
+
+      same : contents o′ t′ s′ i ≡ contentsOf (storeOf b)
+      same =
+          let eo = d .offsets-are ∙ ap (λ (x : Reading). offsetsAfter x o) whole in
+          let et = d .targets-are ∙ ap (λ (x : Reading). targetsAfter x t) whole in
+          let es = d .sizes-are ∙ ap (λ (x : Reading). sizesAfter x s) whole in
+          rw (eo, et, es, clean .1)
+
+      pub due-read : orderText (contents o′ t′ s′ i) order ≡ laterText b order
+      due-read = ap (λ (x : Contents). orderText x order) same ∙ rw (clean .0)
+
+      pub orderly : Orderly (contents o′ t′ s′ i) order l
+      orderly =
+          let n : length s′ ≡ length s = ap (λ (x : Contents). length (x .sizes)) same ∙ sym (ready .all-sizes) in
+          let f = ready .fitting in
+          record {
+            passing = subst Passing (sym same) (passing b (clean .0));
+            fitting = record { few = omega arith; all-marks = omega arith; all-list = omega arith; room = f .room };
+            whole-order = ready .whole-order;
+            much-work = ready .much-work;
+          }

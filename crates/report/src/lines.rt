@@ -1,0 +1,72 @@
+// The lines that the program prints. Each function writes behind the first `at` bytes and returns
+// how many bytes there are then.
+use machine::Counts;
+ghost use Prim.Native.Nat.{_+_, _≤_};
+ghost use lib.ListN.{length};
+ghost use Rattle.text.specs.Text.{PutIn};
+ghost use Rattle.report.specs.Limits.{counts-room, dead-room};
+ghost use Rattle.report.specs.Lines.{refusalLine, stateLine, countLines, deadLine, deadLines, freedLine};
+ghost use Rattle.report.specs.Ready.{Below};
+
+// The line of a refusal.
+pub fn put_refusal(out: &mut [u8], at: usize, number: u8) -> usize
+    requires { ⌜ at + 29 ≤ length (now out) ⌝ }
+    ensures { λ r. ⌜ PutIn 29 (now (out .entry)) at (refusalLine number) (now (out .exit)) r ⌝ }
+{
+    text::put_line(out, at, b"refusal", number as u64)
+}
+
+// Whether the collection has finished.
+fn put_state(out: &mut [u8], at: usize, finished: bool) -> usize
+    requires { ⌜ at + 11 ≤ length (now out) ⌝ }
+    ensures { λ r. ⌜ PutIn 11 (now (out .entry)) at (stateLine finished) (now (out .exit)) r ⌝ }
+{
+    if finished {
+        return text::put(out, at, b"finished\n");
+    }
+    text::put(out, at, b"unfinished\n")
+}
+
+// The lines of every collection.
+pub fn put_counts(out: &mut [u8], at: usize, finished: bool, counts: Counts) -> usize
+    requires { ⌜ at + counts-room ≤ length (now out) ⌝ }
+    ensures { λ r. ⌜ PutIn counts-room (now (out .entry)) at (countLines finished counts) (now (out .exit)) r ⌝ }
+{
+    let mut end = put_state(out, at, finished);
+    end = text::put_line(out, end, b"live", counts.live);
+    end = text::put_line(out, end, b"followed", counts.followed);
+    end = text::put_line(out, end, b"handed", counts.handed);
+    end = text::put_line(out, end, b"refused", counts.refused);
+    text::put_line(out, end, b"moved", counts.moved)
+}
+
+// One dead line.
+fn put_dead(out: &mut [u8], at: usize, object: u32, size: u64) -> usize
+    requires { ⌜ at + 47 ≤ length (now out) ⌝ }
+    ensures { λ r. ⌜ PutIn 47 (now (out .entry)) at (deadLine object size) (now (out .exit)) r ⌝ }
+{
+    text::put_line_of_two(out, at, b"dead", object as u64, size)
+}
+
+// A line for each dead object of the list.
+pub fn put_dead_list(out: &mut [u8], at: usize, list: &[u32], sizes: &[u64]) -> usize
+    requires { ⌜ at + dead-room (length (now list)) ≤ length (now out) ⌝ }
+    requires { ⌜ Below (now list) (length (now sizes)) ⌝ }
+    ensures { λ r. ⌜ PutIn (dead-room (length (now (list .entry)))) (now (out .entry)) at
+        (deadLines (now (sizes .entry)) (now (list .entry))) (now (out .exit)) r ⌝ }
+{
+    let mut end = at;
+    for i in 0..list.len() {
+        let object = list[i];
+        end = put_dead(out, end, object, sizes[object as usize]);
+    }
+    end
+}
+
+// The last line: the sum of the dead objects' sizes.
+pub fn put_freed(out: &mut [u8], at: usize, freed: u64) -> usize
+    requires { ⌜ at + 27 ≤ length (now out) ⌝ }
+    ensures { λ r. ⌜ PutIn 27 (now (out .entry)) at (freedLine freed) (now (out .exit)) r ⌝ }
+{
+    text::put_line(out, at, b"freed", freed)
+}
