@@ -6,12 +6,14 @@ import subprocess
 import sys
 import tempfile
 import unittest
+from pathlib import Path
 
-TOP = os.path.dirname(os.path.dirname(os.path.dirname(os.path.abspath(__file__))))
-sys.path.insert(0, os.path.join(TOP, "tools"))
+TOP = Path(__file__).resolve().parents[2]
+sys.path.insert(0, str(TOP / "tools"))
 import case  # noqa: E402
 
-PROGRAM = os.path.join(TOP, "target", "bin", "collect")
+PROGRAM = TOP / "target" / "bin" / "collect"
+FILES = ("store.cat", "order.run")
 NOBODY = 65534
 
 
@@ -22,13 +24,15 @@ def as_nobody():
         os.setuid(NOBODY)
 
 
-class Program(unittest.TestCase):
+class Folder(unittest.TestCase):
+    """A folder with the program and the two files of the sample, store S and case A."""
+
     def setUp(self):
-        self.folder = tempfile.mkdtemp()
-        os.chmod(self.folder, 0o755)
-        self.program = os.path.join(self.folder, "collect")
+        self.folder = Path(tempfile.mkdtemp())
+        self.folder.chmod(0o755)
+        self.program = self.folder / "collect"
         shutil.copy(PROGRAM, self.program)
-        sample = case.parse(case.load(os.path.join(TOP, "samples", "a.txt")).decode())
+        sample = case.load_text(TOP / "samples" / "a.txt")
         self.store, self.order = case.store_bytes(sample), case.order_bytes(sample)
         self.write("store.cat", self.store)
         self.write("order.run", self.order)
@@ -36,12 +40,9 @@ class Program(unittest.TestCase):
     def tearDown(self):
         shutil.rmtree(self.folder)
 
-    def path(self, name):
-        return os.path.join(self.folder, name)
-
     def write(self, name, data):
-        case.save(self.path(name), data)
-        os.chmod(self.path(name), 0o644)
+        (self.folder / name).write_bytes(data)
+        (self.folder / name).chmod(0o644)
 
     def run_program(self):
         done = subprocess.run([self.program], cwd=self.folder, capture_output=True, preexec_fn=as_nobody, timeout=60)
@@ -49,37 +50,38 @@ class Program(unittest.TestCase):
         self.assertEqual(done.stderr, b"")
         return done.stdout.decode()
 
+
+class Program(Folder):
     def test_case_a(self):
-        before = sorted(os.listdir(self.folder))
+        before = sorted(self.folder.iterdir())
         self.assertEqual(
             self.run_program(),
             "finished\nlive 4\nfollowed 5\nhanded 1\nrefused 0\nmoved 18\ndead 4 500\ndead 5 600\nfreed 1100\n",
         )
-        self.assertEqual(sorted(os.listdir(self.folder)), before)
-        self.assertEqual(case.load(self.path("store.cat")), self.store)
-        self.assertEqual(case.load(self.path("order.run")), self.order)
+        self.assertEqual(sorted(self.folder.iterdir()), before)
+        self.assertEqual([(self.folder / name).read_bytes() for name in FILES], [self.store, self.order])
 
     def test_missing(self):
-        for name in ("store.cat", "order.run"):
-            data = case.load(self.path(name))
-            os.remove(self.path(name))
+        for name in FILES:
+            data = (self.folder / name).read_bytes()
+            (self.folder / name).unlink()
             self.assertEqual(self.run_program(), "refusal 12\n")
             self.write(name, data)
 
     def test_folder(self):
-        for name in ("store.cat", "order.run"):
-            data = case.load(self.path(name))
-            os.remove(self.path(name))
-            os.mkdir(self.path(name))
+        for name in FILES:
+            data = (self.folder / name).read_bytes()
+            (self.folder / name).unlink()
+            (self.folder / name).mkdir()
             self.assertEqual(self.run_program(), "refusal 12\n")
-            os.rmdir(self.path(name))
+            (self.folder / name).rmdir()
             self.write(name, data)
 
     def test_no_permission(self):
-        for name in ("store.cat", "order.run"):
-            os.chmod(self.path(name), 0)
+        for name in FILES:
+            (self.folder / name).chmod(0)
             self.assertEqual(self.run_program(), "refusal 12\n")
-            os.chmod(self.path(name), 0o644)
+            (self.folder / name).chmod(0o644)
 
     def test_limits(self):
         self.write("store.cat", self.store + bytes(60016 - len(self.store)))
@@ -97,8 +99,7 @@ class Program(unittest.TestCase):
         self.assertEqual(self.run_program(), "unfinished\nlive 1\nfollowed 0\nhanded 0\nrefused 0\nmoved 0\n")
 
     def test_huge_file_is_not_read(self):
-        with open(self.path("store.cat"), "r+b") as file:
-            file.truncate(1 << 40)
+        os.truncate(self.folder / "store.cat", 1 << 40)
         self.assertEqual(self.run_program(), "refusal 11\n")
 
 

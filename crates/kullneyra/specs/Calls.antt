@@ -1,0 +1,90 @@
+-- The calls as numbers and slices: the number that a call answers, and its result words. Nothing is decided here but
+-- the length of the result words, which is looked at first.
+use mathlib.Core.Path.{_≡_}
+use Prim.Native.Nat.{ℕ, zero, suc}
+use mathlib.Core.Bool.{Bool, true, false}
+use mathlib.Core.List.{List, [], _∷_}
+use lib.ListN.{length}
+use lib.Dec.{eqb}
+use Rattle.laws.specs.Choice.{pick}
+use Rattle.graph.specs.Graph.{graph, partStart, partLength}
+use Rattle.catalogue.specs.Answer.{Row, headerRow, taken, readRow, offsetsAfter, targetsAfter, sizesAfter}
+use Rattle.catalogue.specs.Reading.{Reading, refused}
+use Rattle.machine.specs.declared.Counts.{Counts}
+use Rattle.machine.specs.Row.{Row as MarkRow}
+use Rattle.machine.specs.Call.{Call, marking, marksAfter, workAfter}
+use Rattle.sweep.specs.Sweep.{sweeping, listAfter}
+
+-- 7 where the result words are not as many as the call has results, else what the call answers
+abbrev pub answerIn : ℕ → List ℕ → ℕ → ℕ
+answerIn k result number = pick (eqb (length result) k) number 7
+
+-- the result words afterwards: the results where the number is 0, else unchanged
+abbrev pub wordsFor : ℕ → List ℕ → List ℕ → List ℕ
+wordsFor zero results before = results
+wordsFor (suc k) results before = before
+
+-- ---- header: n, m, index
+
+abbrev pub headerAnswer : List ℕ → List ℕ → ℕ
+headerAnswer bytes result = answerIn 3 result (headerRow bytes .refusal)
+
+abbrev pub headerWords : Row → List ℕ
+headerWords r = r .n ∷ r .m ∷ r .index ∷ []
+
+-- ---- read: n, m, index
+
+-- what the reader makes of the bytes; no reading where the result words are too few or too many
+abbrev pub readIn : List ℕ → List ℕ → List ℕ → List ℕ → List ℕ → Reading
+readIn bytes offsets targets sizes result = pick (eqb (length result) 3) (taken bytes offsets targets sizes) (refused 7)
+
+-- the number answered and every lent word afterwards, by that reading
+pub record ReadsIn (bytes offsets targets sizes result offsets′ targets′ sizes′ result′ : List ℕ) (answer : ℕ) : Type 0 where
+  pub answers : answer ≡ readRow (readIn bytes offsets targets sizes result) .refusal
+  pub fills-offsets : offsets′ ≡ offsetsAfter (readIn bytes offsets targets sizes result) offsets
+  pub fills-targets : targets′ ≡ targetsAfter (readIn bytes offsets targets sizes result) targets
+  pub fills-sizes : sizes′ ≡ sizesAfter (readIn bytes offsets targets sizes result) sizes
+  pub fills-result :
+      result′
+      ≡ wordsFor (readRow (readIn bytes offsets targets sizes result) .refusal)
+      (headerWords (readRow (readIn bytes offsets targets sizes result)))
+      result
+
+-- ---- references: start, length
+
+abbrev pub partAnswer : List ℕ → ℕ
+partAnswer result = answerIn 2 result 0
+
+abbrev pub partWords : List ℕ → List ℕ → ℕ → List ℕ
+partWords offsets targets v = partStart (graph offsets targets) v ∷ partLength (graph offsets targets) v ∷ []
+
+-- ---- sweep: count, freed
+
+abbrev pub sweepAnswer : List ℕ → List ℕ → List ℕ → List ℕ → ℕ
+sweepAnswer marks sizes list result = answerIn 2 result (sweeping marks sizes list .number)
+
+abbrev pub sweepWords : List ℕ → List ℕ → List ℕ → List ℕ
+sweepWords marks sizes list = sweeping marks sizes list .count ∷ sweeping marks sizes list .freed ∷ []
+
+-- the list afterwards
+abbrev pub sweepList : List ℕ → List ℕ → List ℕ → List ℕ → List ℕ
+sweepList marks sizes list result = pick (eqb (length result) 2) (listAfter marks sizes list) list
+
+-- ---- mark: finished (1 or 0), live, followed, handed, refused, moved
+
+abbrev pub flag : Bool → ℕ
+flag true = 1
+flag false = 0
+
+abbrev pub countWords : ℕ → Counts → List ℕ
+countWords f c = f ∷ c .live ∷ c .followed ∷ c .handed ∷ c .refused ∷ c .moved ∷ []
+
+abbrev pub markWords : MarkRow → List ℕ
+markWords r = countWords (flag (r .finished)) (r .counts)
+
+-- the number answered and every lent byte and word afterwards
+pub record MarksIn (c : Call) (marks work result marks′ work′ result′ : List ℕ) (answer : ℕ) : Type 0 where
+  pub answers : answer ≡ answerIn 6 result (marking c marks work .number)
+  pub fills-marks : marks′ ≡ pick (eqb (length result) 6) (marksAfter c marks work) marks
+  pub fills-work : work′ ≡ pick (eqb (length result) 6) (workAfter c marks work) work
+  pub fills-result : result′ ≡ wordsFor (answerIn 6 result (marking c marks work .number)) (markWords (marking c marks work)) result

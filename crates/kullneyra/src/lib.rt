@@ -1,0 +1,167 @@
+// The calls of the library as C functions. Each answers a number, 0 for no fault, and writes its
+// results to lent words; runtime/include/kullneyra.h says which word is which.
+use catalogue::Answer;
+use machine::Counts;
+use marker::Marked;
+use sweep::Swept;
+ghost use mathlib.Core.Path.{_≡_};
+ghost use lib.ListN.{length};
+ghost use Rattle.catalogue.specs.Answer.{row, headerRow};
+ghost use Rattle.marker.specs.Answer.{callOf, row as markRow};
+ghost use Rattle.kullneyra.specs.Calls.{ReadsIn, headerAnswer, headerWords, wordsFor, partAnswer, partWords, sweepAnswer, sweepWords, sweepList, countWords, markWords, MarksIn};
+
+// An answer of the catalogue: its number, and n, m and the index in the result words.
+fn give(answer: Answer, result: &mut [u32]) -> u32
+    requires { ⌜ length (now result) ≡ 3 ⌝ }
+    ensures { λ r. ⌜ r ≡ row answer .refusal ⌝ }
+    ensures { λ r. ⌜ now (result .exit) ≡ wordsFor (row answer .refusal) (headerWords (row answer)) (now (result .entry)) ⌝ }
+{
+    match answer {
+        Answer::Read { n, m, index } => {
+            result[0] = n;
+            result[1] = m;
+            result[2] = index;
+            0
+        }
+        Answer::Refused(refusal) => refusal::number_of(refusal) as u32,
+    }
+}
+
+// The header call; result words: n, m, index.
+#[no_mangle]
+pub extern "C" fn kullneyra_header(bytes: &[u8], result: &mut [u32]) -> u32
+    ensures { λ r. ⌜ r ≡ headerAnswer (now (bytes .entry)) (now (result .entry)) ⌝ }
+    ensures { λ r. ⌜ now (result .exit) ≡ wordsFor (headerAnswer (now (bytes .entry)) (now (result .entry))) (headerWords (headerRow (now (bytes .entry)))) (now (result .entry)) ⌝ }
+{
+    if result.len() != 3 {
+        return 7;
+    }
+    give(catalogue::header(bytes), result)
+}
+
+// The reader; result words: n, m, index.
+#[no_mangle]
+pub extern "C" fn kullneyra_read(
+    bytes: &[u8],
+    offsets: &mut [u32],
+    targets: &mut [u32],
+    sizes: &mut [u64],
+    result: &mut [u32],
+) -> u32
+    ensures { λ r. ⌜ ReadsIn (now (bytes .entry)) (now (offsets .entry)) (now (targets .entry)) (now (sizes .entry)) (now (result .entry)) (now (offsets .exit)) (now (targets .exit)) (now (sizes .exit)) (now (result .exit)) r ⌝ }
+{
+    if result.len() != 3 {
+        return 7;
+    }
+    give(catalogue::read(bytes, offsets, targets, sizes), result)
+}
+
+// The view, as where the part starts and how long it is; result words: start, length.
+#[no_mangle]
+pub extern "C" fn kullneyra_references(
+    offsets: &[u32],
+    targets: &[u32],
+    object: u32,
+    result: &mut [u64],
+) -> u32
+    ensures { λ r. ⌜ r ≡ partAnswer (now (result .entry)) ⌝ }
+    ensures { λ r. ⌜ now (result .exit) ≡ wordsFor (partAnswer (now (result .entry))) (partWords (now (offsets .entry)) (now (targets .entry)) object) (now (result .entry)) ⌝ }
+{
+    if result.len() != 2 {
+        return 7;
+    }
+    let part = graph::part_of(offsets, targets.len(), object);
+    result[0] = part.start as u64;
+    result[1] = (part.end - part.start) as u64;
+    0
+}
+
+// The sweep; result words: count, freed.
+#[no_mangle]
+pub extern "C" fn kullneyra_sweep(
+    marks: &[u8],
+    sizes: &[u64],
+    list: &mut [u32],
+    result: &mut [u64],
+) -> u32
+    ensures { λ r. ⌜ r ≡ sweepAnswer (now (marks .entry)) (now (sizes .entry)) (now (list .entry)) (now (result .entry)) ⌝ }
+    ensures { λ r. ⌜ now (list .exit) ≡ sweepList (now (marks .entry)) (now (sizes .entry)) (now (list .entry)) (now (result .entry)) ⌝ }
+    ensures { λ r. ⌜ now (result .exit) ≡ wordsFor (sweepAnswer (now (marks .entry)) (now (sizes .entry)) (now (list .entry)) (now (result .entry))) (sweepWords (now (marks .entry)) (now (sizes .entry)) (now (list .entry))) (now (result .entry)) ⌝ }
+{
+    if result.len() != 2 {
+        return 7;
+    }
+    match sweep::sweep(marks, sizes, list) {
+        Swept::Dead { count, freed } => {
+            result[0] = count as u64;
+            result[1] = freed;
+            0
+        }
+        Swept::Refused(refusal) => refusal::number_of(refusal) as u32,
+    }
+}
+
+// The six result words of a marker's answer without a refusal.
+fn give_counts(finished: u64, counts: Counts, result: &mut [u64])
+    requires { ⌜ length (now result) ≡ 6 ⌝ }
+    ensures { λ _. ⌜ now (result .exit) ≡ countWords finished counts ⌝ }
+{
+    result[0] = finished;
+    result[1] = counts.live;
+    result[2] = counts.followed;
+    result[3] = counts.handed;
+    result[4] = counts.refused;
+    result[5] = counts.moved;
+}
+
+// An answer of the marker: its number, and its values in the result words.
+fn give_marked(answer: Marked, result: &mut [u64]) -> u32
+    requires { ⌜ length (now result) ≡ 6 ⌝ }
+    ensures { λ r. ⌜ r ≡ markRow answer .number ⌝ }
+    ensures { λ r. ⌜ now (result .exit) ≡ wordsFor (markRow answer .number) (markWords (markRow answer)) (now (result .entry)) ⌝ }
+{
+    match answer {
+        Marked::Finished(counts) => {
+            give_counts(1, counts, result);
+            0
+        }
+        Marked::Unfinished(counts) => {
+            give_counts(0, counts, result);
+            0
+        }
+        Marked::Refused(refusal) => refusal::number_of(refusal) as u32,
+    }
+}
+
+// The marker; result words: finished (1 or 0), live, followed, handed, refused, moved.
+#[no_mangle]
+pub extern "C" fn kullneyra_mark(
+    offsets: &[u32],
+    targets: &[u32],
+    index: u32,
+    workers: u32,
+    batch: u32,
+    cutoff: u32,
+    schedule: &[u8],
+    marks: &mut [u8],
+    work: &mut [u32],
+    result: &mut [u64],
+) -> u32
+    ensures { λ r. ⌜ MarksIn (callOf (now (offsets .entry)) (now (targets .entry)) index workers batch cutoff (now (schedule .entry))) (now (marks .entry)) (now (work .entry)) (now (result .entry)) (now (marks .exit)) (now (work .exit)) (now (result .exit)) r ⌝ }
+{
+    if result.len() != 6 {
+        return 7;
+    }
+    let answer = marker::mark(
+        offsets,
+        targets,
+        index,
+        workers,
+        batch,
+        cutoff,
+        schedule,
+        marks,
+        work,
+    );
+    give_marked(answer, result)
+}

@@ -1,0 +1,24 @@
+-- Ends: `k` goes up to `width`.
+use Prim.Native.Nat.{_≤_, _-_}
+use borrow.Author.Needs.{needs}
+use Rattle.vectors.proofs.lists.put_bytes.Statement.{statement}
+use Rattle.vectors.proofs.lists.put_bytes.Tie as tie
+
+abbrev Inv-loop : tie.InvT-loop
+Inv-loop cells₀ top value width used₀ left₀ k₀ cells used left k = 0 ≤ k
+
+abbrev μ-loop : tie.MeasureT-loop
+μ-loop cells₀ top value width used₀ left₀ k₀ cells used left k = width - k
+
+pub put-bytes-spec : {M : Type 1} → statement M
+put-bytes-spec =
+    tie.close
+    (tie.spec
+    Inv-loop
+    μ-loop
+    (λ c. search needs)
+    (λ c κs. search needs)
+    (λ c. search needs)
+    (λ c. search needs)
+    (λ c. search needs)
+    (λ c. search needs))

@@ -1,0 +1,181 @@
+// The calls on the lists of a line.
+ghost use Prim.Native.Nat.{_≤_};
+ghost use Rattle.io.specs.Counts.{Counts};
+use crate::scan;
+use crate::show;
+
+fn least(a: usize, b: usize) -> usize
+    ensures { λ r. ⌜ (r ≤ a) × (r ≤ b) ⌝ }
+{
+    if a < b { a } else { b }
+}
+
+// The cells of a list.
+fn part<'a>(cells: &'a [u64], places: &[usize; 512], list: u8) -> &'a [u64] {
+    let end = least(places[2 * list as usize + 1], cells.len());
+    let start = least(places[2 * list as usize], end);
+    &cells[start..end]
+}
+
+// Copies a list, as far as there is room; how many.
+fn copy_bytes(cells: &[u64], places: &[usize; 512], list: u8, to: &mut [u8]) -> usize
+    ensures { λ r. ⌜ Counts r (now (to .exit)) ⌝ }
+{
+    let from = part(cells, places, list);
+    let mut i: usize = 0;
+    while i < from.len() {
+        if to.len() <= i {
+            return i;
+        }
+        to[i] = (from[i] % 256) as u8;
+        i += 1;
+    }
+    i
+}
+
+fn copy_words(cells: &[u64], places: &[usize; 512], list: u8, to: &mut [u32]) -> usize
+    ensures { λ r. ⌜ Counts r (now (to .exit)) ⌝ }
+{
+    let from = part(cells, places, list);
+    let mut i: usize = 0;
+    while i < from.len() {
+        if to.len() <= i {
+            return i;
+        }
+        to[i] = (from[i] % 4294967296) as u32;
+        i += 1;
+    }
+    i
+}
+
+fn copy_longs(cells: &[u64], places: &[usize; 512], list: u8, to: &mut [u64]) -> usize
+    ensures { λ r. ⌜ Counts r (now (to .exit)) ⌝ }
+{
+    let from = part(cells, places, list);
+    let mut i: usize = 0;
+    while i < from.len() {
+        if to.len() <= i {
+            return i;
+        }
+        to[i] = from[i];
+        i += 1;
+    }
+    i
+}
+
+fn read(cells: &[u64], places: &[usize; 512]) {
+    let mut bytes = [0u8; 512];
+    let mut offsets = [0u32; 64];
+    let mut targets = [0u32; 64];
+    let mut sizes = [0u64; 64];
+    let b = copy_bytes(cells, places, 0, &mut bytes);
+    let o = copy_words(cells, places, 1, &mut offsets);
+    let t = copy_words(cells, places, 2, &mut targets);
+    let s = copy_longs(cells, places, 3, &mut sizes);
+    read_into(
+        &bytes[..b],
+        &mut offsets[..o],
+        &mut targets[..t],
+        &mut sizes[..s],
+    );
+}
+
+fn read_into(bytes: &[u8], offsets: &mut [u32], targets: &mut [u32], sizes: &mut [u64]) {
+    show::answer(catalogue::header(bytes));
+    io::write_all(1, b" |");
+    show::answer(catalogue::read(bytes, offsets, targets, sizes));
+    show::store(offsets, targets, sizes);
+}
+
+fn view(cells: &[u64], places: &[usize; 512]) {
+    let mut offsets = [0u32; 64];
+    let mut targets = [0u32; 64];
+    let mut object = [0u32; 1];
+    let o = copy_words(cells, places, 0, &mut offsets);
+    let t = copy_words(cells, places, 1, &mut targets);
+    copy_words(cells, places, 2, &mut object);
+    let references = graph::references_of(&offsets[..o], &targets[..t], object[0]);
+    show::words(references);
+}
+
+fn mark(cells: &[u64], places: &[usize; 512]) {
+    let mut offsets = [0u32; 64];
+    let mut targets = [0u32; 64];
+    let mut setting = [0u32; 4];
+    let o = copy_words(cells, places, 0, &mut offsets);
+    let t = copy_words(cells, places, 1, &mut targets);
+    copy_words(cells, places, 2, &mut setting);
+    mark_graph(&offsets[..o], &targets[..t], &setting, cells, places);
+}
+
+fn mark_graph(
+    offsets: &[u32],
+    targets: &[u32],
+    setting: &[u32; 4],
+    cells: &[u64],
+    places: &[usize; 512],
+) {
+    let mut schedule = [0u8; 512];
+    let mut marks = [0u8; 64];
+    let mut work = [0u32; 512];
+    let s = copy_bytes(cells, places, 3, &mut schedule);
+    let m = copy_bytes(cells, places, 4, &mut marks);
+    let w = copy_words(cells, places, 5, &mut work);
+    mark_into(
+        offsets,
+        targets,
+        setting,
+        &schedule[..s],
+        &mut marks[..m],
+        &mut work[..w],
+    );
+}
+
+fn mark_into(
+    offsets: &[u32],
+    targets: &[u32],
+    setting: &[u32; 4],
+    schedule: &[u8],
+    marks: &mut [u8],
+    work: &mut [u32],
+) {
+    let answer = marker::mark(
+        offsets,
+        targets,
+        setting[0],
+        setting[1],
+        setting[2],
+        setting[3],
+        schedule,
+        marks,
+        work,
+    );
+    show::marked(answer);
+    show::memory(marks, work);
+}
+
+fn sweep(cells: &[u64], places: &[usize; 512]) {
+    let mut marks = [0u8; 64];
+    let mut list = [0u32; 64];
+    let m = copy_bytes(cells, places, 0, &mut marks);
+    let l = copy_words(cells, places, 2, &mut list);
+    sweep_into(&marks[..m], part(cells, places, 1), &mut list[..l]);
+}
+
+fn sweep_into(marks: &[u8], sizes: &[u64], list: &mut [u32]) {
+    show::swept(sweep::sweep(marks, sizes, list));
+    show::words(list);
+}
+
+// The call of a kind, and the line that answers it.
+pub fn call(kind: u8, text: &[u8], cells: &[u64], places: &[usize; 512]) {
+    let rest = scan::behind(text, b':');
+    io::write_all(1, &text[0..rest]);
+    match kind {
+        b'r' => read(cells, places),
+        b'v' => view(cells, places),
+        b'm' => mark(cells, places),
+        _ => sweep(cells, places),
+    }
+    io::write_all(1, b"\n");
+}

@@ -1,0 +1,137 @@
+// What a call answers and leaves, as text.
+use catalogue::Answer;
+use machine::Counts;
+use marker::Marked;
+use refusal::Refusal;
+use sweep::Swept;
+
+fn number(n: u64) {
+    io::write_all(1, b" ");
+    io::print_decimal(1, n);
+}
+
+fn refused(r: Refusal) {
+    io::write_all(1, b" refusal ");
+    io::print_decimal(1, refusal::number_of(r) as u64);
+}
+
+pub fn answer(a: Answer) {
+    match a {
+        Answer::Read { n, m, index } => {
+            number(n as u64);
+            number(m as u64);
+            number(index as u64);
+        }
+        Answer::Refused(r) => refused(r),
+    }
+}
+
+fn numbers(t: Counts) {
+    number(t.live);
+    number(t.followed);
+    number(t.handed);
+    number(t.refused);
+    number(t.moved);
+}
+
+pub fn marked(m: Marked) {
+    match m {
+        Marked::Finished(t) => {
+            io::write_all(1, b" finished");
+            numbers(t);
+        }
+        Marked::Unfinished(t) => {
+            io::write_all(1, b" unfinished");
+            numbers(t);
+        }
+        Marked::Refused(r) => refused(r),
+    }
+}
+
+pub fn swept(s: Swept) {
+    match s {
+        Swept::Dead { count, freed } => {
+            io::write_all(1, b" dead");
+            number(count as u64);
+            number(freed);
+        }
+        Swept::Refused(r) => refused(r),
+    }
+}
+
+// A number that was shown so many times in a row.
+struct Run {
+    n: u64,
+    times: u64,
+}
+
+// Writes a run, and more than four times as one word.
+fn finish(run: Run) {
+    if 4 < run.times {
+        number(run.times);
+        io::write_all(1, b"*");
+        io::print_decimal(1, run.n);
+        return;
+    }
+    let mut k: u64 = 0;
+    while k < run.times {
+        number(run.n);
+        k += 1;
+    }
+}
+
+// The run after one more number.
+fn next(run: Run, n: u64) -> Run {
+    if run.n == n {
+        return Run {
+            n,
+            times: std::num::wrapping_add_u64(run.times, 1),
+        };
+    }
+    finish(run);
+    Run { n, times: 1 }
+}
+
+fn bytes(list: &[u8]) {
+    io::write_all(1, b" |");
+    let mut run = Run { n: 0, times: 0 };
+    let mut i: usize = 0;
+    while i < list.len() {
+        run = next(run, list[i] as u64);
+        i += 1;
+    }
+    finish(run);
+}
+
+pub fn words(list: &[u32]) {
+    io::write_all(1, b" |");
+    let mut run = Run { n: 0, times: 0 };
+    let mut i: usize = 0;
+    while i < list.len() {
+        run = next(run, list[i] as u64);
+        i += 1;
+    }
+    finish(run);
+}
+
+fn longs(list: &[u64]) {
+    io::write_all(1, b" |");
+    let mut run = Run { n: 0, times: 0 };
+    let mut i: usize = 0;
+    while i < list.len() {
+        run = next(run, list[i]);
+        i += 1;
+    }
+    finish(run);
+}
+
+pub fn store(offsets: &[u32], targets: &[u32], sizes: &[u64]) {
+    words(offsets);
+    words(targets);
+    longs(sizes);
+}
+
+pub fn memory(marks: &[u8], work: &[u32]) {
+    bytes(marks);
+    words(work);
+}

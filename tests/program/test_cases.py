@@ -1,0 +1,241 @@
+"""The program on many pairs of files: what it prints, which number it refuses with, and which fault it tells first."""
+
+import struct
+
+import test_program
+from test_program import TOP, case
+
+SAMPLE = case.load_text(TOP / "samples" / "a.txt")
+LARGEST = 1 << 40
+
+
+def store(sizes, references=(), index=0):
+    return case.store_bytes(case.Case(index=index, sizes=list(sizes), references=list(references)))
+
+
+def order(workers, batch, cutoff, turns=()):
+    return case.order_bytes(case.Case(settings=dict(zip(case.SETTINGS, (workers, batch, cutoff))), turns=list(turns)))
+
+
+def asking_0(*workers):
+    """A turn of each of these workers, which all name worker 0."""
+    return [(worker, 0) for worker in workers]
+
+
+S = case.store_bytes(SAMPLE)
+ONE = store([5])
+NO_TURNS = order(1, 1, 1)
+A = asking_0(0, 1, 0, 0, 0, 1, 1, 0, 1, 0, 0, 0, 1, 0, 1, 1, 0, 1)
+LONE = order(1, 2, 1, asking_0(*[0] * 12))
+SHARED = asking_0(0, 1, 0, 0, 0, 0, 0, 0, 1, 0, 0)
+LONG_STORE, LONG_ORDER = bytes(60017), bytes(65537)
+
+
+def written(at, form, *values, length=160):
+    """Store S with numbers written at a place, cut or filled up with zeros to a length."""
+    data = bytearray(S + bytes(16))
+    struct.pack_into("<" + form, data, at, *values)
+    return bytes(data[:length])
+
+
+def first(length):
+    return written(0, "", length=length)
+
+
+def header(n, m, index):
+    return case.record(case.HEADER, struct.pack("<III", n, m, index))
+
+
+def told(state, *counts, dead=()):
+    """What the program prints for a collection; `dead` are pairs of number and size."""
+    names = ("live", "followed", "handed", "refused", "moved")
+    lines = [state, *(f"{name} {count}" for name, count in zip(names, counts))]
+    if state == "finished":
+        lines += [f"dead {number} {size}" for number, size in dead]
+        lines.append(f"freed {sum(size for _, size in dead)}")
+    return "\n".join(lines) + "\n"
+
+
+UNTOUCHED = told("unfinished", 1, 0, 0, 0, 0)
+
+DRAWINGS = [
+    ("A", S, order(2, 1, 1, A), told("finished", 4, 5, 1, 0, 18, dead=[(4, 500), (5, 600)])),
+    ("B", S, order(2, 1, 1, A[:5]), told("unfinished", 2, 1, 1, 0, 5)),
+    ("C", S, order(2, 1, 2, A[:5]), told("unfinished", 2, 1, 0, 1, 5)),
+    ("D", S, LONE, told("finished", 4, 5, 0, 0, 12, dead=[(4, 500), (5, 600)])),
+    ("E", S, LONE[:-2], told("unfinished", 4, 5, 0, 0, 11)),
+    ("F", ONE, NO_TURNS, UNTOUCHED),
+    ("G", ONE, order(1, 1, 1, asking_0(0)), told("finished", 1, 0, 0, 0, 1)),
+    ("H", ONE, order(2, 1, 1, asking_0(0, 0)), told("unfinished", 1, 0, 0, 0, 1)),
+    ("I", store([5], [(0, 0)]), order(1, 1, 1, asking_0(0, 0, 0)), told("finished", 1, 1, 0, 0, 3)),
+    ("J", store([5, 6], [(0, 1)] * 2), order(1, 2, 1, asking_0(*[0] * 5)), told("finished", 2, 2, 0, 0, 5)),
+    ("K", b"", NO_TURNS, 1),
+    ("L", S, order(2, 1, 1, asking_0(2)), 9),
+]
+
+SETTINGS = [
+    ("W 0", S, order(0, 1, 1), 8),
+    ("W 1", S, order(1, 1, 1), UNTOUCHED),
+    ("W 4", S, order(4, 1, 1, asking_0(3)), told("unfinished", 1, 0, 0, 0, 1)),
+    ("W 5", S, order(5, 1, 1), 11),
+    ("W 16", S, order(16, 1, 1), 11),
+    ("W 17", S, order(17, 1, 1), 8),
+    ("D 0", S, order(1, 0, 1), 8),
+    ("K 0", S, order(1, 1, 0), 8),
+    ("D 65535", S, order(2, 65535, 1, SHARED), told("unfinished", 4, 3, 1, 0, 11)),
+    ("K 65535", S, order(2, 1, 65535, SHARED), told("unfinished", 4, 3, 0, 1, 11)),
+    ("half an entry", S, order(1, 1, 1, asking_0(0)) + b"\0", 9),
+    ("an entry for worker 1 of 1", S, order(1, 1, 1, asking_0(1)), 9),
+    ("an entry for worker 4 of 4, the last one", S, order(4, 1, 1, asking_0(3, 4)), 9),
+    ("workers 255 and 2 asked", S, order(2, 1, 1, [(1, 255), (1, 2)]), UNTOUCHED),
+]
+
+FILES = [
+    ("order.run of 4 bytes", S, NO_TURNS[:4], 12),
+    ("order.run of 5 bytes", S, NO_TURNS, UNTOUCHED),
+    ("order.run empty", S, b"", 12),
+    ("store.cat unreadable", None, NO_TURNS, 12),
+    ("order.run unreadable", S, None, 12),
+    ("store.cat too long", LONG_STORE, NO_TURNS, 11),
+    ("order.run too long", S, LONG_ORDER, 11),
+]
+
+DAMAGED = [
+    ("store.cat of 3 bytes", first(3), 1),
+    ("header cut", first(15), 1),
+    ("header alone", first(16), 1),
+    ("last reference missing", first(148), 1),
+    ("last reference cut", first(159), 1),
+    ("1 byte more", first(161), 1),
+    ("3 bytes more", first(163), 1),
+    ("length past the end", written(148, "H", 13), 1),
+    ("header of kind 0", written(2, "H", 0), 2),
+    ("header of kind 4", written(2, "H", 4), 2),
+    ("header of length 15", written(0, "H", 15), 2),
+    ("object of length 11", written(16, "H", 11), 2),
+    ("reference of kind 4", written(90, "H", 4), 2),
+    ("object first", written(0, "HH", 12, 2), 3),
+    ("reference where an object is due", written(18, "H", 3), 3),
+    ("object where a reference is due", written(90, "H", 2), 3),
+    ("a reference too many", written(160, "HH", 12, 3, length=172), 3),
+    ("a second header", written(160, "HH", 16, 1, length=176), 3),
+    ("index 5", written(12, "I", 5), UNTOUCHED),
+    ("index 6", written(12, "I", 6), 5),
+    ("from 6", written(92, "I", 6), 5),
+    ("to 6", written(156, "I", 6), 5),
+    ("object 5 one larger", written(80, "Q", LARGEST + 1), 6),
+    ("n 0", written(4, "I", 0), 4),
+    ("n 65536", written(4, "I", 65536), 11),
+    ("n 65537", written(4, "I", 65537), 4),
+    ("m 1048576", written(8, "I", 1048576), 11),
+    ("m 1048577", written(8, "I", 1048577), 4),
+    # The rest does not fit the header, so that 3 and 1 say that n and m were taken.
+    ("n 1000 in store S", written(4, "I", 1000), 3),
+    ("n 1001 in store S", written(4, "I", 1001), 11),
+    ("m 4000 in store S", written(8, "I", 4000), 1),
+    ("m 4001 in store S", written(8, "I", 4001), 11),
+]
+
+SEVERAL = [
+    ("store.cat unreadable, order.run too long", None, LONG_ORDER, 12),
+    ("store.cat too long, order.run unreadable", LONG_STORE, None, 12),
+    ("store.cat too long, order.run of 4 bytes", LONG_STORE, bytes(4), 12),
+    ("store.cat too long and damaged, W 0", LONG_STORE, order(0, 0, 0), 11),
+    ("order.run too long, store.cat empty", b"", LONG_ORDER, 11),
+    ("n 0, m 4001", header(0, 4001, 0), NO_TURNS, 4),
+    ("n 1001, index 1001", header(1001, 0, 1001), NO_TURNS, 5),
+    ("n 1001, objects missing", header(1001, 0, 0), NO_TURNS, 11),
+    ("m 4001, references missing", header(1, 4001, 0), NO_TURNS, 11),
+    ("n 1000, m 4000, W 0", header(1000, 4000, 0), order(0, 1, 1), 1),
+    ("n 1001, W 0", header(1001, 0, 0), order(0, 1, 1), 11),
+    ("store.cat empty, D 0", b"", order(1, 0, 1), 1),
+    ("store.cat empty, order.run of 4 bytes", b"", bytes(4), 12),
+    ("size too large, W 0", written(80, "Q", LARGEST + 1), order(0, 1, 1), 6),
+    ("stray bytes, W 5", first(163), order(5, 1, 1), 1),
+    ("to 6, half an entry", written(156, "I", 6), NO_TURNS + b"\0", 5),
+    ("W 5, D 0", S, order(5, 0, 1), 8),
+    ("W 17, half an entry", S, order(17, 1, 1) + b"\0", 8),
+    ("W 5, half an entry", S, order(5, 1, 1) + b"\0", 11),
+    ("W 5, an entry for worker 5", S, order(5, 1, 1, asking_0(5)), 11),
+    ("K 0, an entry for worker 1 of 1", S, order(1, 1, 0, asking_0(1)), 8),
+]
+
+
+def target(reference):
+    """No reference leads to object 99, 199 and so on."""
+    lap, source = divmod(reference, 1000)
+    place = (7 * source + 211 * lap + 1) % 990
+    return place + place // 99
+
+
+MOST = [LARGEST] * 1001
+SIZES = [1000 + 7 * v for v in range(1000)]
+FULL = store(SIZES, [(e % 1000, target(e)) for e in range(4000)])
+ROUNDS = order(4, 4, 2, [(i % 4, i // 4 % 4) for i in range(32766)])
+TO_ITSELF = order(1, 65535, 1, asking_0(*[0] * 4002))
+
+LARGE = [
+    (
+        "1000 objects",
+        store(MOST[:1000], index=999),
+        order(1, 1, 1, asking_0(0)),
+        told("finished", 1, 0, 0, 0, 1, dead=[(v, LARGEST) for v in range(999)]),
+    ),
+    ("1001 objects", store(MOST, index=999), order(1, 1, 1, asking_0(0)), 11),
+    ("4000 references", store([5], [(0, 0)] * 4000), TO_ITSELF, told("finished", 1, 4000, 0, 0, 4002)),
+    ("4001 references", store([5], [(0, 0)] * 4001), TO_ITSELF, 11),
+    (
+        "60016 and 65535 bytes",
+        FULL,
+        ROUNDS[:65535],
+        told("finished", 990, 3960, 10, 2, 5976, dead=[(v, SIZES[v]) for v in range(99, 1000, 100)]),
+    ),
+    ("60016 and 4005 bytes", FULL, ROUNDS[:4005], told("unfinished", 677, 1028, 3, 0, 1973)),
+    ("60017 and 65535 bytes", FULL + b"\0", ROUNDS[:65535], 11),
+    ("60016 and 65536 bytes", FULL, ROUNDS[:65536], 9),
+    ("60016 and 65537 bytes", FULL, ROUNDS, 11),
+    ("60017 and 4 bytes", FULL + b"\0", ROUNDS[:4], 12),
+    ("60016 bytes of a longer store.cat", FULL + bytes(60000), ROUNDS[:65535], 11),
+    ("65536 bytes of a longer order.run", FULL, ROUNDS + bytes(60000), 11),
+]
+
+
+class Cases(test_program.Folder):
+    def put(self, name, data):
+        (self.folder / name).unlink(missing_ok=True)
+        if data is not None:
+            self.write(name, data)
+
+    def check(self, cases):
+        for name, catalogue, run, expected in cases:
+            with self.subTest(name):
+                self.put("store.cat", catalogue)
+                self.put("order.run", run)
+                text = f"refusal {expected}\n" if isinstance(expected, int) else expected
+                self.assertEqual(self.run_program(), text)
+
+    def test_lengths(self):
+        self.assertEqual((len(S), len(FULL), len(ROUNDS)), (160, 60016, 65537))
+
+    def test_drawings(self):
+        self.check(DRAWINGS)
+
+    def test_settings(self):
+        self.check(SETTINGS)
+
+    def test_files(self):
+        self.check(FILES)
+
+    def test_damaged(self):
+        self.check([(name, catalogue, NO_TURNS, expected) for name, catalogue, expected in DAMAGED])
+
+    def test_largest_size(self):
+        dead = [(4, 500), (5, LARGEST)]
+        expected = told("finished", 4, 5, 0, 0, 12, dead=dead)
+        self.check([("object 5 of the largest size", written(80, "Q", LARGEST), LONE, expected)])
+
+    def test_first_of_several(self):
+        self.check(SEVERAL)
+
+    def test_large(self):
+        self.check(LARGE)
