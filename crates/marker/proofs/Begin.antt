@@ -55,7 +55,7 @@ module _ {offsets targets : List ℕ} {index : ℕ} {g : Setup} {marks regs : Li
   unmarked-index : getD (unmarked (graph offsets targets)) index 1 ≡ 0
   unmarked-index = getD-replicate (objects (graph offsets targets)) index 0 1 index-low
 
-  pub begin-marks : (ms : List ℕ) → ms ≡ replicate (length marks) 0 → set ms index 1 ≡ begin offsets targets index g .marks
+  begin-marks : (ms : List ℕ) → ms ≡ replicate (length marks) 0 → set ms index 1 ≡ begin offsets targets index g .marks
   unfolding start marksAt
   begin-marks ms e = ap (λ (l : List ℕ). set l index 1) (e ∙ ap (λ (k : ℕ). replicate {A = ℕ} k 0) (x .marks-long))
 
@@ -77,12 +77,13 @@ module _ {offsets targets : List ℕ} {index : ℕ} {g : Setup} {marks regs : Li
   some-workers = omega (arith, x .accepted .some-worker)
 
   -- every worker is idle
-  idle-holds : (s : State) → s .workers ≡ idle ∷ replicate (g .workers - 1) idle → s .counts ≡ freshCounts 1
+  idle-holds : (s : State) → {marks′ : List ℕ} → marks′ ≡ s .marks → s .workers ≡ idle ∷ replicate (g .workers - 1) idle → s .counts ≡ freshCounts 1
       → (work : List ℕ) → length work ≡ g .workers * g .stretch
-      → Holds (graph offsets targets) g s (memory work regs (progressWith (freshCounts 1) 0 (g .workers)))
+      → Holds (graph offsets targets) g s (memory marks′ work regs (progressWith (freshCounts 1) 0 (g .workers)))
   unfolding sum
-  idle-holds s ws co work long =
+  idle-holds s ma ws co work long =
       record {
+        marks-are = ma;
         counts-are = sym co;
         carrying-is = rw ws (omega (arith, sum-none carries? (g .workers - 1) idle refl));
         running-is = rw ws (omega (arith, idle-running (g .workers - 1), some-workers));
@@ -95,11 +96,12 @@ module _ {offsets targets : List ℕ} {index : ℕ} {g : Setup} {marks regs : Li
       }
 
   -- the index has no references
-  pub begin-none : getD offsets (index + 1) 0 ≤ getD offsets index 0 → (work : List ℕ) → length work ≡ g .workers * g .stretch
-      → Holds (graph offsets targets) g (begin offsets targets index g) (memory work regs (progressWith (freshCounts 1) 0 (g .workers)))
-  begin-none h =
+  pub begin-none : getD offsets (index + 1) 0 ≤ getD offsets index 0 → (ms : List ℕ) → ms ≡ replicate (length marks) 0
+      → (work : List ℕ) → length work ≡ g .workers * g .stretch
+      → Holds (graph offsets targets) g (begin offsets targets index g) (memory (set ms index 1) work regs (progressWith (freshCounts 1) 0 (g .workers)))
+  begin-none h ms e =
       let z : degree (graph offsets targets) index ≡ 0 = omega (arith, after-word) in
-      idle-holds (begin offsets targets index g)
+      idle-holds (begin offsets targets index g) (begin-marks ms e)
       (begin-workers [] (ap (λ (k : ℕ). runFrom (first (graph offsets targets) index) k) z)) begin-counts
 
   pub first-room : Room regs 0
@@ -141,12 +143,12 @@ module _ {offsets targets : List ℕ} {index : ℕ} {g : Setup} {marks regs : Li
         }
 
     pub begin-some : (regs′ : List ℕ) → regs′ ≡ storeAt regs 0 (firstBlock f e (getD targets f 0))
-        → (work : List ℕ) → length work ≡ g .workers * g .stretch
-        → Holds (graph offsets targets) g (begin offsets targets index g) (memory work regs′ (progressWith (freshCounts 1) 1 (g .workers)))
-    begin-some regs′ er work long =
+        → (ms : List ℕ) → ms ≡ replicate (length marks) 0 → (work : List ℕ) → length work ≡ g .workers * g .stretch
+        → Holds (graph offsets targets) g (begin offsets targets index g) (memory (set ms index 1) work regs′ (progressWith (freshCounts 1) 1 (g .workers)))
+    begin-some regs′ er ms em work long =
         let s₀ : State = record { marks = []; workers = idle ∷ replicate (g .workers - 1) idle; counts = freshCounts 1 } in
         let st : Stored regs 0 (firstBlock f e (getD targets f 0)) regs′ =
         rw er (store-stored regs 0 (first-room .long) (firstBlock f e (getD targets f 0))) in
-        hold-one (idle-holds s₀ refl refl work long) (ap suc (length-replicate (g .workers - 1) idle) ∙ some-workers) 0
+        hold-one (idle-holds s₀ refl refl refl work long) (ap suc (length-replicate (g .workers - 1) idle) ∙ some-workers) 0
         (omega (arith, x .accepted .some-worker)) refl w work st refl (all-same (g .workers) (g .stretch) 0 work) (first-is _)
-        refl refl {s′ = begin offsets targets index g} (begin-workers (run f (e - f - 1) ∷ []) first-runs) (sym begin-counts)
+        refl refl {s′ = begin offsets targets index g} (begin-workers (run f (e - f - 1) ∷ []) first-runs) (begin-marks ms em) (sym begin-counts)

@@ -22,7 +22,7 @@ use Rattle.machine.proofs.Ended.{ended-turns}
 use Rattle.turns.specs.declared.Setup.{Setup}
 use Rattle.turns.specs.Counting.{running?}
 use Rattle.turns.specs.Held.{Memory, settingOf, Holds}
-use Rattle.turns.specs.Turned.{Ready, Does, Marks, IsLent}
+use Rattle.turns.specs.Turned.{Ready, Does, IsLent}
 use Rattle.marker.specs.Stages.{IsBegun, scheduled}
 use Rattle.marker.proofs.Checks.{pair-is}
 
@@ -69,39 +69,37 @@ all-ended (busy c n p rs ∷ ws) = some-running (sum running? ws)
 
 -- ---- the loop
 
-module _ {g : Setup} {offsets targets schedule marks₀ : List ℕ} {μ₀ : Memory} where
+module _ {g : Setup} {offsets targets schedule : List ℕ} {μ₀ : Memory} where
   -- what is held before the entry at i
-  pub record LoopAt (x : Ready (IsBegun g offsets targets schedule marks₀) g μ₀) (i : ℕ) (marks : List ℕ) (μ : Memory) : Type 0 where
+  pub record LoopAt (x : Ready (IsBegun g offsets targets schedule) g μ₀) (i : ℕ) (μ : Memory) : Type 0 where
     pub state : State
     pub sound : Sound (x .graph) (x .scene .starts) (g .workers) (settingOf g) state
     pub holds : Holds (x .graph) g state μ
-    pub marks-are : marks ≡ state .marks
     pub fits : scheduleFits (g .workers) (drop i schedule) ≡ true
     pub left : turns (x .graph) (settingOf g) state (entries (drop i schedule)) ≡ scheduled g schedule (x .graph) (x .state)
     pub handed : state .counts .handed ≤ i
     pub moved : state .counts .moved ≤ i
 
-  module _ (x : Ready (IsBegun g offsets targets schedule marks₀) g μ₀) where
-    pub at-start : LoopAt x 0 marks₀ μ₀
+  module _ (x : Ready (IsBegun g offsets targets schedule) g μ₀) where
+    pub at-start : LoopAt x 0 μ₀
     at-start =
         record {
           state = x .state;
           sound = x .scene .sound;
           holds = x .holds;
-          marks-are = x .here .marks-are;
           fits = x .here .fits;
           left = refl;
           handed = omega (arith, x .here .none-handed);
           moved = omega (arith, x .here .none-moved);
         }
 
-    module _ {i : ℕ} {marks : List ℕ} {μ : Memory} (r : LoopAt x i marks μ) where
+    module _ {i : ℕ} {μ : Memory} (r : LoopAt x i μ) where
       -- no entry is left, or nobody is running: the state is the answer
       abbrev Done : Type 0
-      Done = Holds (x .graph) g (scheduled g schedule (x .graph) (x .state)) μ × (marks ≡ scheduled g schedule (x .graph) (x .state) .marks)
+      Done = Holds (x .graph) g (scheduled g schedule (x .graph) (x .state)) μ
 
       done-by : r .state ≡ scheduled g schedule (x .graph) (x .state) → Done
-      done-by e = (subst (λ (t : State). Holds (x .graph) g t μ) e (r .holds), r .marks-are ∙ ap (λ (t : State). t .marks) e)
+      done-by e = subst (λ (t : State). Holds (x .graph) g t μ) e (r .holds)
 
       pub at-end : length schedule ≤ i → Done
       unfolding turns entries
@@ -121,7 +119,7 @@ module _ {g : Setup} {offsets targets schedule marks₀ : List ℕ} {μ₀ : Mem
 
       -- a turn
       module _ (h : i < length schedule) (long : length schedule < 2 ^ 64) where
-        pub at-turn : Ready (IsLent g offsets targets marks (getD schedule i 0)) g μ
+        pub at-turn : Ready (IsLent g offsets targets (getD schedule i 0)) g μ
         at-turn =
             record {
               graph = x .graph;
@@ -141,17 +139,15 @@ module _ {g : Setup} {offsets targets schedule marks₀ : List ℕ} {μ₀ : Mem
               here =
                   record {
                     graph-is = x .here .graph-is;
-                    marks-are = r .marks-are;
                     low = worker-low (g .workers) schedule i (r .fits) h;
                   };
             }
 
-        pub at-next : {marks′ : List ℕ} {μ′ : Memory}
-            → Does (IsLent g offsets targets marks (getD schedule i 0)) g (getD schedule i 0) (getD schedule (i + 1) 0) μ μ′
-            → Marks (IsLent g offsets targets marks (getD schedule i 0)) g (getD schedule i 0) (getD schedule (i + 1) 0) μ marks′
-            → LoopAt x (i + 2) marks′ μ′
+        pub at-next : {μ′ : Memory}
+            → Does (IsLent g offsets targets (getD schedule i 0)) g (getD schedule i 0) (getD schedule (i + 1) 0) μ μ′
+            → LoopAt x (i + 2) μ′
         unfolding at-turn turns entries
-        at-next does marked =
+        at-next does =
             let e : Entry = record { worker = getD schedule i 0; named = getD schedule (i + 1) 0 } in
             let p = pair-is schedule i h (omega (arith, at-pair h)) in
             let grown = counts-grow (x .scene .accepted) (r .sound) e in
@@ -159,7 +155,6 @@ module _ {g : Setup} {offsets targets schedule marks₀ : List ℕ} {μ₀ : Mem
               state = turn (x .graph) (settingOf g) (r .state) e;
               sound = sound-turn (x .scene .accepted) (r .sound) e;
               holds = does at-turn;
-              marks-are = marked at-turn;
               fits = pair-fits (g .workers) schedule i (r .fits) h .1;
               left = sym (ap (λ (l : List ℕ). turns (x .graph) (settingOf g) (r .state) (entries l)) p) ∙ r .left;
               handed = omega (arith, r .handed, grown .0);

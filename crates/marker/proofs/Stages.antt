@@ -50,7 +50,7 @@ module _ {offsets targets : List ℕ} {index : ℕ} {g : Setup} {schedule marks 
 
   -- after the start
   module _ {marks₁ regs₁ : List ℕ} {p₁ : Progress} (d : Started offsets targets index g marks₁ regs₁ p₁) where
-    pub turns-ready : Ready (IsBegun g offsets targets schedule marks₁) g (memory work regs₁ p₁)
+    pub turns-ready : Ready (IsBegun g offsets targets schedule) g (memory marks₁ work regs₁ p₁)
     unfolding start
     turns-ready =
         record {
@@ -67,11 +67,10 @@ module _ {offsets targets : List ℕ} {index : ℕ} {g : Setup} {schedule marks 
                 handed-room = omega arith;
                 moved-room = omega arith;
               };
-          holds = d .holds work (known .work-exact ∙ ap (λ (L : ℕ). g .workers * L) (sym (x .stretch-is)));
+          holds = d work (known .work-exact ∙ ap (λ (L : ℕ). g .workers * L) (sym (x .stretch-is)));
           here =
               record {
                 graph-is = refl;
-                marks-are = d .marks-are;
                 fits = known .schedule-fits;
                 none-handed = refl;
                 none-moved = refl;
@@ -80,14 +79,10 @@ module _ {offsets targets : List ℕ} {index : ℕ} {g : Setup} {schedule marks 
 
     -- after the turns
     module _ {marks₂ work₂ regs₂ : List ℕ} {p₂ : Progress}
-        (t : DoesAll (IsBegun g offsets targets schedule marks₁) g schedule (memory work regs₁ p₁) (memory work₂ regs₂ p₂) marks₂) where
-      final-held : Holds (graphOf call) g (final call) (memory work₂ regs₂ p₂)
+        (t : DoesAll (IsBegun g offsets targets schedule) g schedule (memory marks₁ work regs₁ p₁) (memory marks₂ work₂ regs₂ p₂)) where
+      final-held : Holds (graphOf call) g (final call) (memory marks₂ work₂ regs₂ p₂)
       unfolding turns-ready
-      final-held = t .holds turns-ready
-
-      final-marks : marks₂ ≡ final call .marks
-      unfolding turns-ready
-      final-marks = t .marks-are turns-ready
+      final-held = t turns-ready
 
       pub settle-ready : Settling (g .workers) (g .stretch) work₂ regs₂
       settle-ready =
@@ -113,7 +108,7 @@ module _ {offsets targets : List ℕ} {index : ℕ} {g : Setup} {schedule marks 
           ap (λ (k : ℕ). eqb k 0) (final-held .running-is) ∙ all-ended (final call .workers) in
           record {
             row-is = e ∙ rw (f, final-held .counts-are);
-            marks-are = final-marks;
+            marks-are = final-held .marks-are;
             work-is = s settle-ready;
           }
 

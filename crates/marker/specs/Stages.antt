@@ -38,17 +38,16 @@ abbrev pub begin : List ℕ → List ℕ → ℕ → Setup → State
 begin offsets targets index g = start (graph offsets targets) (index ∷ []) (g .workers)
 
 -- the memories hold it, whatever words the work memory has
-pub record Started (offsets targets : List ℕ) (index : ℕ) (g : Setup) (marks′ regs′ : List ℕ) (p : Progress) : Type 0 where
-  pub marks-are : marks′ ≡ begin offsets targets index g .marks
-  pub holds : (work : List ℕ) → length work ≡ g .workers * g .stretch
-      → Holds (graph offsets targets) g (begin offsets targets index g) (memory work regs′ p)
+abbrev pub Started : List ℕ → List ℕ → ℕ → Setup → List ℕ → List ℕ → Progress → Type 0
+Started offsets targets index g marks′ regs′ p =
+    (work : List ℕ) → length work ≡ g .workers * g .stretch
+    → Holds (graph offsets targets) g (begin offsets targets index g) (memory marks′ work regs′ p)
 
 -- ---- the turns
 
 -- a state from which no turn was made yet, on what is lent
-pub record IsBegun (g : Setup) (offsets targets schedule marks : List ℕ) (G : Graph) (s : State) : Type 0 where
+pub record IsBegun (g : Setup) (offsets targets schedule : List ℕ) (G : Graph) (s : State) : Type 0 where
   pub graph-is : G ≡ graph offsets targets
-  pub marks-are : marks ≡ s .marks
   pub fits : scheduleFits (g .workers) schedule ≡ true
   pub none-handed : s .counts .handed ≡ 0
   pub none-moved : s .counts .moved ≡ 0
@@ -57,10 +56,9 @@ pub record IsBegun (g : Setup) (offsets targets schedule marks : List ℕ) (G : 
 abbrev pub scheduled : Setup → List ℕ → Graph → State → State
 scheduled g schedule G s = turns G (settingOf g) s (entries schedule)
 
--- "does all turns": the memories afterwards hold that state, and the marks are its marks
-pub record DoesAll (P : Graph → State → Type 0) (g : Setup) (schedule : List ℕ) (μ μ′ : Memory) (marks′ : List ℕ) : Type 0 where
-  pub holds : (x : Ready P g μ) → Holds (x .graph) g (scheduled g schedule (x .graph) (x .state)) μ′
-  pub marks-are : (x : Ready P g μ) → marks′ ≡ scheduled g schedule (x .graph) (x .state) .marks
+-- "does all turns": the memories afterwards hold that state
+abbrev pub DoesAll : (P : Graph → State → Type 0) → Setup → List ℕ → Memory → Memory → Type 0
+DoesAll P g schedule μ μ′ = (x : Ready P g μ) → Holds (x .graph) g (scheduled g schedule (x .graph) (x .state)) μ′
 
 -- ---- the work memory written out
 

@@ -242,10 +242,10 @@ fn take_turns(
     regs: &mut [u32],
     begun: Progress,
 ) -> Progress
-    requires { ⌜ Ready (IsBegun setup (now offsets) (now targets) (now schedule) (now marks)) setup (memory (now work) (now regs) begun) ⌝ }
-    ensures { λ p. ⌜ DoesAll (IsBegun setup (now (offsets .entry)) (now (targets .entry)) (now (schedule .entry)) (now (marks .entry)))
-        setup (now (schedule .entry)) (memory (now (work .entry)) (now (regs .entry)) begun)
-        (memory (now (work .exit)) (now (regs .exit)) p) (now (marks .exit)) ⌝ }
+    requires { ⌜ Ready (IsBegun setup (now offsets) (now targets) (now schedule)) setup (memory (now marks) (now work) (now regs) begun) ⌝ }
+    ensures { λ p. ⌜ DoesAll (IsBegun setup (now (offsets .entry)) (now (targets .entry)) (now (schedule .entry)))
+        setup (now (schedule .entry)) (memory (now (marks .entry)) (now (work .entry)) (now (regs .entry)) begun)
+        (memory (now (marks .exit)) (now (work .exit)) (now (regs .exit)) p) ⌝ }
 {
     let mut p = begun;
     let mut i: usize = 0;

@@ -35,7 +35,7 @@ phase-look : (k : ℕ) → 0 < k → 6 ≡ phaseWord (phase k)
 phase-look zero h = absurd (omega arith)
 phase-look (suc k) h = refl
 
-module _ {G : Graph} {g : Setup} {s : State} {work regs : List ℕ} {p : Progress} (c : Scene G g s) (h : Holds G g s (memory work regs p)) where
+module _ {G : Graph} {g : Setup} {s : State} {marks work regs : List ℕ} {p : Progress} (c : Scene G g s) (h : Holds G g s (memory marks work regs p)) where
   long : length (s .workers) ≡ g .workers
   long = c .sound .workers-length
 
@@ -68,7 +68,7 @@ module _ {G : Graph} {g : Setup} {s : State} {work regs : List ℕ} {p : Progres
   -- nobody asks: two words of the block change
   pub holds-polled : (b v : ℕ) {n : ℕ} {rs : List Run} → worker s b ≡ busy empty n poll rs
       → Holds G g (turned g b v G s)
-      (memory work (putAt (putAt regs b 1 (min (g .batch) (blockAt regs b .carried))) b 0 6) (movedOn p 0))
+      (memory marks work (putAt (putAt regs b 1 (min (g .batch) (blockAt regs b .carried))) b 0 6) (movedOn p 0))
   holds-polled b v {n} {rs} e =
       let k = min (g .batch) (blockAt regs b .carried) in
       let r = block-room c h b (poll-low b e) in
@@ -92,6 +92,7 @@ module _ {G : Graph} {g : Setup} {s : State} {work regs : List ℕ} {p : Progres
       refl
       refl
       refl
+      (h .marks-are)
       (ap (λ (x : Counts). countMove x 0 0) (h .counts-are)))
 
   -- a worker with an asker
@@ -114,7 +115,7 @@ module _ {G : Graph} {g : Setup} {s : State} {work regs : List ℕ} {p : Progres
     -- it is refused
     pub holds-refused : shares (g .cutoff) n (carried rs) ≡ false → (v : ℕ)
         → Holds G g (turned g b v G s)
-        (memory work
+        (memory marks work
         (putAt (storeAt regs b (batchedBlock (blockAt regs b) (min (g .batch) (blockAt regs b .carried)))) (blockAt regs b .cell - 1) 0 2)
         (movedOn p 1))
     holds-refused q v =
@@ -130,6 +131,7 @@ module _ {G : Graph} {g : Setup} {s : State} {work regs : List ℕ} {p : Progres
         refl
         refl
         refl
+        (h .marks-are)
         (ap (λ (x : Counts). countMove x 0 1) (h .counts-are)))
 
     -- ---- sharing
@@ -169,7 +171,7 @@ module _ {G : Graph} {g : Setup} {s : State} {work regs : List ℕ} {p : Progres
       holds-shared-runs : (v : ℕ) (work′ : List ℕ) (kept gave : Top)
           → Divided (g .stretch) work b a (topOf (blockAt regs b)) (half (carried rs)) work′ kept gave
           → Holds G g (turned g b v G s)
-          (memory work′
+          (memory marks work′
           (storeAt (storeAt regs b (sharedBlock (blockAt regs b) (min (g .batch) (half (carried rs))) (half (carried rs)) kept)) a
           (givenBlock gave (carried rs - half (carried rs))))
           (sharedOne p))
@@ -197,6 +199,7 @@ module _ {G : Graph} {g : Setup} {s : State} {work regs : List ℕ} {p : Progres
           (omega arith)
           refl
           refl
+          (h .marks-are)
           (ap (λ (x : Counts). countMove x 1 0) (h .counts-are)))
 
       -- the same, as the words tell it
@@ -209,7 +212,7 @@ module _ {G : Graph} {g : Setup} {s : State} {work regs : List ℕ} {p : Progres
       pub holds-shared : (v : ℕ) (work′ : List ℕ) (kept gave : Top)
           → Divided (g .stretch) work b (blockAt regs b .cell - 1) (topOf (blockAt regs b)) (half (blockAt regs b .carried)) work′ kept gave
           → Holds G g (turned g b v G s)
-          (memory work′
+          (memory marks work′
           (storeAt
           (storeAt regs b (sharedBlock (blockAt regs b) (min (g .batch) (half (blockAt regs b .carried))) (half (blockAt regs b .carried)) kept))
           (blockAt regs b .cell - 1)
@@ -221,10 +224,10 @@ module _ {G : Graph} {g : Setup} {s : State} {work regs : List ℕ} {p : Progres
 -- ---- the two kinds of a poll
 
 -- a worker that polls with a cell that is not empty is asked, and answers as its words tell
-pub asked-here : {g : Setup} {work regs : List ℕ} {p : Progress} (b : ℕ) (t : Bool) → blockAt regs b .cell ≢ 0
-    → shares (g .cutoff) (blockAt regs b .since) (blockAt regs b .carried) ≡ t → (x : Ready (IsPolling b) g (memory work regs p))
+pub asked-here : {g : Setup} {marks work regs : List ℕ} {p : Progress} (b : ℕ) (t : Bool) → blockAt regs b .cell ≢ 0
+    → shares (g .cutoff) (blockAt regs b .since) (blockAt regs b .carried) ≡ t → (x : Ready (IsPolling b) g (memory marks work regs p))
     → IsAsked g t b (x .graph) (x .state)
-asked-here {g} {work} {regs} b t m q x = by (x .here .cell) (x .here .is)
+asked-here {g} {marks} {work} {regs} b t m q x = by (x .here .cell) (x .here .is)
   where
     is : {cell : Cell} → worker (x .state) b ≡ busy cell (x .here .since) poll (x .here .runs)
         → BusyIs (x .graph) cell (x .here .since) poll (x .here .runs) (blockAt regs b) (stretchAt (g .stretch) b work)
@@ -241,21 +244,21 @@ asked-here {g} {work} {regs} b t m q x = by (x .here .cell) (x .here .is)
           answers = rw (is e .since, is e .carrying .number) at q;
         }
 
-abbrev pub asked : {g : Setup} {work regs : List ℕ} {p : Progress} (b : ℕ) (t : Bool) → blockAt regs b .cell ≢ 0
-    → shares (g .cutoff) (blockAt regs b .since) (blockAt regs b .carried) ≡ t → Ready (IsPolling b) g (memory work regs p)
-    → Ready (IsAsked g t b) g (memory work regs p)
+abbrev pub asked : {g : Setup} {marks work regs : List ℕ} {p : Progress} (b : ℕ) (t : Bool) → blockAt regs b .cell ≢ 0
+    → shares (g .cutoff) (blockAt regs b .since) (blockAt regs b .carried) ≡ t → Ready (IsPolling b) g (memory marks work regs p)
+    → Ready (IsAsked g t b) g (memory marks work regs p)
 asked b t m q x =
     record { graph = x .graph; state = x .state; scene = x .scene; holds = x .holds; here = asked-here b t m q x }
 
 -- and one whose cell is empty is not
-pub unasked : {g : Setup} {work regs : List ℕ} {p : Progress} (b v : ℕ) → blockAt regs b .cell ≡ 0
-    → (x : Ready (IsPolling b) g (memory work regs p))
+pub unasked : {g : Setup} {marks work regs : List ℕ} {p : Progress} (b v : ℕ) → blockAt regs b .cell ≡ 0
+    → (x : Ready (IsPolling b) g (memory marks work regs p))
     → Holds (x .graph) g (turned g b v (x .graph) (x .state))
-    (memory work (putAt (putAt regs b 1 (min (g .batch) (blockAt regs b .carried))) b 0 6) (movedOn p 0))
-unasked {g} {work} {regs} {p} b v z x = by (x .here .cell) (x .here .is)
+    (memory marks work (putAt (putAt regs b 1 (min (g .batch) (blockAt regs b .carried))) b 0 6) (movedOn p 0))
+unasked {g} {marks} {work} {regs} {p} b v z x = by (x .here .cell) (x .here .is)
   where
     by : (cell : Cell) → worker (x .state) b ≡ busy cell (x .here .since) poll (x .here .runs)
         → Holds (x .graph) g (turned g b v (x .graph) (x .state))
-        (memory work (putAt (putAt regs b 1 (min (g .batch) (blockAt regs b .carried))) b 0 6) (movedOn p 0))
+        (memory marks work (putAt (putAt regs b 1 (min (g .batch) (blockAt regs b .carried))) b 0 6) (movedOn p 0))
     by empty e = holds-polled (x .scene) (x .holds) b v e
     by (from a) e = absurd (omega (arith, z, poll-is (x .scene) (x .holds) b e .cell))

@@ -39,7 +39,7 @@ first-told G (run f j ∷ rs) t some l e =
     let q : t .first ≡ f = ap (λ (x : Top). x .first) e in
     (omega (arith, q, l .0), ap (λ (i : ℕ). target G i) q)
 
-module _ {G : Graph} {g : Setup} {s : State} {work regs : List ℕ} {p : Progress} (c : Scene G g s) (h : Holds G g s (memory work regs p)) where
+module _ {G : Graph} {g : Setup} {s : State} {marks work regs : List ℕ} {p : Progress} (c : Scene G g s) (h : Holds G g s (memory marks work regs p)) where
   long : length (s .workers) ≡ g .workers
   long = c .sound .workers-length
 
@@ -48,11 +48,12 @@ module _ {G : Graph} {g : Setup} {s : State} {work regs : List ℕ} {p : Progres
   stays b = all-same (g .workers) (g .stretch) b work
 
   -- a refused asker wakes
-  pub holds-woken : (b v : ℕ) → worker s b ≡ denied → Holds G g (turned g b v G s) (memory work (putAt regs b 0 0) (movedOn p 0))
+  pub holds-woken : (b v : ℕ) → worker s b ≡ denied → Holds G g (turned g b v G s) (memory marks work (putAt regs b 0 0) (movedOn p 0))
   holds-woken b v e =
       let low = below-workers (c .accepted) (c .sound) b (rw e (omega arith)) in
       rw (turn-as g b v G s e)
       (hold-one h long b low e idle work (put-stored regs b (block-room c h b low .long) 0 0 (omega arith)) refl (stays b) refl refl refl refl
+      (h .marks-are)
       (ap (λ (x : Counts). countMove x 0 0) (h .counts-are)))
 
   module _ (b v : ℕ) (e : worker s b ≡ idle) where
@@ -63,11 +64,12 @@ module _ {G : Graph} {g : Setup} {s : State} {work regs : List ℕ} {p : Progres
     idle-running = rw e at (running-at c h b)
 
     -- an idle worker ends
-    pub holds-ended : p .carrying ≡ 0 → Holds G g (turned g b v G s) (memory work (putAt regs b 0 3) (endedOne p))
+    pub holds-ended : p .carrying ≡ 0 → Holds G g (turned g b v G s) (memory marks work (putAt regs b 0 3) (endedOne p))
     holds-ended z =
         rw (turn-as g b v G s e, carrying-none c h z)
         (hold-one h long b idle-low e ended work (put-stored regs b (block-room c h b idle-low .long) 0 3 (omega arith)) refl (stays b) refl refl
         (omega (arith, rw e at (running-at c h b))) refl
+        (h .marks-are)
         (ap (λ (x : Counts). countMove x 0 0) (h .counts-are)))
 
     -- it asks, by what the named worker is
@@ -80,7 +82,7 @@ module _ {G : Graph} {g : Setup} {s : State} {work regs : List ℕ} {p : Progres
 
     -- nobody is asked where the named worker is not busy with an empty cell
     pub holds-still : p .carrying ≢ 0 → ((n : ℕ) (q : Phase) (rs : List Run) → worker s v ≡ busy empty n q rs → ⊥)
-        → Holds G g (turned g b v G s) (memory work regs p)
+        → Holds G g (turned g b v G s) (memory marks work regs p)
     holds-still n none = rw (asks-as n ∙ still (worker s v) refl) h
       where
         still : (w : Worker) → worker s v ≡ w → asks w s b v ≡ s
@@ -94,7 +96,7 @@ module _ {G : Graph} {g : Setup} {s : State} {work regs : List ℕ} {p : Progres
 
     -- it is asked
     pub holds-asked : p .carrying ≢ 0 → v < g .workers → (n : ℕ) (q : Phase) (rs : List Run) → worker s v ≡ busy empty n q rs
-        → Holds G g (turned g b v G s) (memory work (putAt (putAt regs v 2 (b + 1)) b 0 1) (movedOn p 0))
+        → Holds G g (turned g b v G s) (memory marks work (putAt (putAt regs v 2 (b + 1)) b 0 1) (movedOn p 0))
     holds-asked m lv n q rs f =
         let r = block-room c h v lv in
         let st = put-stored regs v (r .long) 2 (b + 1) (omega arith) in
@@ -117,6 +119,7 @@ module _ {G : Graph} {g : Setup} {s : State} {work regs : List ℕ} {p : Progres
         refl
         refl
         refl
+        (h .marks-are)
         (ap (λ (x : Counts). countMove x 0 0) (h .counts-are)))
 
   -- ---- what a block tells of its worker
@@ -173,7 +176,7 @@ module _ {G : Graph} {g : Setup} {s : State} {work regs : List ℕ} {p : Progres
         (given-runs-limit (c .accepted) (c .sound) b e) (given-is .1 .told .top)
 
     pub holds-taken : (v t : ℕ) → t ≡ target G (blockAt regs b .first)
-        → Holds G g (turned g b v G s) (memory work (storeAt regs b (takenBlock (blockAt regs b) t)) (movedOn p 0))
+        → Holds G g (turned g b v G s) (memory marks work (storeAt regs b (takenBlock (blockAt regs b) t)) (movedOn p 0))
     holds-taken v t q =
         rw (turn-as g b v G s e)
         (hold-one h long b given-low e (busy empty 0 poll rs) work
@@ -189,4 +192,5 @@ module _ {G : Graph} {g : Setup} {s : State} {work regs : List ℕ} {p : Progres
         refl
         refl
         refl
+        (h .marks-are)
         (ap (λ (x : Counts). countMove x 0 0) (h .counts-are)))

@@ -46,14 +46,15 @@ module _ (G : Graph) (W L : ℕ) (ws : List Worker) (regs work : List ℕ) (long
       rw (getD-set-other ws b a w ended h, st .others a h, same a low h) (each a low))
 
 -- one worker changes
-module _ {G : Graph} {g : Setup} {s : State} {work regs : List ℕ} {p : Progress} (h : Holds G g s (memory work regs p))
+module _ {G : Graph} {g : Setup} {s : State} {marks work regs : List ℕ} {p : Progress} (h : Holds G g s (memory marks work regs p))
     (long : length (s .workers) ≡ g .workers) (b : ℕ) (low : b < g .workers) {x : Worker} (is : worker s b ≡ x) where
-  pub hold-one : (w : Worker) {r : Block} {regs′ : List ℕ} (work′ : List ℕ) {p′ : Progress} → Stored regs b r regs′ → length work′ ≡ length work
+  pub hold-one : (w : Worker) {r : Block} {marks′ regs′ : List ℕ} (work′ : List ℕ) {p′ : Progress} → Stored regs b r regs′ → length work′ ≡ length work
       → SameBut (g .workers) (g .stretch) b work work′ → BlockIs G w r (stretchAt (g .stretch) b work′)
       → p′ .carrying + carries? x ≡ p .carrying + carries? w → p′ .running + running? x ≡ p .running + running? w
-      → {s′ : State} → s′ .workers ≡ set (s .workers) b w → p′ .counts ≡ s′ .counts → Holds G g s′ (memory work′ regs′ p′)
-  hold-one w {r} {regs′} work′ {p′} st wl same bl ca ru {s′} ws co =
+      → {s′ : State} → s′ .workers ≡ set (s .workers) b w → marks′ ≡ s′ .marks → p′ .counts ≡ s′ .counts → Holds G g s′ (memory marks′ work′ regs′ p′)
+  hold-one w {r} {marks′} {regs′} work′ {p′} st wl same bl ca ru {s′} ws ma co =
       record {
+        marks-are = ma;
         counts-are = co;
         carrying-is = rw ws (omega (arith, ca, h .carrying-is, sum-set carries? ended (s .workers) b x w is (omega (arith, long))));
         running-is = rw ws (omega (arith, ru, h .running-is, sum-set running? ended (s .workers) b x w is (omega (arith, long))));
@@ -64,15 +65,16 @@ module _ {G : Graph} {g : Setup} {s : State} {work regs : List ℕ} {p : Progres
 
   -- and another one
   pub hold-two : (w : Worker) {r : Block} {regs₁ : List ℕ} → Stored regs b r regs₁ → (a : ℕ) → a < g .workers → a ≢ b → {y : Worker}
-      → worker s a ≡ y → (z : Worker) {q : Block} {regs′ : List ℕ} (work′ : List ℕ) {p′ : Progress} → Stored regs₁ a q regs′
+      → worker s a ≡ y → (z : Worker) {q : Block} {marks′ regs′ : List ℕ} (work′ : List ℕ) {p′ : Progress} → Stored regs₁ a q regs′
       → length work′ ≡ length work
       → ((i : ℕ) → i < g .workers → i ≢ b → i ≢ a → stretchAt (g .stretch) i work′ ≡ stretchAt (g .stretch) i work)
       → BlockIs G w r (stretchAt (g .stretch) b work′) → BlockIs G z q (stretchAt (g .stretch) a work′)
       → p′ .carrying + carries? x + carries? y ≡ p .carrying + carries? w + carries? z
       → p′ .running + running? x + running? y ≡ p .running + running? w + running? z
-      → {s′ : State} → s′ .workers ≡ set (set (s .workers) b w) a z → p′ .counts ≡ s′ .counts → Holds G g s′ (memory work′ regs′ p′)
-  hold-two w {r} {regs₁} st a la other {y} iy z {q} {regs′} work′ {p′} st′ wl same bl bl′ ca ru {s′} ws co =
+      → {s′ : State} → s′ .workers ≡ set (set (s .workers) b w) a z → marks′ ≡ s′ .marks → p′ .counts ≡ s′ .counts → Holds G g s′ (memory marks′ work′ regs′ p′)
+  hold-two w {r} {regs₁} st a la other {y} iy z {q} {marks′} {regs′} work′ {p′} st′ wl same bl bl′ ca ru {s′} ws ma co =
       record {
+        marks-are = ma;
         counts-are = co;
         carrying-is = rw ws (omega (arith, ca, h .carrying-is, sums carries?, sums′ carries?));
         running-is = rw ws (omega (arith, ru, h .running-is, sums running?, sums′ running?));

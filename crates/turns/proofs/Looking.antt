@@ -12,7 +12,7 @@ use Rattle.graph.proofs.OverMarked.{after-limit}
 use Rattle.machine.specs.Row.{countMove}
 use Rattle.machine.specs.declared.Counts.{Counts}
 use Rattle.machine.specs.Run.{Run, run, runFrom, leaving}
-use Rattle.machine.specs.Machine.{State, busy, look, claim, worker, markOf, claimMark, lookTurn, Claimed, claims, claimLost, onwardRuns, follows}
+use Rattle.machine.specs.Machine.{busy, look, claim, worker, markOf, claimMark, lookTurn, Claimed, claims, claimLost, onwardRuns, follows}
 use Rattle.machine.proofs.Facts.{busy-below, busy-some, first-target}
 use Rattle.worker.specs.Registers.{blockAt, putAt}
 use Rattle.worker.proofs.Blocks.{put-stored}
@@ -40,8 +40,8 @@ first-of (run f j ∷ rs) h = record { first = f; more = j; below = rs; is = ref
 
 -- ---- a look
 
-module _ {g : Setup} {targets marks : List ℕ} {b : ℕ} {work regs : List ℕ} {p : Progress}
-    (x : Ready (IsLooking targets marks b) g (memory work regs p)) where
+module _ {g : Setup} {targets : List ℕ} {b : ℕ} {marks work regs : List ℕ} {p : Progress}
+    (x : Ready (IsLooking targets b) g (memory marks work regs p)) where
   pub look-low : b < g .workers
   look-low = busy-below (x .scene .accepted) (x .scene .sound) b (x .here .is)
 
@@ -61,7 +61,7 @@ module _ {g : Setup} {targets marks : List ℕ} {b : ℕ} {work regs : List ℕ}
       omega (
         arith,
         held .target,
-        ap (λ (l : List ℕ). length l) (x .here .marks-are),
+        ap (λ (l : List ℕ). length l) (x .holds .marks-are),
         first-target (x .scene .accepted) (x .scene .sound) b is,
         x .scene .sound .marks-length,
       )
@@ -70,7 +70,7 @@ module _ {g : Setup} {targets marks : List ℕ} {b : ℕ} {work regs : List ℕ}
   mark-read =
       default (x .state .marks) (target (x .graph) (f .first)) 1 0
       (omega (arith, first-target (x .scene .accepted) (x .scene .sound) b is, x .scene .sound .marks-length))
-      ∙ ap (λ (l : List ℕ). getD l (target (x .graph) (f .first)) 0) (sym (x .here .marks-are))
+      ∙ ap (λ (l : List ℕ). getD l (target (x .graph) (f .first)) 0) (sym (x .holds .marks-are))
       ∙ ap (λ (i : ℕ). getD marks i 0) (sym (held .target))
 
   look-as : (v : ℕ) → turned g b v (x .graph) (x .state)
@@ -80,7 +80,7 @@ module _ {g : Setup} {targets marks : List ℕ} {b : ℕ} {work regs : List ℕ}
       ∙ ap (λ (k : ℕ). lookTurn k (x .state) b (x .here .cell) (x .here .since) (x .here .left) (f .first) (f .more) (f .below)) mark-read
 
   -- a marked target: the reference is followed
-  pub seen-here : getD marks (blockAt regs b .target) 0 ≢ 0 → IsFollowing g targets openedNone b (x .graph) (x .state)
+  pub seen-here : getD marks (blockAt regs b .target) 0 ≢ 0 → IsFollowing g targets marks openedNone b (x .graph) (x .state)
   seen-here n =
       record {
         cell = x .here .cell;
@@ -98,6 +98,7 @@ module _ {g : Setup} {targets marks : List ℕ} {b : ℕ} {work regs : List ℕ}
         opened-is = refl;
         won-is = refl;
         won-limit = omega arith;
+        marks-are = x .holds .marks-are;
         turn-is = λ v. look-as v ∙ by (getD marks (blockAt regs b .target) 0) n;
         targets-are = x .here .targets-are;
       }
@@ -108,12 +109,12 @@ module _ {g : Setup} {targets marks : List ℕ} {b : ℕ} {work regs : List ℕ}
       by zero n = absurd (n refl)
       by (suc k) n = refl
 
-  abbrev pub seen : getD marks (blockAt regs b .target) 0 ≢ 0 → Ready (IsFollowing g targets openedNone b) g (memory work regs p)
+  abbrev pub seen : getD marks (blockAt regs b .target) 0 ≢ 0 → Ready (IsFollowing g targets marks openedNone b) g (memory marks work regs p)
   seen n = record { graph = x .graph; state = x .state; scene = x .scene; holds = x .holds; here = seen-here n }
 
   -- an unmarked one: the next turn is a claim
   pub holds-claims : getD marks (blockAt regs b .target) 0 ≡ 0 → (v : ℕ)
-      → Holds (x .graph) g (turned g b v (x .graph) (x .state)) (memory work (putAt regs b 0 7) (movedOn p 0))
+      → Holds (x .graph) g (turned g b v (x .graph) (x .state)) (memory marks work (putAt regs b 0 7) (movedOn p 0))
   holds-claims z v =
       rw (look-as v, z)
       (hold-one (x .holds) (x .scene .sound .workers-length) b look-low is
@@ -132,12 +133,13 @@ module _ {g : Setup} {targets marks : List ℕ} {b : ℕ} {work regs : List ℕ}
       refl
       refl
       refl
+      (x .holds .marks-are)
       (ap (λ (n : Counts). countMove n 0 0) (x .holds .counts-are)))
 
 -- ---- a claim
 
-module _ {g : Setup} {offsets targets marks : List ℕ} {b : ℕ} {work regs : List ℕ} {p : Progress}
-    (x : Ready (IsClaiming offsets targets marks b) g (memory work regs p)) where
+module _ {g : Setup} {offsets targets : List ℕ} {b : ℕ} {marks work regs : List ℕ} {p : Progress}
+    (x : Ready (IsClaiming offsets targets b) g (memory marks work regs p)) where
   pub claim-low : b < g .workers
   claim-low = busy-below (x .scene .accepted) (x .scene .sound) b (x .here .is)
 
@@ -164,7 +166,7 @@ module _ {g : Setup} {offsets targets marks : List ℕ} {b : ℕ} {work regs : L
         target-word,
         is-object,
         x .scene .sound .marks-length,
-        ap (λ (l : List ℕ). length l) (x .here .marks-are),
+        ap (λ (l : List ℕ). length l) (x .holds .marks-are),
         ap (λ (G : Graph). objects G) (x .here .graph-is),
       )
 
@@ -175,7 +177,7 @@ module _ {g : Setup} {offsets targets marks : List ℕ} {b : ℕ} {work regs : L
   read : markOf (x .state) t ≡ getD marks t 0
   read =
       default (x .state .marks) t 1 0 (omega (arith, is-object, x .scene .sound .marks-length))
-      ∙ ap (λ (l : List ℕ). getD l t 0) (sym (x .here .marks-are))
+      ∙ ap (λ (l : List ℕ). getD l t 0) (sym (x .holds .marks-are))
 
   -- what opens, as the words tell it
   record Finds (o : Opened) (d : Claimed) : Type 0 where
@@ -204,7 +206,15 @@ module _ {g : Setup} {offsets targets marks : List ℕ} {b : ℕ} {work regs : L
       ≡ follows (x .state) b (x .here .cell) (x .here .since) (x .here .left) found (onwardRuns (cf .first) (cf .more) (found .opened) (cf .below))
   claim-as v = turn-as g b v (x .graph) (x .state) cis
 
-  claimed-at : IsFollowing g targets (openedAt offsets marks t) b (x .graph) (x .state)
+  -- the marks that it leaves
+  marks-claimed : claimedMarks marks b t ≡ found .marks
+  marks-claimed = by (getD marks t 0) ∙ ap (λ (k : ℕ). claims k (x .graph) (x .state) b t .marks) (sym read)
+    where
+      by : (k : ℕ) → marksBy k marks b t ≡ claims k (x .graph) (x .state) b t .marks
+      by zero = ap (λ (l : List ℕ). set l t (claimMark b)) (x .holds .marks-are)
+      by (suc k) = x .holds .marks-are
+
+  claimed-at : IsFollowing g targets (claimedMarks marks b t) (openedAt offsets marks t) b (x .graph) (x .state)
   claimed-at =
       let d = subst (λ (k : ℕ). Finds (openedAt offsets marks t) (claims k (x .graph) (x .state) b t)) (sym read) (finds (getD marks t 0)) in
       record {
@@ -223,25 +233,14 @@ module _ {g : Setup} {offsets targets marks : List ℕ} {b : ℕ} {work regs : L
         opened-is = d .opened-is;
         won-is = d .won-is;
         won-limit = d .won-limit;
+        marks-are = marks-claimed;
         turn-is = claim-as;
         targets-are = sym (ap (λ (G : Graph). G .targets) (x .here .graph-is));
       }
 
-  pub claimed-here : IsFollowing g targets (openedAt offsets marks (blockAt regs b .target)) b (x .graph) (x .state)
+  pub claimed-here : IsFollowing g targets (claimedMarks marks b (blockAt regs b .target)) (openedAt offsets marks (blockAt regs b .target)) b (x .graph) (x .state)
   claimed-here =
-      subst (λ (i : ℕ). IsFollowing g targets (openedAt offsets marks i) b (x .graph) (x .state)) (sym target-word) claimed-at
+      subst (λ (i : ℕ). IsFollowing g targets (claimedMarks marks b i) (openedAt offsets marks i) b (x .graph) (x .state)) (sym target-word) claimed-at
 
-  abbrev pub claimed : Ready (IsFollowing g targets (openedAt offsets marks (blockAt regs b .target)) b) g (memory work regs p)
+  abbrev pub claimed : Ready (IsFollowing g targets (claimedMarks marks b (blockAt regs b .target)) (openedAt offsets marks (blockAt regs b .target)) b) g (memory marks work regs p)
   claimed = record { graph = x .graph; state = x .state; scene = x .scene; holds = x .holds; here = claimed-here }
-
-  -- the marks that it leaves
-  pub marks-claimed : (v : ℕ) → claimedMarks marks b (blockAt regs b .target) ≡ turned g b v (x .graph) (x .state) .marks
-  marks-claimed v =
-      ap (λ (i : ℕ). claimedMarks marks b i) target-word
-      ∙ by (getD marks t 0)
-      ∙ ap (λ (k : ℕ). claims k (x .graph) (x .state) b t .marks) (sym read)
-      ∙ ap (λ (s : State). s .marks) (sym (claim-as v))
-    where
-      by : (k : ℕ) → marksBy k marks b t ≡ claims k (x .graph) (x .state) b t .marks
-      by zero = ap (λ (l : List ℕ). set l t (claimMark b)) (x .here .marks-are)
-      by (suc k) = x .here .marks-are

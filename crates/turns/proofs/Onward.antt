@@ -59,12 +59,12 @@ from-limit : (G : Graph) (f k : ℕ) → f + k ≤ references G → Every (InTar
 from-limit G f zero l = tt
 from-limit G f (suc k) l = (l, tt)
 
-module _ {g : Setup} {targets : List ℕ} {o : Opened} {b : ℕ} {work regs : List ℕ} {p : Progress}
-    (x : Ready (IsFollowing g targets o b) g (memory work regs p)) where
+module _ {g : Setup} {targets marks′ : List ℕ} {o : Opened} {b : ℕ} {marks work regs : List ℕ} {p : Progress}
+    (x : Ready (IsFollowing g targets marks′ o b) g (memory marks work regs p)) where
   abbrev c : Scene (x .graph) g (x .state)
   c = x .scene
 
-  abbrev y : IsFollowing g targets o b (x .graph) (x .state)
+  abbrev y : IsFollowing g targets marks′ o b (x .graph) (x .state)
   y = x .here
 
   abbrev block : Block
@@ -190,7 +190,7 @@ module _ {g : Setup} {targets : List ℕ} {o : Opened} {b : ℕ} {work regs : Li
 
   pub holds-onward : top .first < top .end → (v t : ℕ) → t ≡ target (x .graph) (top .first)
       → Holds (x .graph) g (turned g b v (x .graph) (x .state))
-      (memory after (storeAt regs b (advancedBlock block (o .end - o .first) top t)) (followedOn p (o .won)))
+      (memory marks′ after (storeAt regs b (advancedBlock block (o .end - o .first) top t)) (followedOn p (o .won)))
   holds-onward l v t q =
       let some = some-told runs top (told .top) l in
       let on = gone-on (x .state .workers) b (suc (y .since)) (y .left) (y .cell) runs some in
@@ -212,6 +212,7 @@ module _ {g : Setup} {targets : List ℕ} {o : Opened} {b : ℕ} {work regs : Li
       refl
       refl
       (on .0)
+      (y .marks-are)
       (counts 0 ∙ ap (λ (i : ℕ). countFollow (x .state .counts) (y .found .won) i) (sym (on .1))))
 
   module _ (l : top .end ≤ top .first) where
@@ -219,11 +220,11 @@ module _ {g : Setup} {targets : List ℕ} {o : Opened} {b : ℕ} {work regs : Li
     emptied v = state v ∙ ap (λ (rs : List Run). follows (x .state) b (y .cell) (y .since) (y .left) (y .found) rs) (none-told runs top (told .top) l)
 
     pub holds-emptied : block .cell ≡ 0 → (v : ℕ)
-        → Holds (x .graph) g (turned g b v (x .graph) (x .state)) (memory after (putAt regs b 0 0) (emptiedOne p (o .won) 0))
+        → Holds (x .graph) g (turned g b v (x .graph) (x .state)) (memory marks′ after (putAt regs b 0 0) (emptiedOne p (o .won) 0))
     holds-emptied z v = rw (emptied v) (by (y .cell) (is .cell))
       where
         by : (cell : Cell) → block .cell ≡ cellWord cell
-            → Holds (x .graph) g (follows (x .state) b cell (y .since) (y .left) (y .found) []) (memory after (putAt regs b 0 0) (emptiedOne p (o .won) 0))
+            → Holds (x .graph) g (follows (x .state) b cell (y .since) (y .left) (y .found) []) (memory marks′ after (putAt regs b 0 0) (emptiedOne p (o .won) 0))
         by (from a) q = absurd (omega (arith, q, z))
         by empty q =
             hold-one (x .holds) (c .sound .workers-length) b follow-low (y .is) idle after
@@ -234,17 +235,18 @@ module _ {g : Setup} {targets : List ℕ} {o : Opened} {b : ℕ} {work regs : Li
             (omega (arith, carries-one))
             refl
             refl
+            (y .marks-are)
             (counts 0)
 
     pub holds-dismissed : block .cell ≢ 0 → (v : ℕ)
         → Holds (x .graph) g (turned g b v (x .graph) (x .state))
-        (memory after (putAt (putAt regs b 0 0) (block .cell - 1) 0 2) (emptiedOne p (o .won) 1))
+        (memory marks′ after (putAt (putAt regs b 0 0) (block .cell - 1) 0 2) (emptiedOne p (o .won) 1))
     holds-dismissed z v = rw (emptied v) (by (y .cell) (y .is) (is .cell))
       where
         by : (cell : Cell) → worker (x .state) b ≡ busy cell (y .since) (y .phase) (run (y .first) (y .more) ∷ y .below)
             → block .cell ≡ cellWord cell
             → Holds (x .graph) g (follows (x .state) b cell (y .since) (y .left) (y .found) [])
-            (memory after (putAt (putAt regs b 0 0) (block .cell - 1) 0 2) (emptiedOne p (o .won) 1))
+            (memory marks′ after (putAt (putAt regs b 0 0) (block .cell - 1) 0 2) (emptiedOne p (o .won) 1))
         by empty e q = absurd (z q)
         by (from a) e q =
             let i : block .cell - 1 ≡ a = omega (arith, q) in
@@ -264,4 +266,5 @@ module _ {g : Setup} {targets : List ℕ} {o : Opened} {b : ℕ} {work regs : Li
             (omega (arith, carries-one))
             refl
             refl
+            (y .marks-are)
             (counts 1))

@@ -1,12 +1,10 @@
--- From a status word to what the worker is: which function a turn calls, and what the turn leaves alone.
+-- From a status word to what the worker is: which function a turn calls, and when nothing changes.
 use mathlib.Core.Path.{_≡_, refl, sym, ap, _∙_}
-use mathlib.Core.Bool.{Bool, true, false}
 use mathlib.Core.Logic.{_≢_}
-use mathlib.Core.List.{List, [], _∷_}
+use mathlib.Core.List.{List}
 use Prim.Native.Nat.{ℕ, zero, suc}
-use Rattle.graph.specs.Graph.{Graph, target}
-use Rattle.machine.specs.Run.{Run, run, carried}
-use Rattle.machine.specs.Machine.{Setting, State, Worker, idle, asking, denied, ended, given, busy, Cell, empty, from, Phase, poll, look, claim, worker, runsOf, markOf, shares, answer, asks, idleTurn, lookTurn, workerTurn, carriedAll}
+use Rattle.graph.specs.Graph.{Graph}
+use Rattle.machine.specs.Machine.{State, Worker, idle, asking, denied, ended, given, busy, Cell, empty, Phase, poll, look, claim, worker, runsOf, workerTurn}
 use Rattle.machine.specs.Sound.{sinceOf}
 use Rattle.worker.specs.declared.registers.Block.{Block}
 use Rattle.worker.specs.Registers.{blockAt}
@@ -77,45 +75,10 @@ like-itself (busy c n poll rs) = refl
 like-itself (busy c n (look k) rs) = refl
 like-itself (busy c n (claim k) rs) = refl
 
--- ---- marks: only a claim changes them
-
-answer-marks : (t : Bool) (g : Setting) (s : State) (b a n : ℕ) (rs : List Run) → answer t g s b a n rs .marks ≡ s .marks
-answer-marks true g s b a n rs = refl
-answer-marks false g s b a n rs = refl
-
-asks-marks : (w : Worker) (s : State) (b v : ℕ) → asks w s b v .marks ≡ s .marks
-asks-marks idle s b v = refl
-asks-marks asking s b v = refl
-asks-marks denied s b v = refl
-asks-marks ended s b v = refl
-asks-marks (given rs) s b v = refl
-asks-marks (busy empty n p rs) s b v = refl
-asks-marks (busy (from a) n p rs) s b v = refl
-
-idle-marks : (k : ℕ) (s : State) (b v : ℕ) → idleTurn k s b v .marks ≡ s .marks
-idle-marks zero s b v = refl
-idle-marks (suc k) s b v = asks-marks (worker s v) s b v
-
-look-marks : (k : ℕ) (s : State) (b : ℕ) (c : Cell) (n l e j : ℕ) (rs : List Run) → lookTurn k s b c n l e j rs .marks ≡ s .marks
-look-marks zero s b c n l e j rs = refl
-look-marks (suc k) s b c n l e j rs = refl
-
-turn-marks : (w : Worker) → statusOf w ≢ 7 → (G : Graph) (g : Setting) (s : State) (b v : ℕ) → workerTurn w G g s b v .marks ≡ s .marks
-turn-marks ended h G g s b v = refl
-turn-marks asking h G g s b v = refl
-turn-marks denied h G g s b v = refl
-turn-marks (given rs) h G g s b v = refl
-turn-marks idle h G g s b v = idle-marks (carriedAll s) s b v
-turn-marks (busy empty n poll rs) h G g s b v = refl
-turn-marks (busy (from a) n poll rs) h G g s b v = answer-marks (shares (g .cutoff) n (carried rs)) g s b a n rs
-turn-marks (busy c n (look k) []) h G g s b v = refl
-turn-marks (busy c n (look k) (run e j ∷ rs)) h G g s b v = look-marks (markOf s (target G e)) s b c n k e j rs
-turn-marks (busy c n (claim k) rs) h G g s b v = absurd (h refl)
-
 -- ---- a state that is lent
 
-module _ {g : Setup} {offsets targets marks : List ℕ} {b : ℕ} {work regs : List ℕ} {p : Progress}
-    (x : Ready (IsLent g offsets targets marks b) g (memory work regs p)) where
+module _ {g : Setup} {offsets targets : List ℕ} {b : ℕ} {marks work regs : List ℕ} {p : Progress}
+    (x : Ready (IsLent g offsets targets b) g (memory marks work regs p)) where
   abbrev w : Worker
   w = worker (x .state) b
 
@@ -128,13 +91,6 @@ module _ {g : Setup} {offsets targets marks : List ℕ} {b : ℕ} {work regs : L
 
   like : (k : ℕ) → blockAt regs b .status ≡ k → worker (x .state) b ≡ likeness k (worker (x .state) b)
   like k z = like-itself (worker (x .state) b) ∙ ap (λ (i : ℕ). likeness i (worker (x .state) b)) (sym status ∙ z)
-
-  -- the marks stay but for a claim
-  pub same-marks : blockAt regs b .status ≢ 7 → (v : ℕ) → marks ≡ turned g b v (x .graph) (x .state) .marks
-  same-marks h v =
-      x .here .marks-are
-      ∙ sym (turn-marks (worker (x .state) b) (λ z. h (status ∙ z)) (x .graph) (settingOf g) (x .state) b v)
-      ∙ ap (λ (s : State). s .marks) (sym (turn-as g b v (x .graph) (x .state) refl))
 
   -- what each kind is told
   pub idle-here : blockAt regs b .status ≡ 0 → IsIdle b (x .graph) (x .state)
@@ -149,7 +105,7 @@ module _ {g : Setup} {offsets targets marks : List ℕ} {b : ℕ} {work regs : L
   pub poll-here : blockAt regs b .status ≡ 5 → IsPolling b (x .graph) (x .state)
   poll-here z = record { cell = cellOf w; since = sinceOf w; runs = runsOf w; is = like 5 z }
 
-  pub look-here : blockAt regs b .status ≡ 6 → IsLooking targets marks b (x .graph) (x .state)
+  pub look-here : blockAt regs b .status ≡ 6 → IsLooking targets b (x .graph) (x .state)
   look-here z =
       record {
         cell = cellOf w;
@@ -158,10 +114,9 @@ module _ {g : Setup} {offsets targets marks : List ℕ} {b : ℕ} {work regs : L
         runs = runsOf w;
         is = like 6 z;
         targets-are = targets-are;
-        marks-are = x .here .marks-are;
       }
 
-  pub claim-here : blockAt regs b .status ≡ 7 → IsClaiming offsets targets marks b (x .graph) (x .state)
+  pub claim-here : blockAt regs b .status ≡ 7 → IsClaiming offsets targets b (x .graph) (x .state)
   claim-here z =
       record {
         cell = cellOf w;
@@ -170,17 +125,16 @@ module _ {g : Setup} {offsets targets marks : List ℕ} {b : ℕ} {work regs : L
         runs = runsOf w;
         is = like 7 z;
         graph-is = x .here .graph-is;
-        marks-are = x .here .marks-are;
       }
 
   -- the same state, with what is known of the worker
-  abbrev pub told : {P : Graph → State → Type 0} → P (x .graph) (x .state) → Ready P g (memory work regs p)
+  abbrev pub told : {P : Graph → State → Type 0} → P (x .graph) (x .state) → Ready P g (memory marks work regs p)
   told h = record { graph = x .graph; state = x .state; scene = x .scene; holds = x .holds; here = h }
 
   -- with any other status nothing changes
   pub holds-quiet : blockAt regs b .status ≢ 0 → blockAt regs b .status ≢ 2 → blockAt regs b .status ≢ 4 → blockAt regs b .status ≢ 5
       → blockAt regs b .status ≢ 6 → blockAt regs b .status ≢ 7 → (v : ℕ)
-      → Holds (x .graph) g (turned g b v (x .graph) (x .state)) (memory work regs p)
+      → Holds (x .graph) g (turned g b v (x .graph) (x .state)) (memory marks work regs p)
   holds-quiet n₀ n₂ n₄ n₅ n₆ n₇ v = rw (turn-as g b v (x .graph) (x .state) refl ∙ quiet w status) (x .holds)
     where
       quiet : (w : Worker) → blockAt regs b .status ≡ statusOf w → workerTurn w (x .graph) (settingOf g) (x .state) b v ≡ x .state

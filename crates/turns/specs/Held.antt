@@ -18,14 +18,15 @@ use Rattle.turns.specs.declared.Setup.{Setup}
 use Rattle.turns.specs.declared.Progress.{Progress}
 use Rattle.turns.specs.Counting.{carries?, running?}
 
--- what is lent and changed by turns, but for the marks, and what is kept by value
+-- what is lent and changed by turns, and what is kept by value
 pub record Memory : Type 0 where
+  pub marks : List ℕ
   pub work : List ℕ
   pub regs : List ℕ
   pub progress : Progress
 
-abbrev pub memory : List ℕ → List ℕ → Progress → Memory
-memory work regs p = record { work = work; regs = regs; progress = p }
+abbrev pub memory : List ℕ → List ℕ → List ℕ → Progress → Memory
+memory marks work regs p = record { marks = marks; work = work; regs = regs; progress = p }
 
 -- D and K
 abbrev pub settingOf : Setup → Setting
@@ -85,8 +86,9 @@ BlockIs G (busy c n p rs) r s = BusyIs G c n p rs r s
 abbrev pub Each : Graph → ℕ → ℕ → List Worker → List ℕ → List ℕ → Type 0
 Each G W L ws regs work = (b : ℕ) → b < W → BlockIs G (getD ws b ended) (blockAt regs b) (stretchAt L b work)
 
--- the state but for its marks
+-- the memories hold the state
 pub record Holds (G : Graph) (g : Setup) (s : State) (μ : Memory) : Type 0 where
+  pub marks-are : μ .marks ≡ s .marks
   pub counts-are : μ .progress .counts ≡ s .counts
   pub carrying-is : μ .progress .carrying ≡ sum carries? (s .workers)
   pub running-is : μ .progress .running ≡ sum running? (s .workers)

@@ -35,10 +35,6 @@ Does P g b v μ μ′ = (x : Ready P g μ) → Holds (x .graph) g (turned g b v 
 abbrev pub DoesAny : (P : Graph → State → Type 0) → Setup → ℕ → Memory → Memory → Type 0
 DoesAny P g b μ μ′ = (v : ℕ) → Does P g b v μ μ′
 
--- the marks afterwards are that state's
-abbrev pub Marks : (P : Graph → State → Type 0) → Setup → ℕ → ℕ → Memory → List ℕ → Type 0
-Marks P g b v μ marks′ = (x : Ready P g μ) → marks′ ≡ turned g b v (x .graph) (x .state) .marks
-
 -- ---- what a function is told of worker b
 
 abbrev pub IsIdle : ℕ → Graph → State → Type 0
@@ -64,28 +60,27 @@ pub record IsAsked (g : Setup) (t : Bool) (b : ℕ) (G : Graph) (s : State) : Ty
   pub is : worker s b ≡ busy (from asker) since poll runs
   pub answers : shares (g .cutoff) since (carried runs) ≡ t
 
--- it looks at its first reference; targets and marks are the graph's and the state's
-pub record IsLooking (targets marks : List ℕ) (b : ℕ) (G : Graph) (s : State) : Type 0 where
+-- it looks at its first reference
+pub record IsLooking (targets : List ℕ) (b : ℕ) (G : Graph) (s : State) : Type 0 where
   pub cell : Cell
   pub since : ℕ
   pub left : ℕ
   pub runs : List Run
   pub is : worker s b ≡ busy cell since (look left) runs
   pub targets-are : targets ≡ G .targets
-  pub marks-are : marks ≡ s .marks
 
 -- it claims the target of that reference
-pub record IsClaiming (offsets targets marks : List ℕ) (b : ℕ) (G : Graph) (s : State) : Type 0 where
+pub record IsClaiming (offsets targets : List ℕ) (b : ℕ) (G : Graph) (s : State) : Type 0 where
   pub cell : Cell
   pub since : ℕ
   pub left : ℕ
   pub runs : List Run
   pub is : worker s b ≡ busy cell since (claim left) runs
   pub graph-is : G ≡ graph offsets targets
-  pub marks-are : marks ≡ s .marks
 
--- it follows that reference, at whose target `found` is what opens: a run from f to e, if any, and so many new marks
-pub record IsFollowing (g : Setup) (targets : List ℕ) (o : Opened) (b : ℕ) (G : Graph) (s : State) : Type 0 where
+-- it follows that reference, at whose target `found` is what opens: a run from f to e, if any, and so many new marks; the
+-- marks are these then
+pub record IsFollowing (g : Setup) (targets marks : List ℕ) (o : Opened) (b : ℕ) (G : Graph) (s : State) : Type 0 where
   pub cell : Cell
   pub since : ℕ
   pub phase : Phase
@@ -101,13 +96,13 @@ pub record IsFollowing (g : Setup) (targets : List ℕ) (o : Opened) (b : ℕ) (
   pub opened-is : found .opened ≡ runFrom (o .first) (o .end - o .first)
   pub won-is : o .won ≡ found .won
   pub won-limit : o .won ≤ 1
+  pub marks-are : marks ≡ found .marks
   pub turn-is : (v : ℕ) → turned g b v G s ≡ follows s b cell since left found (onwardRuns first more (found .opened) below)
   pub targets-are : targets ≡ G .targets
 
 -- any worker below W, on what is lent
-pub record IsLent (g : Setup) (offsets targets marks : List ℕ) (b : ℕ) (G : Graph) (s : State) : Type 0 where
+pub record IsLent (g : Setup) (offsets targets : List ℕ) (b : ℕ) (G : Graph) (s : State) : Type 0 where
   pub graph-is : G ≡ graph offsets targets
-  pub marks-are : marks ≡ s .marks
   pub low : b < g .workers
 
 -- ---- a hand-over in the work memory

@@ -13,7 +13,7 @@ ghost use Rattle.machine.specs.Machine.{claimMark};
 ghost use Rattle.worker.specs.Registers.{blockAt};
 ghost use Rattle.turns.specs.Claiming.{openedNone, openedAt, claimedMarks, nextWord, Advancing, advancedBlock, takenBlock};
 ghost use Rattle.turns.specs.Held.{memory};
-ghost use Rattle.turns.specs.Turned.{Ready, DoesAny, Marks, IsGiven, IsLooking, IsClaiming, IsFollowing};
+ghost use Rattle.turns.specs.Turned.{Ready, DoesAny, IsGiven, IsLooking, IsClaiming, IsFollowing};
 
 // What is found at a target: how many marks are new, and the run that opens, from `first` to `end`.
 pub struct Opened {
@@ -118,10 +118,10 @@ fn follow(
     c: Opened,
 ) -> Progress
     requires { ⌜ r ≡ blockAt (now regs) b ⌝ }
-    requires { ⌜ Ready (IsFollowing setup (now targets) c b) setup (memory (now work) (now regs) p) ⌝ }
-    ensures { λ q. ⌜ DoesAny (IsFollowing setup (now (targets .entry)) c b) setup b
-        (memory (now (work .entry)) (now (regs .entry)) p)
-        (memory (now (work .exit)) (now (regs .exit)) q) ⌝ }
+    requires { ⌜ ((marks : List ℕ) × ((marks′ : List ℕ) × Ready (IsFollowing setup (now targets) marks′ c b) setup (memory marks (now work) (now regs) p))) ⌝ }
+    ensures { λ q. ⌜ ((marks marks′ : List ℕ) → DoesAny (IsFollowing setup (now (targets .entry)) marks′ c b) setup b
+        (memory marks (now (work .entry)) (now (regs .entry)) p)
+        (memory marks′ (now (work .exit)) (now (regs .exit)) q)) ⌝ }
 {
     let len = setup.stretch;
     let from = b as usize * len;
@@ -176,10 +176,10 @@ pub fn look(
     p: Progress,
     b: u32,
 ) -> Progress
-    requires { ⌜ Ready (IsLooking (now targets) (now marks) b) setup (memory (now work) (now regs) p) ⌝ }
-    ensures { λ q. ⌜ DoesAny (IsLooking (now (targets .entry)) (now (marks .entry)) b) setup b
-        (memory (now (work .entry)) (now (regs .entry)) p)
-        (memory (now (work .exit)) (now (regs .exit)) q) ⌝ }
+    requires { ⌜ Ready (IsLooking (now targets) b) setup (memory (now marks) (now work) (now regs) p) ⌝ }
+    ensures { λ q. ⌜ DoesAny (IsLooking (now (targets .entry)) b) setup b
+        (memory (now (marks .entry)) (now (work .entry)) (now (regs .entry)) p)
+        (memory (now (marks .entry)) (now (work .exit)) (now (regs .exit)) q) ⌝ }
 {
     let r = registers::load(regs, b);
     let t = r.target as usize;
@@ -202,12 +202,10 @@ pub fn claim(
     p: Progress,
     b: u32,
 ) -> Progress
-    requires { ⌜ Ready (IsClaiming (now offsets) (now targets) (now marks) b) setup (memory (now work) (now regs) p) ⌝ }
-    ensures { λ q. ⌜ DoesAny (IsClaiming (now (offsets .entry)) (now (targets .entry)) (now (marks .entry)) b) setup b
-        (memory (now (work .entry)) (now (regs .entry)) p)
-        (memory (now (work .exit)) (now (regs .exit)) q) ⌝ }
-    ensures { λ _. ⌜ ((v : ℕ) → Marks (IsClaiming (now (offsets .entry)) (now (targets .entry)) (now (marks .entry)) b) setup b v
-        (memory (now (work .entry)) (now (regs .entry)) p) (now (marks .exit))) ⌝ }
+    requires { ⌜ Ready (IsClaiming (now offsets) (now targets) b) setup (memory (now marks) (now work) (now regs) p) ⌝ }
+    ensures { λ q. ⌜ DoesAny (IsClaiming (now (offsets .entry)) (now (targets .entry)) b) setup b
+        (memory (now (marks .entry)) (now (work .entry)) (now (regs .entry)) p)
+        (memory (now (marks .exit)) (now (work .exit)) (now (regs .exit)) q) ⌝ }
 {
     let r = registers::load(regs, b);
     let found = claim_target(offsets, marks, b, r.target);
@@ -216,10 +214,10 @@ pub fn claim(
 
 // An asker takes the hand-over up that it is owed.
 pub fn take_up(targets: &[u32], setup: Setup, regs: &mut [u32], p: Progress, b: u32) -> Progress
-    requires { ⌜ ((work : List ℕ) × Ready (IsGiven (now targets) b) setup (memory work (now regs) p)) ⌝ }
-    ensures { λ q. ⌜ ((work : List ℕ) → DoesAny (IsGiven (now (targets .entry)) b) setup b
-        (memory work (now (regs .entry)) p)
-        (memory work (now (regs .exit)) q)) ⌝ }
+    requires { ⌜ ((marks : List ℕ) × ((work : List ℕ) × Ready (IsGiven (now targets) b) setup (memory marks work (now regs) p))) ⌝ }
+    ensures { λ q. ⌜ ((marks work : List ℕ) → DoesAny (IsGiven (now (targets .entry)) b) setup b
+        (memory marks work (now (regs .entry)) p)
+        (memory marks work (now (regs .exit)) q)) ⌝ }
 {
     let r = registers::load(regs, b);
     let first = r.first as usize;

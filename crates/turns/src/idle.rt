@@ -10,8 +10,10 @@ ghost use Rattle.turns.specs.Turned.{Ready, Does, IsIdle};
 // The worker ends if nobody carries anything. Else it asks the named worker, if that is busy and its
 // cell is empty.
 pub fn idle_turn(setup: Setup, regs: &mut [u32], p: Progress, b: u32, v: u32) -> Progress
-    requires { ⌜ ((work : List ℕ) × Ready (IsIdle b) setup (memory work (now regs) p)) ⌝ }
-    ensures { λ r. ⌜ ((work : List ℕ) → Does (IsIdle b) setup b v (memory work (now (regs .entry)) p) (memory work (now (regs .exit)) r)) ⌝ }
+    requires { ⌜ ((marks : List ℕ) × ((work : List ℕ) × Ready (IsIdle b) setup (memory marks work (now regs) p))) ⌝ }
+    ensures { λ r. ⌜ ((marks work : List ℕ) → Does (IsIdle b) setup b v
+        (memory marks work (now (regs .entry)) p)
+        (memory marks work (now (regs .exit)) r)) ⌝ }
 {
     let carrying = p.carrying;
     if carrying == 0 {

@@ -10,7 +10,7 @@ ghost use Prim.Native.Nat.{_≤_};
 ghost use Rattle.machine.specs.Row.{Roomy};
 ghost use Rattle.turns.specs.Counting.{movedOn};
 ghost use Rattle.turns.specs.Held.{memory};
-ghost use Rattle.turns.specs.Turned.{Ready, Does, Marks, IsLent};
+ghost use Rattle.turns.specs.Turned.{Ready, Does, IsLent};
 
 // W, D, K and the length of a stretch.
 pub struct Setup {
@@ -53,12 +53,10 @@ pub fn turn(
     b: u32,
     v: u32,
 ) -> Progress
-    requires { ⌜ Ready (IsLent setup (now offsets) (now targets) (now marks) b) setup (memory (now work) (now regs) p) ⌝ }
-    ensures { λ r. ⌜ Does (IsLent setup (now (offsets .entry)) (now (targets .entry)) (now (marks .entry)) b) setup b v
-        (memory (now (work .entry)) (now (regs .entry)) p)
-        (memory (now (work .exit)) (now (regs .exit)) r) ⌝ }
-    ensures { λ _. ⌜ Marks (IsLent setup (now (offsets .entry)) (now (targets .entry)) (now (marks .entry)) b) setup b v
-        (memory (now (work .entry)) (now (regs .entry)) p) (now (marks .exit)) ⌝ }
+    requires { ⌜ Ready (IsLent setup (now offsets) (now targets) b) setup (memory (now marks) (now work) (now regs) p) ⌝ }
+    ensures { λ r. ⌜ Does (IsLent setup (now (offsets .entry)) (now (targets .entry)) b) setup b v
+        (memory (now (marks .entry)) (now (work .entry)) (now (regs .entry)) p)
+        (memory (now (marks .exit)) (now (work .exit)) (now (regs .exit)) r) ⌝ }
 {
     let r = registers::load(regs, b);
     let status = r.status;

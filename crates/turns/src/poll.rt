@@ -121,10 +121,10 @@ fn share(
     r: Block,
 ) -> Progress
     requires { ⌜ r ≡ blockAt (now regs) b ⌝ }
-    requires { ⌜ Ready (IsAsked setup true b) setup (memory (now work) (now regs) p) ⌝ }
-    ensures { λ q. ⌜ DoesAny (IsAsked setup true b) setup b
-        (memory (now (work .entry)) (now (regs .entry)) p)
-        (memory (now (work .exit)) (now (regs .exit)) q) ⌝ }
+    requires { ⌜ ((marks : List ℕ) × Ready (IsAsked setup true b) setup (memory marks (now work) (now regs) p)) ⌝ }
+    ensures { λ q. ⌜ ((marks : List ℕ) → DoesAny (IsAsked setup true b) setup b
+        (memory marks (now (work .entry)) (now (regs .entry)) p)
+        (memory marks (now (work .exit)) (now (regs .exit)) q)) ⌝ }
 {
     let asker = r.cell - 1;
     let carried = r.carried;
@@ -165,10 +165,10 @@ fn batched(r: Block, batch: u32) -> Block
 // The asker is answered no.
 fn refuse(setup: Setup, regs: &mut [u32], p: Progress, b: u32, r: Block) -> Progress
     requires { ⌜ r ≡ blockAt (now regs) b ⌝ }
-    requires { ⌜ ((work : List ℕ) × Ready (IsAsked setup false b) setup (memory work (now regs) p)) ⌝ }
-    ensures { λ q. ⌜ ((work : List ℕ) → DoesAny (IsAsked setup false b) setup b
-        (memory work (now (regs .entry)) p)
-        (memory work (now (regs .exit)) q)) ⌝ }
+    requires { ⌜ ((marks : List ℕ) × ((work : List ℕ) × Ready (IsAsked setup false b) setup (memory marks work (now regs) p))) ⌝ }
+    ensures { λ q. ⌜ ((marks work : List ℕ) → DoesAny (IsAsked setup false b) setup b
+        (memory marks work (now (regs .entry)) p)
+        (memory marks work (now (regs .exit)) q)) ⌝ }
 {
     registers::store(regs, b, batched(r, setup.batch));
     registers::put(regs, r.cell - 1, registers::STATUS, registers::DENIED);
@@ -191,10 +191,10 @@ fn shares(cutoff: u32, since: u32, carried: u32) -> bool
 
 // The cell empties, its asker is answered, and a batch begins.
 pub fn poll(setup: Setup, work: &mut [u32], regs: &mut [u32], p: Progress, b: u32) -> Progress
-    requires { ⌜ Ready (IsPolling b) setup (memory (now work) (now regs) p) ⌝ }
-    ensures { λ q. ⌜ DoesAny (IsPolling b) setup b
-        (memory (now (work .entry)) (now (regs .entry)) p)
-        (memory (now (work .exit)) (now (regs .exit)) q) ⌝ }
+    requires { ⌜ ((marks : List ℕ) × Ready (IsPolling b) setup (memory marks (now work) (now regs) p)) ⌝ }
+    ensures { λ q. ⌜ ((marks : List ℕ) → DoesAny (IsPolling b) setup b
+        (memory marks (now (work .entry)) (now (regs .entry)) p)
+        (memory marks (now (work .exit)) (now (regs .exit)) q)) ⌝ }
 {
     let r = registers::load(regs, b);
     let cell = r.cell;

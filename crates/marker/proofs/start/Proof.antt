@@ -1,7 +1,7 @@
 -- The index is marked among zeros; where it has references, worker 0's block tells of them.
 use mathlib.Core.Path.{refl}
 use native.Mathlib.Omega.{arith}
-use Rattle.marker.proofs.Begin.{index-low, first-inside, begin-marks, begin-none, first-room, begin-some}
+use Rattle.marker.proofs.Begin.{index-low, first-inside, begin-none, first-room, begin-some}
 use borrow.Author.Needs.{needs}
 use Rattle.marker.proofs.start.Statement.{statement}
 use Rattle.marker.proofs.start.Tie as tie
@@ -26,11 +26,7 @@ returns c =
     let at-fresh = c .before in
     let at-clear-marks = at-fresh .before .before .before .before .before in
     let start = at-clear-marks .before .before .before .before .before .before in
-    rw (at-fresh .fresh .ensures)
-    (record {
-      marks-are = begin-marks (start .pre) _ (at-clear-marks .clear-marks .ensures);
-      holds = begin-none (start .pre) (c .if1 .taken);
-    })
+    rw (at-fresh .fresh .ensures) (begin-none (start .pre) (c .if1 .taken) _ (at-clear-marks .clear-marks .ensures))
 
 cast-t15 : tie.Need-cast-t15
 cast-t15 c =
@@ -63,10 +59,7 @@ returns-2 c =
     let at-clear-marks = at-fresh .before .before .before .before .before in
     let start = at-clear-marks .before .before .before .before .before .before in
     rw (at-fresh .fresh .ensures)
-    (record {
-      marks-are = begin-marks (start .pre) _ (at-clear-marks .clear-marks .ensures);
-      holds = begin-some (start .pre) _ _ refl refl (at-if1 .if1 .left) _ (at-store .store .ensures);
-    })
+    (begin-some (start .pre) _ _ refl refl (at-if1 .if1 .left) _ (at-store .store .ensures) _ (at-clear-marks .clear-marks .ensures))
 
 pub start-spec : {M : Type 1} → statement M
 start-spec =

@@ -14,7 +14,7 @@ abbrev Inv-loop : tie.InvT-loop
 Inv-loop offsets targets setup schedule marks₀ work₀ regs₀ p₀ i₀ marks work regs p i =
     (i ≤ length schedule)
     × (((length marks ≡ length marks₀) × ((length work ≡ length work₀) × (length regs ≡ length regs₀)))
-    × ((x : Ready (IsBegun setup offsets targets schedule marks₀) setup (memory work₀ regs₀ p₀)) → LoopAt x i marks (memory work regs p)))
+    × ((x : Ready (IsBegun setup offsets targets schedule) setup (memory marks₀ work₀ regs₀ p₀)) → LoopAt x i (memory marks work regs p)))
 
 abbrev μ-loop : tie.MeasureT-loop
 μ-loop offsets targets setup schedule marks₀ work₀ regs₀ p₀ i₀ marks work regs p i = length schedule - i
@@ -25,10 +25,7 @@ loop-holds c = (omega arith, ((refl, (refl, refl)), λ x. at-start x))
 returns : tie.Need-returns Inv-loop μ-loop
 returns c =
     let l = c .before .before .loop in
-    record {
-      holds = λ x. at-stop x (l .inv .1 .1 x) (c .if1 .taken) .0;
-      marks-are = λ x. at-stop x (l .inv .1 .1 x) (c .if1 .taken) .1;
-    }
+    λ x. at-stop x (l .inv .1 .1 x) (c .if1 .taken)
 
 cast-b : tie.Need-cast-b Inv-loop μ-loop
 cast-b c = omega (arith, c .shared-slice-known4 .given (c .before .before .before .loop .i))
@@ -68,17 +65,14 @@ loop-again c =
       omega (arith, at-pair x (l .inv .1 .1 x) (tested .loop-test .taken)),
       (
         (omega (arith, t .kept .1 .1 .1 .0), (omega (arith, t .kept .1 .1 .1 .1 .0), omega (arith, t .kept .1 .1 .1 .1 .1 .0))),
-        λ y. at-next y (l .inv .1 .1 y) (tested .loop-test .taken) (omega (arith, start .good)) (t .ensures .0) (t .ensures .1),
+        λ y. at-next y (l .inv .1 .1 y) (tested .loop-test .taken) (omega (arith, start .good)) (t .ensures),
       ),
     )
 
 returns-2 : tie.Need-returns-2 Inv-loop μ-loop
 returns-2 c =
     let l = c .before .loop in
-    record {
-      holds = λ x. at-end x (l .inv .1 .1 x) (omega arith) .0;
-      marks-are = λ x. at-end x (l .inv .1 .1 x) (omega arith) .1;
-    }
+    λ x. at-end x (l .inv .1 .1 x) (omega arith)
 
 pub take-turns-spec : {M : Type 1} → statement M
 take-turns-spec =

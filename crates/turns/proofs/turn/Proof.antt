@@ -4,7 +4,7 @@ use mathlib.Core.Path.{ap, _∙_}
 use Rattle.worker.specs.declared.registers.Block.{Block}
 use Rattle.turns.proofs.Bounds.{block-room, roomy}
 use Rattle.turns.proofs.Asking.{holds-woken}
-use Rattle.turns.proofs.Statuses.{told, idle-here, denied-here, given-here, poll-here, look-here, claim-here, same-marks, holds-quiet}
+use Rattle.turns.proofs.Statuses.{told, idle-here, denied-here, given-here, poll-here, look-here, claim-here, holds-quiet}
 use borrow.Author.Needs.{needs}
 use Rattle.turns.proofs.turn.Statement.{statement}
 use Rattle.turns.proofs.turn.Tie as tie
@@ -25,7 +25,7 @@ idle-turn-requires c κs =
     let at-load = at-match .before in
     let start = entry at-load in
     let z = rw (at-load .load .ensures) at (at-match .match .keys1) in
-    (start .args .work .now, told (start .pre) (idle-here (start .pre) z))
+    (start .args .marks .now, (start .args .work .now, told (start .pre) (idle-here (start .pre) z)))
 
 put-requires : tie.Need-put-requires
 put-requires c κs =
@@ -45,7 +45,7 @@ take-up-requires c κs =
     let at-load = at-match .before in
     let start = entry at-load in
     let z = rw (at-load .load .ensures) at (at-match .match .keys3) in
-    (start .args .work .now, told (start .pre) (given-here (start .pre) z))
+    (start .args .marks .now, (start .args .work .now, told (start .pre) (given-here (start .pre) z)))
 
 poll-requires : tie.Need-poll-requires
 poll-requires c κs =
@@ -53,7 +53,7 @@ poll-requires c κs =
     let at-load = at-match .before in
     let start = entry at-load in
     let z = rw (at-load .load .ensures) at (at-match .match .keys4) in
-    told (start .pre) (poll-here (start .pre) z)
+    (start .args .marks .now, told (start .pre) (poll-here (start .pre) z))
 
 look-requires : tie.Need-look-requires
 look-requires c κs =
@@ -76,9 +76,8 @@ returns c =
     let at-idle-turn = c .before .before in
     let at-match = at-idle-turn .before .before in
     let at-load = at-match .before in
-    let start = entry at-load in
     let z = rw (at-load .load .ensures) at (at-match .match .keys1) in
-    (λ x. at-idle-turn .idle-turn .ensures _ (told x (idle-here x z)), λ x. same-marks x (λ e. omega (arith, e, z)) (start .args .v))
+    λ x. at-idle-turn .idle-turn .ensures _ _ (told x (idle-here x z))
 
 returns-2 : tie.Need-returns-2
 returns-2 c =
@@ -87,10 +86,8 @@ returns-2 c =
     let at-load = at-match .before in
     let start = entry at-load in
     let z = rw (at-load .load .ensures) at (at-match .match .keys2) in
-    let a = start .args in (
-      λ x. rw (at-put .put .ensures, c .moved .ensures) (holds-woken (x .scene) (x .holds) (a .b) (a .v) (denied-here x z)),
-      λ x. same-marks x (λ e. omega (arith, e, z)) (a .v),
-    )
+    let a = start .args in
+    λ x. rw (at-put .put .ensures, c .moved .ensures) (holds-woken (x .scene) (x .holds) (a .b) (a .v) (denied-here x z))
 
 returns-3 : tie.Need-returns-3
 returns-3 c =
@@ -100,7 +97,7 @@ returns-3 c =
     let start = entry at-load in
     let z = rw (at-load .load .ensures) at (at-match .match .keys3) in
     let v = start .args .v in
-    (λ x. at-take-up .take-up .ensures _ v (told x (given-here x z)), λ x. same-marks x (λ e. omega (arith, e, z)) v)
+    λ x. at-take-up .take-up .ensures _ _ v (told x (given-here x z))
 
 returns-4 : tie.Need-returns-4
 returns-4 c =
@@ -110,7 +107,7 @@ returns-4 c =
     let start = entry at-load in
     let z = rw (at-load .load .ensures) at (at-match .match .keys4) in
     let v = start .args .v in
-    (λ x. at-poll .poll .ensures v (told x (poll-here x z)), λ x. same-marks x (λ e. omega (arith, e, z)) v)
+    λ x. at-poll .poll .ensures _ v (told x (poll-here x z))
 
 returns-5 : tie.Need-returns-5
 returns-5 c =
@@ -120,7 +117,7 @@ returns-5 c =
     let start = entry at-load in
     let z = rw (at-load .load .ensures) at (at-match .match .keys5) in
     let v = start .args .v in
-    (λ x. at-look .look .ensures v (told x (look-here x z)), λ x. same-marks x (λ e. omega (arith, e, z)) v)
+    λ x. at-look .look .ensures v (told x (look-here x z))
 
 returns-6 : tie.Need-returns-6
 returns-6 c =
@@ -130,7 +127,7 @@ returns-6 c =
     let start = entry at-load in
     let z = rw (at-load .load .ensures) at (at-match .match .keys6) in
     let v = start .args .v in
-    (λ x. at-claim .claim .ensures .0 v (told x (claim-here x z)), λ x. at-claim .claim .ensures .1 v (told x (claim-here x z)))
+    λ x. at-claim .claim .ensures v (told x (claim-here x z))
 
 returns-7 : tie.Need-returns-7
 returns-7 c =
@@ -138,10 +135,8 @@ returns-7 c =
     let start = entry at-load in
     let n = c .match .rest in
     let e = ap (λ (r : Block). r .status) (at-load .load .ensures) in
-    let v = start .args .v in (
-      λ x. holds-quiet x (λ z. n .0 .0 .0 .0 .0 .1 (e ∙ z)) (λ z. n .0 .0 .0 .0 .1 (e ∙ z)) (λ z. n .0 .0 .0 .1 (e ∙ z)) (λ z. n .0 .0 .1 (e ∙ z)) (λ z. n .0 .1 (e ∙ z)) (λ z. n .1 (e ∙ z)) v,
-      λ x. same-marks x (λ z. n .1 (e ∙ z)) v,
-    )
+    let v = start .args .v in
+    λ x. holds-quiet x (λ z. n .0 .0 .0 .0 .0 .1 (e ∙ z)) (λ z. n .0 .0 .0 .0 .1 (e ∙ z)) (λ z. n .0 .0 .0 .1 (e ∙ z)) (λ z. n .0 .0 .1 (e ∙ z)) (λ z. n .0 .1 (e ∙ z)) (λ z. n .1 (e ∙ z)) v
 
 pub turn-spec : {M : Type 1} → statement M
 turn-spec =

@@ -1,6 +1,8 @@
 -- `claim`: what is found at the target, and then following.
+use Rattle.worker.specs.Registers.{blockAt}
+use Rattle.turns.specs.Claiming.{claimedMarks}
 use Rattle.turns.proofs.Bounds.{block-room}
-use Rattle.turns.proofs.Looking.{claim-low, claim-there, claimed, marks-claimed}
+use Rattle.turns.proofs.Looking.{claim-low, claim-there, claimed}
 use borrow.Author.Needs.{needs}
 use Rattle.turns.proofs.follow.claim.Statement.{statement}
 use Rattle.turns.proofs.follow.claim.Tie as tie
@@ -22,7 +24,9 @@ follow-requires c κs =
     let at-claim-target = c .before .before .before .before in
     let at-load = at-claim-target .before .before in
     let start = at-load .before .before .before .before .before .before .before in
-    (at-load .load .ensures, rw (at-claim-target .claim-target .ensures .0, at-load .load .ensures) (claimed (start .pre)))
+    let a = start .args in
+    let marks′ = claimedMarks (a .marks .now) (a .b) (blockAt (a .regs .now) (a .b) .target) in
+    (at-load .load .ensures, (a .marks .now, (marks′, rw (at-claim-target .claim-target .ensures .0, at-load .load .ensures) (claimed (start .pre)))))
 
 returns : tie.Need-returns
 returns c =
@@ -30,7 +34,7 @@ returns c =
     let at-claim-target = at-follow .before .before .before .before .before in
     let at-load = at-claim-target .before .before in
     let d = rw (at-claim-target .claim-target .ensures .0, at-load .load .ensures) at (at-follow .follow .ensures) in
-    (λ v x. d v (claimed x), λ v x. rw (at-claim-target .claim-target .ensures .1, at-load .load .ensures) (marks-claimed x v))
+    λ v x. rw (at-claim-target .claim-target .ensures .1, at-load .load .ensures) (d _ _ v (claimed x))
 
 pub claim-spec : {M : Type 1} → statement M
 claim-spec =

@@ -24,7 +24,7 @@ follow-requires c κs =
     let at-load = at-if1 .before .before .before in
     let start = at-load .before .before .before .before .before .before in
     let n = rw (at-load .load .ensures) at (at-if1 .if1 .taken) in
-    (at-load .load .ensures, rw (c .lost .ensures) (seen (start .pre) n))
+    (at-load .load .ensures, (start .args .marks .now, (start .args .marks .now, rw (c .lost .ensures) (seen (start .pre) n))))
 
 returns : tie.Need-returns
 returns c =
@@ -34,7 +34,7 @@ returns c =
     let at-load = at-if1 .before .before .before in
     let n = rw (at-load .load .ensures) at (at-if1 .if1 .taken) in
     let d = rw (at-lost .lost .ensures) at (at-follow .follow .ensures) in
-    λ v x. d v (seen x n)
+    λ v x. d _ _ v (seen x n)
 
 put-requires : tie.Need-put-requires
 put-requires c κs =

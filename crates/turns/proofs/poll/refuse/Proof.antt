@@ -11,20 +11,20 @@ use Rattle.turns.proofs.poll.refuse.Tie as tie
 store-requires : tie.Need-store-requires
 store-requires c κs =
     let start = c .before .before .before in
-    let x = start .pre .1 .1 in
+    let x = start .pre .1 .1 .1 in
     block-room (x .scene) (x .holds) (start .args .b) (poll-low (x .scene) (x .holds) (start .args .b) (x .here .is))
 
 sub-put : tie.Need-sub-put
 sub-put c =
     let start = c .before .before .before .before .before .before .before .before in
-    let x = start .pre .1 .1 in
+    let x = start .pre .1 .1 .1 in
     omega (arith, ap (λ (r : Block). r .cell) (start .pre .0), asker-word (x .scene) (x .holds) (start .args .b) (x .here .is))
 
 put-requires : tie.Need-put-requires
 put-requires c κs =
     let at-store = c .before .before .before .before in
     let start = at-store .before .before .before .before in
-    let x = start .pre .1 .1 in
+    let x = start .pre .1 .1 .1 in
     let i = asker-word (x .scene) (x .holds) (start .args .b) (x .here .is) in
     let r = block-room (x .scene) (x .holds) (x .here .asker) (asker-low (x .scene) (x .holds) (start .args .b) (x .here .is)) in
     let e = ap (λ (r : Block). r .cell) (start .pre .0) in
@@ -33,7 +33,7 @@ put-requires c κs =
 moved-requires : tie.Need-moved-requires
 moved-requires c κs =
     let start = c .before .before .before .before .before .before .before .before .before .before .before in
-    let x = start .pre .1 .1 in
+    let x = start .pre .1 .1 .1 in
     (roomy (x .scene) (x .holds), omega arith)
 
 returns : tie.Need-returns
@@ -42,7 +42,7 @@ returns c =
     let at-store = at-put .before .before .before .before .before in
     let at-batched = at-store .before in
     let start = at-batched .before .before .before in
-    λ work v x.
+    λ marks work v x.
     rw (at-put .put .ensures, at-store .store .ensures, at-batched .batched .ensures, start .pre .0, c .moved .ensures)
     (holds-refused (x .scene) (x .holds) (start .args .b) (x .here .is) (x .here .answers) v)
 

@@ -13,13 +13,13 @@ use Rattle.turns.proofs.poll.share.Tie as tie
 sub-asker : tie.Need-sub-asker
 sub-asker c =
     let start = c .before .before .before in
-    let x = start .pre .1 in
+    let x = start .pre .1 .1 in
     omega (arith, ap (λ (r : Block). r .cell) (start .pre .0), asker-word (x .scene) (x .holds) (start .args .b) (x .here .is))
 
 add-half : tie.Need-add-half
 add-half c =
     let start = c .before .before .before in
-    let x = start .pre .1 in
+    let x = start .pre .1 .1 in
     let n = ap (λ (r : Block). r .carried) (start .pre .0) in
     omega (
       arith,
@@ -32,20 +32,20 @@ add-half c =
 divide-requires : tie.Need-divide-requires
 divide-requires c κs =
     let start = c .before .before .before .before in
-    let x = start .pre .1 in
+    let x = start .pre .1 .1 in
     rw (start .pre .0) (dividing-words (x .scene) (x .holds) (start .args .b) (x .here .is) (x .here .answers))
 
 store-requires : tie.Need-store-requires
 store-requires c κs =
     let start = c .before .before .before .before .before .before .before .before .before in
-    let x = start .pre .1 in
+    let x = start .pre .1 .1 in
     block-room (x .scene) (x .holds) (start .args .b) (poll-low (x .scene) (x .holds) (start .args .b) (x .here .is))
 
 store-requires-2 : tie.Need-store-requires-2
 store-requires-2 c κs =
     let at-store = c .before .before .before .before in
     let start = at-store .before .before .before .before .before .before .before .before .before .before in
-    let x = start .pre .1 in
+    let x = start .pre .1 .1 in
     let i = asker-word (x .scene) (x .holds) (start .args .b) (x .here .is) in
     let r = block-room (x .scene) (x .holds) (x .here .asker) (asker-low (x .scene) (x .holds) (start .args .b) (x .here .is)) in
     let e = ap (λ (r : Block). r .cell) (start .pre .0) in
@@ -54,13 +54,13 @@ store-requires-2 c κs =
 count-move-requires : tie.Need-count-move-requires
 count-move-requires c κs =
     let start = c .before .before .before .before .before .before .before .before .before .before .before .before .before .before .before .before .before .before in
-    let x = start .pre .1 in
+    let x = start .pre .1 .1 in
     (roomy (x .scene) (x .holds), omega arith, omega arith)
 
 add-t13 : tie.Need-add-t13
 add-t13 c =
     let start = c .before .before .before .before .before .before .before .before .before .before .before .before .before .before .before .before .before .before .before .before in
-    let x = start .pre .1 in
+    let x = start .pre .1 .1 in
     omega (arith, carrying-limit (x .scene) (x .holds))
 
 returns : tie.Need-returns
@@ -73,7 +73,7 @@ returns c =
     let at-divide = at-shared .before .before .before .before in
     let start = at-divide .before .before .before .before .before in
     let d = rw (start .pre .0) at (at-divide .divide .ensures) in
-    λ v x.
+    λ marks v x.
     rw (at-store2 .store2 .ensures, at-store .store .ensures, at-shared .shared .ensures, at-given .given .ensures, at-count-move .count-move .ensures, start .pre .0)
     (holds-shared (x .scene) (x .holds) (start .args .b) (x .here .is) (x .here .answers) v _ _ _ d)
 
