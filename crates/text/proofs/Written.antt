@@ -1,5 +1,5 @@
 -- One text behind another, in a buffer of which every other byte stays.
-use mathlib.Core.Path.{_≡_, sym, ap, subst, _∙_}
+use mathlib.Core.Path.{_≡_, refl, sym, ap, subst, _∙_}
 use mathlib.Core.List.{List, [], _++_, append-assoc}
 use Prim.Native.Nat.{ℕ, _+_, _≤_}
 use native.Mathlib.Nat.{add-zero}
@@ -86,10 +86,10 @@ module _ {m : ℕ} {before mid t : List ℕ} {at end : ℕ} (p : PutIn m before 
 
 -- all bytes of s pasted
 pub pasted : {d out s : List ℕ} {at i : ℕ} → i ≡ length s → at + length s ≤ length d → out ≡ paste d at s i
-    → Put d at s out (at + i)
+    → Put d at s out (at + length s)
 pasted {d} {s = s} {at} e h p =
     record {
-      ends = ap (λ (k : ℕ). at + k) e;
-      fits = omega arith;
+      ends = refl;
+      fits = h;
       holds = p ∙ rw (e, take-length) (append-assoc (take at d) s (drop (at + length s) d));
     }

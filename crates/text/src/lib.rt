@@ -18,16 +18,15 @@ fn digits_of(v: u64) -> Digits
 {
     let mut bytes = [0u8; 20];
     let mut left = v;
-    let mut i: usize = 20;
-    while 0 < i {
-        i -= 1;
+    for k in 0..20 {
+        let i = 19 - k;
         bytes[i] = (48 + left % 10) as u8;
         if left < 10 {
             return Digits { bytes, from: i };
         }
         left = left / 10;
     }
-    Digits { bytes, from: i }
+    Digits { bytes, from: 0 }
 }
 
 // Writes some bytes.
@@ -35,12 +34,10 @@ pub fn put(out: &mut [u8], at: usize, s: &[u8]) -> usize
     requires { ⌜ at + length (now s) ≤ length (now out) ⌝ }
     ensures { λ r. ⌜ Put (now (out .entry)) at (now (s .entry)) (now (out .exit)) r ⌝ }
 {
-    let mut i: usize = 0;
-    while i < s.len() {
+    for i in 0..s.len() {
         out[at + i] = s[i];
-        i += 1;
     }
-    at + i
+    at + s.len()
 }
 
 // Writes a number.

@@ -11,10 +11,10 @@ use Rattle.text.proofs.put.Statement.{statement}
 use Rattle.text.proofs.put.Tie as tie
 
 abbrev Inv-loop : tie.InvT-loop
-Inv-loop out₀ at s i₀ out i = (i ≤ length s) × ((length out ≡ length out₀) × (out ≡ paste out₀ at s i))
+Inv-loop out₀ at s i₀ i-end out i = (i ≤ length s) × ((length out ≡ length out₀) × (out ≡ paste out₀ at s i))
 
 abbrev μ-loop : tie.MeasureT-loop
-μ-loop out₀ at s i₀ out i = length s - i
+μ-loop out₀ at s i₀ i-end out i = length s - i
 
 loop-holds : tie.Need-loop-holds Inv-loop μ-loop
 loop-holds c = (omega arith, (refl, paste-zero (c .args .out .now) (c .args .at) (c .args .s .now)))
