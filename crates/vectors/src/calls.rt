@@ -17,50 +17,67 @@ fn part<'a>(cells: &'a [u64], places: &[usize; 512], list: u8) -> &'a [u64] {
     &cells[start..end]
 }
 
-// Copies a list, as far as there is room; how many.
+// Stores a number at a place, if there is such a place.
+fn put_byte(to: &mut [u8], i: usize, value: u64) {
+    if i < to.len() {
+        to[i] = (value % 256) as u8;
+    }
+}
+
+fn put_word(to: &mut [u32], i: usize, value: u64) {
+    if i < to.len() {
+        to[i] = (value % 4294967296) as u32;
+    }
+}
+
+fn put_long(to: &mut [u64], i: usize, value: u64) {
+    if i < to.len() {
+        to[i] = value;
+    }
+}
+
+// How many numbers of a list were copied to each.
+struct Copied {
+    bytes: usize,
+    words: usize,
+    longs: usize,
+}
+
+// Copies a list to each of these, as far as there is room.
+fn copy(from: &[u64], bytes: &mut [u8], words: &mut [u32], longs: &mut [u64]) -> Copied
+    ensures { λ r. ⌜ Counts (r .bytes) (now (bytes .exit)) ⌝ }
+    ensures { λ r. ⌜ Counts (r .words) (now (words .exit)) ⌝ }
+    ensures { λ r. ⌜ Counts (r .longs) (now (longs .exit)) ⌝ }
+{
+    for i in 0..from.len() {
+        put_byte(bytes, i, from[i]);
+        put_word(words, i, from[i]);
+        put_long(longs, i, from[i]);
+    }
+    Copied {
+        bytes: least(from.len(), bytes.len()),
+        words: least(from.len(), words.len()),
+        longs: least(from.len(), longs.len()),
+    }
+}
+
+// Copies a list to one buffer; how many.
 fn copy_bytes(cells: &[u64], places: &[usize; 512], list: u8, to: &mut [u8]) -> usize
     ensures { λ r. ⌜ Counts r (now (to .exit)) ⌝ }
 {
-    let from = part(cells, places, list);
-    let mut i: usize = 0;
-    while i < from.len() {
-        if to.len() <= i {
-            return i;
-        }
-        to[i] = (from[i] % 256) as u8;
-        i += 1;
-    }
-    i
+    copy(part(cells, places, list), to, &mut [], &mut []).bytes
 }
 
 fn copy_words(cells: &[u64], places: &[usize; 512], list: u8, to: &mut [u32]) -> usize
     ensures { λ r. ⌜ Counts r (now (to .exit)) ⌝ }
 {
-    let from = part(cells, places, list);
-    let mut i: usize = 0;
-    while i < from.len() {
-        if to.len() <= i {
-            return i;
-        }
-        to[i] = (from[i] % 4294967296) as u32;
-        i += 1;
-    }
-    i
+    copy(part(cells, places, list), &mut [], to, &mut []).words
 }
 
 fn copy_longs(cells: &[u64], places: &[usize; 512], list: u8, to: &mut [u64]) -> usize
     ensures { λ r. ⌜ Counts r (now (to .exit)) ⌝ }
 {
-    let from = part(cells, places, list);
-    let mut i: usize = 0;
-    while i < from.len() {
-        if to.len() <= i {
-            return i;
-        }
-        to[i] = from[i];
-        i += 1;
-    }
-    i
+    copy(part(cells, places, list), &mut [], &mut [], to).longs
 }
 
 fn read(cells: &[u64], places: &[usize; 512]) {

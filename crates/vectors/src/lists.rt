@@ -15,11 +15,9 @@ fn put(cells: &mut [u64; 4096], top: usize, value: u64) -> usize {
 fn put_bytes(cells: &mut [u64; 4096], top: usize, value: u64, width: u64) -> usize {
     let mut used = top;
     let mut left = value;
-    let mut k: u64 = 0;
-    while k < width {
+    for _ in 0..width {
         used = put(cells, used, left % 256);
         left = left / 256;
-        k += 1;
     }
     used
 }
@@ -27,14 +25,12 @@ fn put_bytes(cells: &mut [u64; 4096], top: usize, value: u64, width: u64) -> usi
 // The numbers between two places.
 fn put_part(cells: &mut [u64; 4096], top: usize, from: usize, to: usize) -> usize {
     let mut used = top;
-    let mut i = from;
-    while i < to {
+    for i in from..to {
         if 4096 <= i {
             return used;
         }
         let value = cells[i];
         used = put(cells, used, value);
-        i += 1;
     }
     used
 }
@@ -70,10 +66,8 @@ fn repeat(
     top: usize,
 ) -> usize {
     let mut used = top;
-    let mut k: u64 = 0;
-    while k < times {
+    for _ in 0..times {
         used = put_item(item, cells, places, used);
-        k += 1;
     }
     used
 }

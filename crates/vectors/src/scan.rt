@@ -7,14 +7,12 @@ pub fn after(text: &[u8], at: usize, byte: u8) -> usize
     requires { ⌜ at < length (now text) ⌝ }
     ensures { λ r. ⌜ (at < r) × (r ≤ length (now (text .entry))) ⌝ }
 {
-    let mut i = at;
-    while i < text.len() {
+    for i in at..text.len() {
         if text[i] == byte {
             return i + 1;
         }
-        i += 1;
     }
-    i
+    text.len()
 }
 
 // The place behind the first such byte, or the end.
@@ -38,14 +36,12 @@ pub fn byte(text: &[u8], at: usize) -> u8 {
 // The number at the front, modulo 2^64; 0 if there is none.
 pub fn number(text: &[u8]) -> u64 {
     let mut value: u64 = 0;
-    let mut i: usize = 0;
-    while i < text.len() {
+    for i in 0..text.len() {
         let digit = std::num::wrapping_sub_u8(text[i], b'0');
         if 9 < digit {
             return value;
         }
         value = std::num::wrapping_add_u64(value % 1844674407370955162 * 10, digit as u64);
-        i += 1;
     }
     value
 }

@@ -1,4 +1,5 @@
 // What a call answers and leaves, as text.
+use crate::scan;
 use catalogue::Answer;
 use machine::Counts;
 use marker::Marked;
@@ -73,10 +74,8 @@ fn finish(run: Run) {
         io::print_decimal(1, run.n);
         return;
     }
-    let mut k: u64 = 0;
-    while k < run.times {
+    for _ in 0..run.times {
         number(run.n);
-        k += 1;
     }
 }
 
@@ -92,37 +91,45 @@ fn next(run: Run, n: u64) -> Run {
     Run { n, times: 1 }
 }
 
-fn bytes(list: &[u8]) {
+// The word at a place; 0 behind the end.
+fn word(words: &[u32], i: usize) -> u32 {
+    if i < words.len() {
+        return words[i];
+    }
+    0
+}
+
+// The number at a place of the one of these that has it.
+fn item(bytes: &[u8], words: &[u32], longs: &[u64], i: usize) -> u64 {
+    if i < bytes.len() {
+        return scan::byte(bytes, i) as u64;
+    }
+    if i < longs.len() {
+        return longs[i];
+    }
+    word(words, i) as u64
+}
+
+// Writes a list of so many numbers: one of these, the others being empty.
+fn list(bytes: &[u8], words: &[u32], longs: &[u64], count: usize) {
     io::write_all(1, b" |");
     let mut run = Run { n: 0, times: 0 };
-    let mut i: usize = 0;
-    while i < list.len() {
-        run = next(run, list[i] as u64);
-        i += 1;
+    for i in 0..count {
+        run = next(run, item(bytes, words, longs, i));
     }
     finish(run);
 }
 
-pub fn words(list: &[u32]) {
-    io::write_all(1, b" |");
-    let mut run = Run { n: 0, times: 0 };
-    let mut i: usize = 0;
-    while i < list.len() {
-        run = next(run, list[i] as u64);
-        i += 1;
-    }
-    finish(run);
+fn bytes(numbers: &[u8]) {
+    list(numbers, &[], &[], numbers.len());
 }
 
-fn longs(list: &[u64]) {
-    io::write_all(1, b" |");
-    let mut run = Run { n: 0, times: 0 };
-    let mut i: usize = 0;
-    while i < list.len() {
-        run = next(run, list[i]);
-        i += 1;
-    }
-    finish(run);
+pub fn words(numbers: &[u32]) {
+    list(&[], numbers, &[], numbers.len());
+}
+
+fn longs(numbers: &[u64]) {
+    list(&[], &[], numbers, numbers.len());
 }
 
 pub fn store(offsets: &[u32], targets: &[u32], sizes: &[u64]) {

@@ -6,22 +6,13 @@ use Rattle.vectors.proofs.scan.after.Statement.{statement}
 use Rattle.vectors.proofs.scan.after.Tie as tie
 
 abbrev Inv-loop : tie.InvT-loop
-Inv-loop text at byte i₀ i = (at ≤ i) × (i ≤ length text)
+Inv-loop text at byte i₀ i-end i = (at ≤ i) × (i ≤ length text)
 
 abbrev μ-loop : tie.MeasureT-loop
-μ-loop text at byte i₀ i = length text - i
+μ-loop text at byte i₀ i-end i = length text - i
 
 pub after-spec : {M : Type 1} → statement M
 after-spec =
     tie.close
-    (tie.spec
-    Inv-loop
-    μ-loop
-    (λ c. search needs)
-    (λ c. search needs)
-    (λ c. search needs)
-    (λ c. search needs)
-    (λ c. search needs)
-    (λ c. search needs)
-    (λ c. search needs)
-    (λ c. search needs))
+    (tie.spec Inv-loop μ-loop (λ c. search needs) (λ c. search needs) (λ c. search needs) (λ c. search needs)
+    (λ c. search needs) (λ c. search needs) (λ c. search needs) (λ c. search needs))

@@ -6,25 +6,14 @@ use Rattle.vectors.proofs.scan.number.Statement.{statement}
 use Rattle.vectors.proofs.scan.number.Tie as tie
 
 abbrev Inv-loop : tie.InvT-loop
-Inv-loop text value₀ i₀ value i = i ≤ length text
+Inv-loop text value₀ i₀ i-end value i = i ≤ length text
 
 abbrev μ-loop : tie.MeasureT-loop
-μ-loop text value₀ i₀ value i = length text - i
+μ-loop text value₀ i₀ i-end value i = length text - i
 
 pub number-spec : {M : Type 1} → statement M
 number-spec =
     tie.close
-    (tie.spec
-    Inv-loop
-    μ-loop
-    (λ c. search needs)
-    (λ c. search needs)
-    (λ c κs. search needs)
-    (λ c. search needs)
-    (λ c. search needs)
-    (λ c. search needs)
-    (λ c κs. search needs)
-    (λ c. search needs)
-    (λ c. search needs)
-    (λ c. search needs)
-    (λ c. search needs))
+    (tie.spec Inv-loop μ-loop (λ c. search needs) (λ c. search needs) (λ c κs. search needs) (λ c. search needs)
+    (λ c. search needs) (λ c. search needs) (λ c κs. search needs) (λ c. search needs) (λ c. search needs)
+    (λ c. search needs) (λ c. search needs))
