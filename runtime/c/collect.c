@@ -42,10 +42,11 @@ int main(void) {
         at += record(bytes + at, 12, 3);
     }
 
-    uint32_t offsets[KULLNEYRA_OFFSETS(N)], targets[KULLNEYRA_TARGETS(M)], head[KULLNEYRA_HEADER_WORDS];
+    uint32_t offsets[KULLNEYRA_OFFSETS(N)], targets[KULLNEYRA_TARGETS(M)];
     uint64_t sizes[KULLNEYRA_SIZES(N)];
-    uint32_t answer = kullneyra_read(bytes, at, offsets, KULLNEYRA_OFFSETS(N), targets, KULLNEYRA_TARGETS(M), sizes,
-                                     KULLNEYRA_SIZES(N), head, KULLNEYRA_HEADER_WORDS);
+    struct kullneyra_head head;
+    uint32_t answer = kullneyra_read_into(bytes, at, offsets, KULLNEYRA_OFFSETS(N), targets, KULLNEYRA_TARGETS(M),
+                                          sizes, KULLNEYRA_SIZES(N), &head);
     if (answer != KULLNEYRA_OK) {
         return refused(answer);
     }
@@ -57,32 +58,30 @@ int main(void) {
     }
     uint8_t marks[KULLNEYRA_MARKS(N)];
     uint32_t work[KULLNEYRA_WORK(N, W)];
-    uint64_t counts[KULLNEYRA_MARK_WORDS];
-    answer = kullneyra_mark(offsets, KULLNEYRA_OFFSETS(N), targets, KULLNEYRA_TARGETS(M), head[2], W, 1, 1, schedule,
-                            sizeof schedule, marks, KULLNEYRA_MARKS(N), work, KULLNEYRA_WORK(N, W), counts,
-                            KULLNEYRA_MARK_WORDS);
+    struct kullneyra_marked marked;
+    answer = kullneyra_mark_into(offsets, KULLNEYRA_OFFSETS(N), targets, KULLNEYRA_TARGETS(M), head.index, W, 1, 1,
+                                 schedule, sizeof schedule, marks, KULLNEYRA_MARKS(N), work, KULLNEYRA_WORK(N, W),
+                                 &marked);
     if (answer != KULLNEYRA_OK) {
         return refused(answer);
     }
-    static const char *const names[] = {"live", "followed", "handed", "refused", "moved"};
-    puts(counts[0] ? "finished" : "unfinished");
-    for (int i = 0; i < 5; i++) {
-        printf("%s %llu\n", names[i], (unsigned long long)counts[i + 1]);
-    }
-    if (!counts[0]) {
+    puts(marked.finished ? "finished" : "unfinished");
+#define LINE(name) printf(#name " %llu\n", (unsigned long long)marked.name);
+    KULLNEYRA_COUNTS(LINE)
+    if (!marked.finished) {
         return 0;
     }
 
     uint32_t list[KULLNEYRA_LIST(N)];
-    uint64_t swept[KULLNEYRA_SWEEP_WORDS];
-    answer = kullneyra_sweep(marks, KULLNEYRA_MARKS(N), sizes, KULLNEYRA_SIZES(N), list, KULLNEYRA_LIST(N), swept,
-                             KULLNEYRA_SWEEP_WORDS);
+    struct kullneyra_swept swept;
+    answer = kullneyra_sweep_into(marks, KULLNEYRA_MARKS(N), sizes, KULLNEYRA_SIZES(N), list, KULLNEYRA_LIST(N),
+                                  &swept);
     if (answer != KULLNEYRA_OK) {
         return refused(answer);
     }
-    for (uint64_t i = 0; i < swept[0]; i++) {
+    for (uint64_t i = 0; i < swept.count; i++) {
         printf("dead %u %llu\n", (unsigned)list[i], (unsigned long long)sizes[list[i]]);
     }
-    printf("freed %llu\n", (unsigned long long)swept[1]);
+    printf("freed %llu\n", (unsigned long long)swept.freed);
     return 0;
 }

@@ -9,8 +9,11 @@
  * 0, as an empty C++ vector has it. It is aligned for its element, and no buffer that a call writes
  * overlaps another buffer of the same call.
  *
- * Result words are written only where the call answers 0. Their buffer's length is exact too: another
- * length is KULLNEYRA_BUFFER, and that is looked at before anything else.
+ * Each call has two forms. kullneyra_NAME_into gives what it answers in a struct, all of it 0 beside a
+ * fault; this is the form to use. kullneyra_NAME is the proved function below it, for those who bind
+ * it from another language: its result words are a buffer like the others. They are written only where
+ * the call answers 0, and another length than theirs is KULLNEYRA_BUFFER, before anything else is
+ * looked at.
  *
  * `make install` puts header, library and kullneyra.pc in place: pkg-config --cflags --libs kullneyra.
  * Within the repository, link with target/staticlib/libkullneyra.a (rt staticlib kullneyra).
@@ -20,12 +23,13 @@
 
 #include <stddef.h>
 #include <stdint.h>
+#include <string.h>
 
 #ifdef __cplusplus
 extern "C" {
 #endif
 
-/* What a call answers. */
+/* The number that a call answers. */
 #define KULLNEYRA_OK 0       /* no fault */
 #define KULLNEYRA_SHORT 1    /* the bytes end too soon for a record; also empty */
 #define KULLNEYRA_KIND 2     /* unknown kind of record, or a length that its kind does not have */
@@ -55,11 +59,46 @@ extern "C" {
 #define KULLNEYRA_WORK(n, w) ((size_t)(w) * (2 * (size_t)(n) + 4))
 #define KULLNEYRA_LIST(n) ((size_t)(n))
 
-/* Exact lengths of the result words, and what stands where. */
-#define KULLNEYRA_HEADER_WORDS 3 /* n, m, index: header and read */
-#define KULLNEYRA_PART_WORDS 2   /* start, length: references */
-#define KULLNEYRA_MARK_WORDS 6   /* finished (1 or 0), live, followed, handed, refused, moved */
-#define KULLNEYRA_SWEEP_WORDS 2  /* count, freed */
+/* What a call answers beside its number: a struct for each answer, whose fields are the result words in
+ * their order. */
+
+/* header and read: what the catalogue's header says. */
+struct kullneyra_head {
+    uint32_t n;     /* objects */
+    uint32_t m;     /* references */
+    uint32_t index; /* the object at which a collection starts */
+};
+
+/* references: a part of the targets. */
+struct kullneyra_part {
+    uint64_t start;
+    uint64_t length;
+};
+
+/* mark: what the turns did. */
+struct kullneyra_marked {
+    uint64_t finished; /* 1 if every worker has ended, else 0 */
+    uint64_t live;     /* marked objects */
+    uint64_t followed; /* references followed */
+    uint64_t handed;   /* polls that shared */
+    uint64_t refused;  /* askers that were refused */
+    uint64_t moved;    /* turns that changed something */
+};
+
+/* The counts of a marking by name, in the same order: X(live) X(followed) and so on. */
+#define KULLNEYRA_COUNTS(X) X(live) X(followed) X(handed) X(refused) X(moved)
+
+/* sweep: the dead objects. */
+struct kullneyra_swept {
+    uint64_t count;
+    uint64_t freed; /* the sum of their sizes */
+};
+
+/* Exact lengths of the result words. */
+#define KULLNEYRA_HEADER_WORDS (sizeof(struct kullneyra_head) / sizeof(uint32_t))
+#define KULLNEYRA_PART_WORDS (sizeof(struct kullneyra_part) / sizeof(uint64_t))
+#define KULLNEYRA_MARK_WORDS (sizeof(struct kullneyra_marked) / sizeof(uint64_t))
+#define KULLNEYRA_SWEEP_WORDS (sizeof(struct kullneyra_swept) / sizeof(uint64_t))
 
 /* Reads only the catalogue's header record. */
 uint32_t kullneyra_header(const uint8_t *bytes, size_t bytes_len, uint32_t *result, size_t result_len);
@@ -75,8 +114,7 @@ uint32_t kullneyra_references(const uint32_t *offsets, size_t offsets_len, const
                               size_t targets_len, uint32_t object, uint64_t *result, size_t result_len);
 
 /* Marks what the index reaches, by the turns of the schedule: two bytes for each, the worker and whom
- * it asks. The collection is finished when the first result word is 1; only then are the objects with
- * mark 0 unreachable. */
+ * it asks. Only when the collection is finished are the objects with mark 0 unreachable. */
 uint32_t kullneyra_mark(const uint32_t *offsets, size_t offsets_len, const uint32_t *targets, size_t targets_len,
                         uint32_t index, uint32_t workers, uint32_t batch, uint32_t cutoff,
                         const uint8_t *schedule, size_t schedule_len, uint8_t *marks, size_t marks_len,
@@ -85,6 +123,59 @@ uint32_t kullneyra_mark(const uint32_t *offsets, size_t offsets_len, const uint3
 /* Lists the objects whose mark is 0, upwards, then zeros; answers how many they are and what their sizes add up to. */
 uint32_t kullneyra_sweep(const uint8_t *marks, size_t marks_len, const uint64_t *sizes, size_t sizes_len,
                          uint32_t *list, size_t list_len, uint64_t *result, size_t result_len);
+
+/* The same calls with a struct for the answer, which is written in every case: what the call answers
+ * where the number is 0, and zeros beside a fault. */
+
+static inline uint32_t kullneyra_header_into(const uint8_t *bytes, size_t bytes_len, struct kullneyra_head *answer) {
+    uint32_t words[KULLNEYRA_HEADER_WORDS] = {0};
+    const uint32_t number = kullneyra_header(bytes, bytes_len, words, KULLNEYRA_HEADER_WORDS);
+    memcpy(answer, words, sizeof *answer);
+    return number;
+}
+
+static inline uint32_t kullneyra_read_into(const uint8_t *bytes, size_t bytes_len, uint32_t *offsets,
+                                           size_t offsets_len, uint32_t *targets, size_t targets_len,
+                                           uint64_t *sizes, size_t sizes_len, struct kullneyra_head *answer) {
+    uint32_t words[KULLNEYRA_HEADER_WORDS] = {0};
+    const uint32_t number = kullneyra_read(bytes, bytes_len, offsets, offsets_len, targets, targets_len, sizes,
+                                           sizes_len, words, KULLNEYRA_HEADER_WORDS);
+    memcpy(answer, words, sizeof *answer);
+    return number;
+}
+
+static inline uint32_t kullneyra_references_into(const uint32_t *offsets, size_t offsets_len,
+                                                 const uint32_t *targets, size_t targets_len, uint32_t object,
+                                                 struct kullneyra_part *answer) {
+    uint64_t words[KULLNEYRA_PART_WORDS] = {0};
+    const uint32_t number = kullneyra_references(offsets, offsets_len, targets, targets_len, object, words,
+                                                 KULLNEYRA_PART_WORDS);
+    memcpy(answer, words, sizeof *answer);
+    return number;
+}
+
+static inline uint32_t kullneyra_mark_into(const uint32_t *offsets, size_t offsets_len, const uint32_t *targets,
+                                           size_t targets_len, uint32_t index, uint32_t workers, uint32_t batch,
+                                           uint32_t cutoff, const uint8_t *schedule, size_t schedule_len,
+                                           uint8_t *marks, size_t marks_len, uint32_t *work, size_t work_len,
+                                           struct kullneyra_marked *answer) {
+    uint64_t words[KULLNEYRA_MARK_WORDS] = {0};
+    const uint32_t number = kullneyra_mark(offsets, offsets_len, targets, targets_len, index, workers, batch,
+                                           cutoff, schedule, schedule_len, marks, marks_len, work, work_len, words,
+                                           KULLNEYRA_MARK_WORDS);
+    memcpy(answer, words, sizeof *answer);
+    return number;
+}
+
+static inline uint32_t kullneyra_sweep_into(const uint8_t *marks, size_t marks_len, const uint64_t *sizes,
+                                            size_t sizes_len, uint32_t *list, size_t list_len,
+                                            struct kullneyra_swept *answer) {
+    uint64_t words[KULLNEYRA_SWEEP_WORDS] = {0};
+    const uint32_t number =
+        kullneyra_sweep(marks, marks_len, sizes, sizes_len, list, list_len, words, KULLNEYRA_SWEEP_WORDS);
+    memcpy(answer, words, sizeof *answer);
+    return number;
+}
 
 #ifdef __cplusplus
 }

@@ -1,37 +1,26 @@
--- Result words: all of them written, or none.
-use mathlib.Core.Path.{_≡_, refl}
-use mathlib.Core.List.{List, [], _∷_}
-use Prim.Native.Nat.{ℕ, zero, suc, _<_}
+-- Result words: a first one and those behind it written, or none. All of them written one by one is `sets-all` of the laws.
+use mathlib.Core.Path.{_≡_, refl, ap}
+use mathlib.Core.List.{List, [], _∷_, _++_, append-nil}
+use Prim.Native.Nat.{ℕ, zero, suc, _-_, _<_}
+use native.Mathlib.Nat.{suc-sub-suc, sub-zero}
 use native.Mathlib.Omega.{arith}
-use lib.ListN.{length, set}
+use lib.ListN.{length, set, take, drop}
+use lib.Seq.{take-length, drop-length}
 use Rattle.refusal.specs.declared.Refusal.{Refusal}
 use Rattle.refusal.specs.Number.{number}
 use Rattle.refusal.proofs.Numbers.{numbered}
 use Rattle.kullneyra.specs.Calls.{wordsFor}
 
-pub two : (l : List ℕ) (a b : ℕ) → length l ≡ 2 → set (set l 0 a) 1 b ≡ a ∷ b ∷ []
-two [] a b e = absurd (omega arith)
-two (x ∷ []) a b e = absurd (omega arith)
-two (x ∷ y ∷ []) a b e = refl
-two (x ∷ y ∷ z ∷ l) a b e = absurd (omega arith)
+-- a first word is stored; the part behind it is lent, and comes back
+pub rest-long : (l : List ℕ) (a k : ℕ) → length l ≡ suc k
+    → length (take (length (set l 0 a) - 1) (drop 1 (set l 0 a))) ≡ k
+rest-long [] a k h = absurd (omega arith)
+rest-long (x ∷ l) a k h = rw (suc-sub-suc, sub-zero, take-length l) (omega arith)
 
-pub three : (l : List ℕ) (a b c : ℕ) → length l ≡ 3 → set (set (set l 0 a) 1 b) 2 c ≡ a ∷ b ∷ c ∷ []
-three [] a b c e = absurd (omega arith)
-three (x ∷ []) a b c e = absurd (omega arith)
-three (x ∷ y ∷ []) a b c e = absurd (omega arith)
-three (x ∷ y ∷ z ∷ []) a b c e = refl
-three (x ∷ y ∷ z ∷ w ∷ l) a b c e = absurd (omega arith)
-
-pub six : (l : List ℕ) (a b c d e f : ℕ) → length l ≡ 6
-    → set (set (set (set (set (set l 0 a) 1 b) 2 c) 3 d) 4 e) 5 f ≡ a ∷ b ∷ c ∷ d ∷ e ∷ f ∷ []
-six [] a b c d e f h = absurd (omega arith)
-six (x ∷ []) a b c d e f h = absurd (omega arith)
-six (x ∷ y ∷ []) a b c d e f h = absurd (omega arith)
-six (x ∷ y ∷ z ∷ []) a b c d e f h = absurd (omega arith)
-six (x ∷ y ∷ z ∷ u ∷ []) a b c d e f h = absurd (omega arith)
-six (x ∷ y ∷ z ∷ u ∷ v ∷ []) a b c d e f h = absurd (omega arith)
-six (x ∷ y ∷ z ∷ u ∷ v ∷ w ∷ []) a b c d e f h = refl
-six (x ∷ y ∷ z ∷ u ∷ v ∷ w ∷ t ∷ l) a b c d e f h = absurd (omega arith)
+pub first-and-rest : (l q : List ℕ) (a : ℕ) → 0 < length l
+    → take 1 (set l 0 a) ++ (q ++ drop (length (set l 0 a) - 1) (drop 1 (set l 0 a))) ≡ a ∷ q
+first-and-rest [] q a h = absurd (omega arith)
+first-and-rest (x ∷ l) q a h = ap (λ (r : List ℕ). a ∷ r) (rw (suc-sub-suc, sub-zero, drop-length l) (append-nil q))
 
 -- beside a refusal nothing is written
 unwritten : (k : ℕ) (results before : List ℕ) → 0 < k → before ≡ wordsFor k results before

@@ -11,7 +11,7 @@ use Rattle.graph.specs.Graph.{graph, partStart, partLength}
 use Rattle.catalogue.specs.Answer.{Row, headerRow, taken, readRow, offsetsAfter, targetsAfter, sizesAfter}
 use Rattle.catalogue.specs.Reading.{Reading, refused}
 use Rattle.machine.specs.declared.Counts.{Counts}
-use Rattle.machine.specs.Row.{Row as MarkRow}
+use Rattle.machine.specs.Row.{Row as MarkRow, counts-number, countWords}
 use Rattle.machine.specs.Call.{Call, marking, marksAfter, workAfter}
 use Rattle.sweep.specs.Sweep.{sweeping, listAfter}
 
@@ -70,21 +70,24 @@ sweepWords marks sizes list = sweeping marks sizes list .count ∷ sweeping mark
 abbrev pub sweepList : List ℕ → List ℕ → List ℕ → List ℕ → List ℕ
 sweepList marks sizes list result = pick (eqb (length result) 2) (listAfter marks sizes list) list
 
--- ---- mark: finished (1 or 0), live, followed, handed, refused, moved
+-- ---- mark: finished (1 or 0), then the counts in their order
+
+abbrev pub mark-words : ℕ
+mark-words = suc counts-number
 
 abbrev pub flag : Bool → ℕ
 flag true = 1
 flag false = 0
 
-abbrev pub countWords : ℕ → Counts → List ℕ
-countWords f c = f ∷ c .live ∷ c .followed ∷ c .handed ∷ c .refused ∷ c .moved ∷ []
+abbrev pub resultWords : ℕ → Counts → List ℕ
+resultWords f c = f ∷ countWords c
 
 abbrev pub markWords : MarkRow → List ℕ
-markWords r = countWords (flag (r .finished)) (r .counts)
+markWords r = resultWords (flag (r .finished)) (r .counts)
 
 -- the number answered and every lent byte and word afterwards
 pub record MarksIn (c : Call) (marks work result marks′ work′ result′ : List ℕ) (answer : ℕ) : Type 0 where
-  pub answers : answer ≡ answerIn 6 result (marking c marks work .number)
-  pub fills-marks : marks′ ≡ pick (eqb (length result) 6) (marksAfter c marks work) marks
-  pub fills-work : work′ ≡ pick (eqb (length result) 6) (workAfter c marks work) work
-  pub fills-result : result′ ≡ wordsFor (answerIn 6 result (marking c marks work .number)) (markWords (marking c marks work)) result
+  pub answers : answer ≡ answerIn mark-words result (marking c marks work .number)
+  pub fills-marks : marks′ ≡ pick (eqb (length result) mark-words) (marksAfter c marks work) marks
+  pub fills-work : work′ ≡ pick (eqb (length result) mark-words) (workAfter c marks work) work
+  pub fills-result : result′ ≡ wordsFor (answerIn mark-words result (marking c marks work .number)) (markWords (marking c marks work)) result

@@ -1,6 +1,7 @@
 // The calls of the library as C functions. Each answers a number, 0 for no fault, and writes its
 // results to lent words; runtime/include/kullneyra.h says which word is which.
 use catalogue::Answer;
+use machine::COUNTS;
 use machine::Counts;
 use marker::Marked;
 use sweep::Swept;
@@ -8,7 +9,10 @@ ghost use mathlib.Core.Path.{_≡_};
 ghost use lib.ListN.{length};
 ghost use Rattle.catalogue.specs.Answer.{row, headerRow};
 ghost use Rattle.marker.specs.Answer.{callOf, row as markRow};
-ghost use Rattle.kullneyra.specs.Calls.{ReadsIn, headerAnswer, headerWords, wordsFor, partAnswer, partWords, sweepAnswer, sweepWords, sweepList, countWords, markWords, MarksIn};
+ghost use Rattle.kullneyra.specs.Calls.{ReadsIn, headerAnswer, headerWords, wordsFor, partAnswer, partWords, sweepAnswer, sweepWords, sweepList, mark-words, resultWords, markWords, MarksIn};
+
+// Result words of the marker: finished, and the counts.
+const MARK_WORDS: usize = 1 + COUNTS;
 
 // An answer of the catalogue: its number, and n, m and the index in the result words.
 fn give(answer: Answer, result: &mut [u32]) -> u32
@@ -101,22 +105,18 @@ pub extern "C" fn kullneyra_sweep(
     }
 }
 
-// The six result words of a marker's answer without a refusal.
+// The result words of a marker's answer without a refusal.
 fn give_counts(finished: u64, counts: Counts, result: &mut [u64])
-    requires { ⌜ length (now result) ≡ 6 ⌝ }
-    ensures { λ _. ⌜ now (result .exit) ≡ countWords finished counts ⌝ }
+    requires { ⌜ length (now result) ≡ mark-words ⌝ }
+    ensures { λ _. ⌜ now (result .exit) ≡ resultWords finished counts ⌝ }
 {
     result[0] = finished;
-    result[1] = counts.live;
-    result[2] = counts.followed;
-    result[3] = counts.handed;
-    result[4] = counts.refused;
-    result[5] = counts.moved;
+    machine::put_counts(counts, &mut result[1..]);
 }
 
 // An answer of the marker: its number, and its values in the result words.
 fn give_marked(answer: Marked, result: &mut [u64]) -> u32
-    requires { ⌜ length (now result) ≡ 6 ⌝ }
+    requires { ⌜ length (now result) ≡ mark-words ⌝ }
     ensures { λ r. ⌜ r ≡ markRow answer .number ⌝ }
     ensures { λ r. ⌜ now (result .exit) ≡ wordsFor (markRow answer .number) (markWords (markRow answer)) (now (result .entry)) ⌝ }
 {
@@ -133,7 +133,7 @@ fn give_marked(answer: Marked, result: &mut [u64]) -> u32
     }
 }
 
-// The marker; result words: finished (1 or 0), live, followed, handed, refused, moved.
+// The marker; result words: finished (1 or 0), then the counts in the order of `Counts`.
 #[no_mangle]
 pub extern "C" fn kullneyra_mark(
     offsets: &[u32],
@@ -149,7 +149,7 @@ pub extern "C" fn kullneyra_mark(
 ) -> u32
     ensures { λ r. ⌜ MarksIn (callOf (now (offsets .entry)) (now (targets .entry)) index workers batch cutoff (now (schedule .entry))) (now (marks .entry)) (now (work .entry)) (now (result .entry)) (now (marks .exit)) (now (work .exit)) (now (result .exit)) r ⌝ }
 {
-    if result.len() != 6 {
+    if result.len() != MARK_WORDS {
         return 7;
     }
     let answer = marker::mark(

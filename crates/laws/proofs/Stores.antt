@@ -1,10 +1,11 @@
 -- Stores and reads in a list that is cut at a known place, and parts that are lent and come back.
 use mathlib.Core.Path.{_≡_, ap, _∙_}
-use mathlib.Core.List.{List, [], _∷_, _++_}
+use mathlib.Core.List.{List, [], _∷_, _++_, append-nil}
 use Prim.Native.Nat.{ℕ, zero, suc, _+_, _-_, _<_}
 use native.Mathlib.Nat.{zero-add, suc-add, sub-zero, zero-sub, suc-sub-suc}
+use native.Mathlib.Omega.{arith}
 use lib.ListN.{length, getD, set, take, drop, replicate}
-use lib.Seq.{set-append-left, take-at, drop-at, getD-append-add}
+use lib.Seq.{set-append-left, take-at, drop-at, getD-append-add, drop-length, sets, sets-eq}
 
 module _ {A : Type 0} where
   -- a store behind the seam
@@ -23,6 +24,10 @@ module _ {A : Type 0} where
   pub set-between : (p q r : List A) (n i : ℕ) (a : A) → length p ≡ n → i < length q
       → set (p ++ (q ++ r)) (n + i) a ≡ p ++ (set q i a ++ r)
   set-between p q r n i a e h = set-past p (q ++ r) n i a e ∙ ap (λ (l : List A). p ++ l) (set-append-left q r i a h)
+
+  -- as many stores as a list has places, one behind the other, leave just what was stored
+  pub sets-all : (vs l : List A) → length l ≡ length vs → sets l 0 vs ≡ vs
+  sets-all vs l e = sets-eq vs l 0 (omega (arith, e)) ∙ rw (zero-add, ← e, drop-length l) (append-nil vs)
 
   -- a part that is lent, and the list with another in its place
   module _ (p q r : List A) (n k : ℕ) (at : length p ≡ n) (long : length q ≡ k) where

@@ -2,6 +2,7 @@
 -- collection is finished, and its counts.
 use Prim.Native.Nat.{ℕ, _+_, _<_, _^_}
 use mathlib.Core.Bool.{Bool, false}
+use mathlib.Core.List.{List, [], _∷_}
 use Rattle.machine.specs.declared.Counts.{Counts}
 
 pub record Row : Type 0 where
@@ -46,3 +47,11 @@ countFollow c live⁺ refused⁺ =
       refused = c .refused + refused⁺;
       moved = c .moved + 1;
     }
+
+-- how many counts there are
+abbrev pub counts-number : ℕ
+counts-number = 5
+
+-- the counts as words, in their order
+abbrev pub countWords : Counts → List ℕ
+countWords c = c .live ∷ c .followed ∷ c .handed ∷ c .refused ∷ c .moved ∷ []

@@ -2,7 +2,8 @@
 // result is made of, how turns count, and the limits of a setting.
 ghost use mathlib.Core.Path.{_≡_};
 ghost use Prim.Native.Nat.{_≤_};
-ghost use Rattle.machine.specs.Row.{Roomy, freshCounts, countMove, countFollow};
+ghost use lib.ListN.{length};
+ghost use Rattle.machine.specs.Row.{Roomy, freshCounts, countMove, countFollow, counts-number, countWords};
 
 // The most workers, and the largest batch and cutoff.
 pub const MOST_WORKERS: u32 = 16;
@@ -18,6 +19,9 @@ pub struct Counts {
     pub refused: u64,
     pub moved: u64,
 }
+
+// How many counts there are.
+pub const COUNTS: usize = 5;
 
 // The counts before the first turn, with so many marks set.
 pub fn fresh(live: u64) -> Counts
@@ -58,4 +62,16 @@ pub fn count_follow(c: Counts, live: u64, refused: u64) -> Counts
         refused: c.refused + refused,
         moved: c.moved + 1,
     }
+}
+
+// The counts as words, in the struct's order.
+pub fn put_counts(c: Counts, words: &mut [u64])
+    requires { ⌜ length (now words) ≡ counts-number ⌝ }
+    ensures { λ _. ⌜ now (words .exit) ≡ countWords c ⌝ }
+{
+    words[0] = c.live;
+    words[1] = c.followed;
+    words[2] = c.handed;
+    words[3] = c.refused;
+    words[4] = c.moved;
 }

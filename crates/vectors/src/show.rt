@@ -1,6 +1,7 @@
 // What a call answers and leaves, as text.
 use crate::scan;
 use catalogue::Answer;
+use machine::COUNTS;
 use machine::Counts;
 use marker::Marked;
 use refusal::Refusal;
@@ -28,11 +29,11 @@ pub fn answer(a: Answer) {
 }
 
 fn numbers(t: Counts) {
-    number(t.live);
-    number(t.followed);
-    number(t.handed);
-    number(t.refused);
-    number(t.moved);
+    let mut words = [0u64; COUNTS];
+    machine::put_counts(t, &mut words);
+    for i in 0..COUNTS {
+        number(words[i]);
+    }
 }
 
 pub fn marked(m: Marked) {

@@ -1,6 +1,7 @@
--- By the answer: the three words are written one by one (`three`), or a refusal writes none of them (`kept`).
+-- By the answer: the three words are written one by one (`sets-all`), or a refusal writes none of them (`kept`).
 use mathlib.Core.List.{[], _∷_}
-use Rattle.kullneyra.proofs.Results.{three, kept}
+use Rattle.laws.proofs.Stores.{sets-all}
+use Rattle.kullneyra.proofs.Results.{kept}
 use borrow.Author.Needs.{needs}
 use Rattle.kullneyra.proofs.give.Statement.{statement}
 use Rattle.kullneyra.proofs.give.Tie as tie
@@ -10,7 +11,7 @@ returns c =
     let at-answer = c .before in
     let start = at-answer .before .before .before in
     let v = at-answer .answer .given in
-    (rw (v .1), rw (v .1) (three (start .args .result .now) (v .0 .0) (v .0 .1 .0) (v .0 .1 .1 .0) (start .pre)))
+    (rw (v .1), rw (v .1) (sets-all (v .0 .0 ∷ v .0 .1 .0 ∷ v .0 .1 .1 .0 ∷ []) (start .args .result .now) (start .pre)))
 
 returns-2 : tie.Need-returns-2
 returns-2 c =

@@ -1,5 +1,6 @@
--- By the result words' length: another one is 7, and with 6 words the marker's promise holds and `give_marked` writes its answer.
+-- By the result words' length: another one is 7, and with so many words as it has results the marker's promise holds and `give_marked` writes its answer.
 use lib.ListN.{length}
+use Rattle.kullneyra.specs.Calls.{mark-words}
 use borrow.Author.Tests.{eq-eqb, ne-eqb}
 use borrow.Author.Needs.{needs}
 use Rattle.kullneyra.proofs.kullneyra_mark.Statement.{statement}
@@ -8,7 +9,7 @@ use Rattle.kullneyra.proofs.kullneyra_mark.Tie as tie
 returns : tie.Need-returns
 returns c =
     let start = c .before .before .before .before .before .before .before in
-    let f = ne-eqb (length (start .args .result .now)) 6 (c .if1 .taken) in
+    let f = ne-eqb (length (start .args .result .now)) mark-words (c .if1 .taken) in
     record { answers = rw f; fills-marks = rw f; fills-work = rw f; fills-result = rw f }
 
 returns-2 : tie.Need-returns-2
@@ -17,7 +18,7 @@ returns-2 c =
     let at-mark = at-give-marked .before .before .before .before .before .before in
     let at-if1 = at-mark .before .before .before in
     let start = at-if1 .before .before .before .before .before .before .before in
-    let f = eq-eqb (length (start .args .result .now)) 6 (at-if1 .if1 .left) in
+    let f = eq-eqb (length (start .args .result .now)) mark-words (at-if1 .if1 .left) in
     let done = at-mark .mark .ensures in
     let h = done .row-is in
     let given = at-give-marked .give-marked .ensures in

@@ -1,10 +1,11 @@
 -- By the result words' length: another one is 7, and with 2 words the part's start and length are those of `part_of`.
 use mathlib.Core.Path.{refl}
+use mathlib.Core.List.{[], _∷_}
 use Prim.Native.Nat.{_-_}
 use native.Mathlib.Omega.{arith}
 use lib.ListN.{length}
 use borrow.Author.Tests.{eq-eqb, ne-eqb}
-use Rattle.kullneyra.proofs.Results.{two}
+use Rattle.laws.proofs.Stores.{sets-all}
 use borrow.Author.Needs.{needs}
 use Rattle.kullneyra.proofs.kullneyra_references.Statement.{statement}
 use Rattle.kullneyra.proofs.kullneyra_references.Tie as tie
@@ -33,7 +34,7 @@ returns-2 c =
     let f = eq-eqb (length r) 2 l in
     let p = at-part-of .part-of .ensures (entry .args .targets .now) refl in
     let found = at-part-of .part-of .result in
-    (rw f, rw (f, ← p .starts, ← p .long) (two r (found .start) (found .end - found .start) l))
+    (rw f, rw (f, ← p .starts, ← p .long) (sets-all (found .start ∷ (found .end - found .start) ∷ []) r l))
 
 pub kullneyra-references-spec : {M : Type 1} → statement M
 kullneyra-references-spec =

@@ -1,9 +1,10 @@
--- By the result words' length, and then by the sweep's answer: its two words are written (`two`), or none (`kept`).
+-- By the result words' length, and then by the sweep's answer: its two words are written (`sets-all`), or none (`kept`).
 use mathlib.Core.List.{[], _∷_}
 use native.Mathlib.Omega.{arith}
 use lib.ListN.{length, length-set}
 use borrow.Author.Tests.{eq-eqb, ne-eqb}
-use Rattle.kullneyra.proofs.Results.{two, kept}
+use Rattle.laws.proofs.Stores.{sets-all}
+use Rattle.kullneyra.proofs.Results.{kept}
 use borrow.Author.Needs.{needs}
 use Rattle.kullneyra.proofs.kullneyra_sweep.Statement.{statement}
 use Rattle.kullneyra.proofs.kullneyra_sweep.Tie as tie
@@ -29,7 +30,7 @@ returns-2 c =
     let v = at-count .count .given in
     let done = at-sweep .sweep .ensures in
     let h = rw (v .1) at (done .0) in
-    (rw (f, ← h), (rw f (done .1), rw (f, ← h) (two r (v .0 .0) (v .0 .1 .0) l)))
+    (rw (f, ← h), (rw f (done .1), rw (f, ← h) (sets-all (v .0 .0 ∷ v .0 .1 .0 ∷ []) r l)))
 
 returns-3 : tie.Need-returns-3
 returns-3 c =

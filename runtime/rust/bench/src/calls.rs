@@ -144,8 +144,7 @@ fn agree(graph: &Graph, settings: Settings, turns: &[u8], buffers: &mut Buffers)
     let wanted = run_reference(graph, settings, turns, buffers);
     let got = run_proved(graph, settings, turns, buffers);
     assert!(wanted.finished);
-    let got = [u64::from(got.finished), got.live, got.followed, got.handed, got.refused, got.moved];
-    assert_eq!(got, wanted.words());
+    assert_eq!(got.words(), wanted.words());
     assert_eq!(run_tuned(graph, settings, turns, buffers), wanted);
     wanted
 }

@@ -69,7 +69,7 @@ impl Call {
 
     /// The right length of the result buffer.
     pub fn result_words(&self) -> usize {
-        [3, 3, 2, 6, 2][self.place()]
+        [3, 3, 2, reference::Outcome::WORDS, 2][self.place()]
     }
 
     /// The answers that the specification has for this call.

@@ -2,6 +2,7 @@
 
 use crate::case::{Call, Case, Mark};
 use crate::sides::{after, after_tuned, place, After, Proved, Reference, Side, Typed, Untouched};
+use kullneyra::Marked;
 
 /// What the proved library answered and left, or what is wrong with it.
 pub fn judge(case: &Case) -> Result<After, String> {
@@ -108,7 +109,8 @@ fn leaving_unmarked(call: &Mark, marks: &[u64]) -> u64 {
 fn run_demands(call: &Mark, got: &After) -> Result<(), String> {
     let (marks, work, result) = (got.lent(0), got.lent(1), got.lent(2));
     let (found, leaving) = reached(&call.offsets, &call.targets, call.index);
-    let (most, live, followed, handed, moved) = (leaving as u64, result[1], result[2], result[3], result[5]);
+    let Marked { finished, live, followed, handed, moved, .. } = got.marked();
+    let most = leaving as u64;
     let bound = 7 * most + u64::from(call.workers);
     let total = carried(&work, 2 * marks.len() + 4).map(|c| followed + c + leaving_unmarked(call, &marks));
     let mut checks = vec![
@@ -123,7 +125,7 @@ fn run_demands(call: &Mark, got: &After) -> Result<(), String> {
         ("moved is at most 7R + W", moved <= bound),
         ("finished is 0 or 1", result[0] < 2),
     ];
-    if result[0] == 1 {
+    if finished {
         checks.push(("finished: all that is reachable is marked", live == found.iter().map(|&f| u64::from(f)).sum()));
         checks.push(("finished: followed is R", followed == most));
         checks.push(("finished: nothing is carried", work.iter().all(|&word| word == 0)));

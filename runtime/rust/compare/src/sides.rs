@@ -1,7 +1,8 @@
 //! The two sides of the comparison, and what a call leaves behind.
 
 use crate::case::{Call, Case, Mark};
-use kullneyra::{raw, Refusal, Schedule, Settings};
+use kullneyra::{raw, Marked, Refusal, Schedule, Settings};
+use reference::Outcome;
 
 /// The five calls with slices and result words, as the C header has them.
 pub trait Side {
@@ -97,8 +98,7 @@ impl Side for Typed {
         let settings = Settings { workers: c.workers, batch: c.batch, cutoff: c.cutoff };
         let schedule = Schedule::from_bytes(&c.schedule);
         let answer = kullneyra::mark(&c.offsets, &c.targets, c.index, settings, schedule, marks, work);
-        let words = answer.map(|r| [u64::from(r.finished), r.live, r.followed, r.handed, r.refused, r.moved]);
-        written(words, result, Refusal::number)
+        written(answer.map(Marked::words), result, Refusal::number)
     }
 
     fn sweep(&self, marks: &[u8], sizes: &[u64], list: &mut [u32], result: &mut [u64]) -> u32 {
@@ -158,13 +158,13 @@ impl Side for Reference {
 }
 
 /// The marker in plain Rust.
-type Marker = fn(reference::Call<'_>, &mut [u8], &mut [u32]) -> Result<reference::Outcome, u8>;
+type Marker = fn(reference::Call<'_>, &mut [u8], &mut [u32]) -> Result<Outcome, u8>;
 
 fn marked_by(marker: Marker, c: &Mark, marks: &mut [u8], work: &mut [u32], result: &mut [u64]) -> u32 {
-    if result.len() != 6 {
+    if result.len() != Outcome::WORDS {
         return WRONG_LENGTH;
     }
-    written(marker(c.call(), marks, work).map(reference::Outcome::words), result, u32::from)
+    written(marker(c.call(), marks, work).map(Outcome::words), result, u32::from)
 }
 
 /// What the tuned marker answers and leaves, where the case is a marking.
@@ -297,6 +297,12 @@ impl After {
     pub fn lent(&self, buffer: usize) -> Vec<u64> {
         let all = &self.buffers[buffer].1;
         (GUARD..all.len() - GUARD).map(|i| all.at(i)).collect()
+    }
+
+    /// The result words of an accepted marking, by name.
+    pub fn marked(&self) -> Marked {
+        let words = self.lent(self.buffers.len() - 1);
+        Marked::from_words(words.try_into().expect("as many words as a marking has"))
     }
 }
 

@@ -18,10 +18,10 @@ impl Tally {
         let place = case.call.place();
         self.answers[place][after.number as usize] += 1;
         if let (Call::Mark(_), 0) = (&case.call, after.number) {
-            let result = after.lent(2);
-            self.finished += u64::from(result[0] == 1);
-            self.handed += u64::from(result[3] > 0);
-            self.refused += u64::from(result[4] > 0);
+            let marked = after.marked();
+            self.finished += u64::from(marked.finished);
+            self.handed += u64::from(marked.handed > 0);
+            self.refused += u64::from(marked.refused > 0);
         }
     }
 

@@ -196,7 +196,7 @@ impl<'a> Schedule<'a> {
     }
 }
 
-/// What a marking did.
+/// What a marking did. The fields stand in the order of the result words.
 #[derive(Clone, Copy, Debug, PartialEq, Eq)]
 #[non_exhaustive]
 pub struct Marked {
@@ -212,6 +212,22 @@ pub struct Marked {
     pub refused: u64,
     /// Turns that changed something.
     pub moved: u64,
+}
+
+impl Marked {
+    /// How many result words [`raw::mark`] has.
+    pub const WORDS: usize = 6;
+
+    /// These result words by name.
+    pub fn from_words([finished, live, followed, handed, refused, moved]: [u64; Self::WORDS]) -> Self {
+        Marked { finished: finished == 1, live, followed, handed, refused, moved }
+    }
+
+    /// The result words.
+    pub fn words(self) -> [u64; Self::WORDS] {
+        let Marked { finished, live, followed, handed, refused, moved } = self;
+        [u64::from(finished), live, followed, handed, refused, moved]
+    }
 }
 
 /// What a sweep found.
@@ -270,10 +286,9 @@ pub fn mark(
     work: &mut [u32],
 ) -> Result<Marked, Refusal> {
     let Settings { workers, batch, cutoff } = settings;
-    let mut result = [0; 6];
+    let mut result = [0; Marked::WORDS];
     answer(raw::mark(offsets, targets, index, workers, batch, cutoff, schedule.0, marks, work, &mut result))?;
-    let [finished, live, followed, handed, refused, moved] = result;
-    Ok(Marked { finished: finished == 1, live, followed, handed, refused, moved })
+    Ok(Marked::from_words(result))
 }
 
 /// Lists the objects whose mark is 0, upwards, then zeros, in a list of n words.
@@ -312,6 +327,12 @@ mod tests {
     fn display_is_in_words() {
         assert_eq!(Refusal::Buffer.to_string(), "refusal 7: a lent buffer is not as long as it must be");
         assert_eq!(Refusal::Other(13).to_string(), "refusal 13: a number newer than this crate");
+    }
+
+    #[test]
+    fn words_and_back() {
+        let words = core::array::from_fn(|i| i as u64 + 1);
+        assert_eq!(Marked::from_words(words).words(), words);
     }
 
     #[test]

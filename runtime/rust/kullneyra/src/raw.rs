@@ -99,8 +99,8 @@ pub fn references(offsets: &[u32], targets: &[u32], object: u32, result: &mut [u
     }
 }
 
-/// Marks by the turns of the schedule. Result words: finished (1 or 0), live, followed, handed,
-/// refused, moved.
+/// Marks by the turns of the schedule. Result words: the fields of [`Marked`](crate::Marked), with 1 or
+/// 0 for finished; [`Marked::from_words`](crate::Marked::from_words) names them.
 #[allow(clippy::too_many_arguments)]
 pub fn mark(
     offsets: &[u32],

@@ -25,8 +25,11 @@ pub struct Outcome {
 }
 
 impl Outcome {
+    /// How many result words the C function has.
+    pub const WORDS: usize = 6;
+
     /// The result words of the C function.
-    pub fn words(self) -> [u64; 6] {
+    pub fn words(self) -> [u64; Self::WORDS] {
         [u64::from(self.finished), self.live, self.followed, self.handed, self.refused, self.moved]
     }
 }
@@ -322,7 +325,7 @@ mod tests {
     const OFFSETS: [u32; 7] = [0, 2, 3, 4, 5, 5, 6];
     const TARGETS: [u32; 6] = [1, 2, 3, 3, 0, 4];
 
-    fn run(offsets: &[u32], targets: &[u32], w: u32, d: u32, k: u32, turns: &[u8]) -> [u64; 6] {
+    fn run(offsets: &[u32], targets: &[u32], w: u32, d: u32, k: u32, turns: &[u8]) -> [u64; Outcome::WORDS] {
         let n = offsets.len() - 1;
         let schedule: Vec<u8> = turns.iter().flat_map(|&b| [b, 0]).collect();
         let (mut marks, mut work) = (vec![7; n], vec![9; w as usize * (2 * n + 4)]);
