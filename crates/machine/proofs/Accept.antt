@@ -1,14 +1,15 @@
 -- A call without a fault is accepted.
-use mathlib.Core.Path.{_≡_}
+use mathlib.Core.Path.{_≡_, refl}
 use mathlib.Core.Bool.{true, false, not, _||_}
-use mathlib.Core.List.{[], _∷_}
-use Prim.Native.Nat.{ℕ, _*_, _≤_, _<_}
+use mathlib.Core.List.{List, [], _∷_}
+use Prim.Native.Nat.{ℕ, zero, suc, _*_, _≤_, _<_}
 use native.Mathlib.Omega.{arith}
 use lib.ListN.{length}
 use lib.Dec.{ltb, eqb}
 use borrow.Author.Tests.{ltb-true, ltb-false, eqb-true, not-false}
 use Rattle.laws.specs.Sum.{sum, hit}
 use Rattle.laws.proofs.Sum.{hit-equal}
+use Rattle.refusal.specs.Order.{first}
 use Rattle.refusal.proofs.None.{raise-none, first-none, or-none}
 use Rattle.graph.specs.Graph.{objects, references}
 use Rattle.graph.specs.Limits.{most-objects, most-references}
@@ -16,7 +17,7 @@ use Rattle.graph.proofs.Formed.{formed}
 use Rattle.machine.specs.Machine.{stretchLength}
 use Rattle.machine.specs.Accepted.{Accepted}
 use Rattle.machine.specs.Limits.{most-workers, most-setting}
-use Rattle.machine.specs.Call.{Call, graphOf, settingOf, startsOf, outside, settingFault, countFault, bufferFault, graphFault, indexFault, scheduleFits, fault}
+use Rattle.machine.specs.Call.{Call, graphOf, settingOf, startsOf, scheduledBy, outside, settingFault, countFault, bufferFault, graphFault, indexFault, scheduleFits, scheduleFault, fault}
 
 inside : (most x : ℕ) → outside most x ≡ false → (1 ≤ x) × (x ≤ most)
 inside most x e =
@@ -76,3 +77,21 @@ checked c marks work e =
       work-exact = eqb-true work (c .workers * stretchLength (objects (graphOf c))) (not-false _ (b .1));
       schedule-fits = not-false _ (raise-none _ 8 0 (f5 .1) .0);
     }
+
+-- where neither finds a fault, both in a row find none
+none-both : (k later : ℕ) → k ≡ 0 → later ≡ 0 → first k later ≡ 0
+none-both zero later e f = f
+none-both (suc k) later e f = absurd (omega arith)
+
+-- another schedule that fits brings no fault
+pub fault-scheduled : (c : Call) (marks work : ℕ) → fault c marks work ≡ 0 → (l : List ℕ) → scheduleFits (c .workers) l ≡ true
+    → fault (scheduledBy l c) marks work ≡ 0
+unfolding fault
+fault-scheduled c marks work e l fits =
+    let f8 = first-none (settingFault (c .workers) (c .batch) (c .cutoff)) _ e in
+    let f4 = first-none (countFault (c .offsets) (c .targets)) _ (f8 .1) in
+    let f7 = first-none (bufferFault (objects (graphOf c)) (c .workers) marks work) _ (f4 .1) in
+    let f10 = first-none (graphFault (graphOf c)) _ (f7 .1) in
+    let f5 = first-none (indexFault (objects (graphOf c)) (c .index)) _ (f10 .1) in
+    let f9 : scheduleFault (c .workers) l ≡ 0 = rw fits refl in
+    none-both _ _ (f8 .0) (none-both _ _ (f4 .0) (none-both _ _ (f7 .0) (none-both _ _ (f10 .0) (none-both _ _ (f5 .0) f9))))

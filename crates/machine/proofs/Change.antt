@@ -2,14 +2,16 @@
 use mathlib.Core.Path.{_≡_, refl, _∙_}
 use mathlib.Core.List.{List, [], _∷_}
 use mathlib.Core.Logic.{_≢_}
-use Prim.Native.Nat.{ℕ, _+_, _*_, _<_}
+use Prim.Native.Nat.{ℕ, zero, suc, _+_, _*_, _<_}
 use native.Mathlib.Omega.{arith}
 use lib.ListN.{length, getD, set, length-set}
 use lib.Seq.{getD-set-other}
 use Rattle.laws.specs.Every.{Every}
 use Rattle.laws.specs.Sum.{sum, hit}
 use Rattle.laws.proofs.Sum.{sum-set, at-set, each-set}
-use Rattle.machine.specs.Machine.{Worker, ended}
+use Rattle.machine.specs.Machine.{Worker, idle, asking, denied, ended, given, busy}
+use Rattle.machine.specs.Sound.{waits}
+use Rattle.machine.specs.Events.{replies}
 
 -- one worker's change: its number, what it was and what it is
 pub record Change : Type 0 where
@@ -78,3 +80,49 @@ two b x y a x′ y′ = record { place = b; was = x; now = y } ∷ one a x′ y�
 pub fits-two : (ws : List Worker) (b a : ℕ) (x y x′ y′ : Worker) → getD ws b ended ≡ x → b < length ws
     → getD ws a ended ≡ x′ → a < length ws → a ≢ b → Fits ws (two b x y a x′ y′)
 fits-two ws b a x y x′ y′ e h e′ h′ n = (e, h, (getD-set-other ws b a y ended n ∙ e′, rw length-set h′, tt))
+
+-- ---- replies
+
+-- how many of those that change were without a reply and have such a one afterwards
+abbrev pub replied : (Worker → ℕ) → List Change → ℕ
+replied f cs = sum (λ (c : Change). waits (c .was) * f (c .now)) cs
+
+module _ (f : Worker → ℕ) (z : f asking ≡ 0) where
+  -- an asker without a reply has none
+  no-reply : (w : Worker) → waits w * f w ≡ 0
+  no-reply idle = omega arith
+  no-reply asking = omega (arith, z)
+  no-reply denied = omega arith
+  no-reply ended = omega arith
+  no-reply (given rs) = omega arith
+  no-reply (busy c n p rs) = omega arith
+
+  pub replies-none : (ws : List Worker) → replies f ws ws ≡ 0
+  unfolding replies
+  replies-none [] = refl
+  replies-none (w ∷ ws) = omega (arith, no-reply w, replies-none ws)
+
+  -- one more worker changes: x is what it was at first, y what it was before this change
+  replies-set : (ws ws′ : List Worker) (b : ℕ) (x y w : Worker) → getD ws b ended ≡ x → getD ws′ b ended ≡ y → b < length ws
+      → b < length ws′ → replies f ws (set ws′ b w) + waits x * f y ≡ replies f ws ws′ + waits x * f w
+  unfolding replies
+  replies-set [] ws′ b x y w e e′ h h′ = absurd (omega arith)
+  replies-set (v ∷ ws) [] b x y w e e′ h h′ = absurd (omega arith)
+  replies-set (v ∷ ws) (v′ ∷ ws′) zero x y w e e′ h h′ = rw (e, e′) (omega arith)
+  replies-set (v ∷ ws) (v′ ∷ ws′) (suc b) x y w e e′ h h′ = omega (arith, replies-set ws ws′ b x y w e e′ (omega arith) (omega arith))
+
+  pub replies-one : (ws : List Worker) (b : ℕ) (x y : Worker) → getD ws b ended ≡ x → b < length ws
+      → replies f ws (set ws b y) ≡ replied f (one b x y)
+  unfolding sum
+  replies-one ws b x y e h = omega (arith, replies-set ws ws b x x y e e h h, replies-none ws, no-reply x)
+
+  pub replies-two : (ws : List Worker) (b a : ℕ) (x y x′ y′ : Worker) → getD ws b ended ≡ x → b < length ws
+      → getD ws a ended ≡ x′ → a < length ws → a ≢ b → replies f ws (set (set ws b y) a y′) ≡ replied f (two b x y a x′ y′)
+  unfolding sum
+  replies-two ws b a x y x′ y′ e h e′ h′ n =
+      omega (
+        arith,
+        replies-one ws b x y e h,
+        replies-set ws (set ws b y) a x′ x′ y′ e′ (getD-set-other ws b a y ended n ∙ e′) h′ (rw length-set h′),
+        no-reply x′,
+      )

@@ -1,4 +1,4 @@
--- Demand 2 holds of every accepted call.
+-- Demand 2 holds of the result and the marks of every accepted call.
 use mathlib.Core.Path.{_≡_, ap}
 use mathlib.Core.Bool.{true}
 use mathlib.Core.List.{List}
@@ -8,10 +8,10 @@ use Rattle.laws.specs.Sum.{sum, hit}
 use Rattle.laws.proofs.Sum.{sum-zero-each}
 use Rattle.graph.specs.Graph.{Graph}
 use Rattle.graph.specs.Chain.{Reach, here, on}
-use Rattle.machine.specs.Machine.{Setting, State, Entry, ended, allEnded}
+use Rattle.machine.specs.Machine.{Setting, State, Entry, ended, allEnded, result}
 use Rattle.machine.specs.Accepted.{Accepted}
 use Rattle.machine.specs.Sound.{Marked, runsSum, heldSum, Sound}
-use Rattle.machine.specs.Demand2.{Demand2}
+use Rattle.machine.specs.Demand2.{outcome, Demand2}
 use Rattle.machine.proofs.Ended.{ended-at}
 use Rattle.machine.proofs.Start.{sound, fresh}
 
@@ -28,7 +28,8 @@ module _ {G : Graph} {starts : List ℕ} {W : ℕ} {g : Setting} {s : State} (S 
   all-marked (on {u = u} e r l) = S .targets-marked e u l (all-marked r) (none-held (hit e))
 
 -- demand 2
-pub demand2 : {G : Graph} {starts : List ℕ} {W : ℕ} {g : Setting} → Accepted G starts W g → (xs : List Entry) → Demand2 G starts W g xs
+pub demand2 : {G : Graph} {starts : List ℕ} {W : ℕ} {g : Setting} → Accepted G starts W g → (xs : List Entry)
+    → Demand2 G starts W g xs (result (outcome G starts W g xs)) (outcome G starts W g xs .marks)
 demand2 A xs =
     record {
       marked-exactly = λ done v. (fresh A xs .only-reached v, λ r. all-marked (sound A xs) done r);

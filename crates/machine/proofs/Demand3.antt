@@ -1,5 +1,5 @@
 -- Demand 3 holds of every accepted call.
-use mathlib.Core.Path.{_≡_, subst}
+use mathlib.Core.Path.{_≡_, refl, _∙_, subst}
 use mathlib.Core.Bool.{true}
 use mathlib.Core.List.{List}
 use mathlib.Core.Logic.{_↔_, ⊎-elim}
@@ -12,7 +12,7 @@ use Rattle.graph.specs.Graph.{Graph, Leaves, degree}
 use Rattle.graph.specs.Chain.{Reach, reached, leavingReached}
 use Rattle.graph.proofs.OverMarked.{over-below, over-degree, over-total, over-once, over-leaves, over-source}
 use Rattle.graph.proofs.Reached.{reached-chain, chain-reached}
-use Rattle.machine.specs.Machine.{Setting, State, Entry, Worker, idle, asking, denied, ended, given, busy, Cell, empty, from, worker, carriedBy, carriedAll, start, allEnded}
+use Rattle.machine.specs.Machine.{Setting, State, Entry, Worker, idle, asking, denied, ended, given, busy, Cell, empty, from, worker, carriedBy, carriedAll, start, allEnded, result}
 use Rattle.machine.specs.Accepted.{Accepted}
 use Rattle.machine.specs.Sound.{Marked, WorkerSound, stopped, cellTurns, turnsOf, upTo, Sound, Fresh}
 use Rattle.machine.specs.Demand2.{outcome}
@@ -23,6 +23,7 @@ use Rattle.machine.proofs.Step.{over, phase-turns-limit}
 use Rattle.machine.proofs.Kept.{carried-all-is}
 use Rattle.machine.proofs.Start.{sound-start, sound, fresh}
 use Rattle.machine.proofs.Demand2.{none-held, all-marked}
+use Rattle.machine.proofs.Events.{moved-counts, replies-count}
 use Rattle.machine.proofs.Progress.{stretches-move}
 
 cell-turns-limit : (c : Cell) → cellTurns c ≤ 2
@@ -130,15 +131,20 @@ module _ {G : Graph} {starts : List ℕ} {W : ℕ} {g : Setting} (A : Accepted G
       (stretches-move A (sound-start A) xss h)
 
 -- demand 3
-pub demand3 : {G : Graph} {starts : List ℕ} {W : ℕ} {g : Setting} → Accepted G starts W g → (xs : List Entry) → Demand3 G starts W g xs
+pub demand3 : {G : Graph} {starts : List ℕ} {W : ℕ} {g : Setting} → Accepted G starts W g → (xs : List Entry)
+    → Demand3 G starts W g xs (result (outcome G starts W g xs))
+unfolding start
 demand3 {G} {starts} {W} {g} A xs =
     let S = sound A xs in
     let F = fresh A xs in
     record {
       once = no-twice A S F;
       followed = followed-trail A S F;
+      hand-overs = omega (arith, replies-count A (sound-start A) xs);
+      refusals = omega (arith, replies-count A (sound-start A) xs);
+      changes = moved-counts A (sound-start A) refl xs;
       exactly = λ done. trail-exactly A S F done;
-      whole = λ done. trail-whole A S F done;
+      whole = λ done. followed-trail A S F ∙ trail-whole A S F done;
       handed = handed-limit A S F;
       moved = moved-limit A S F;
       finishes = λ (c : Cut W (stretchBound (leavingReached G starts) W) xs).

@@ -1,117 +1,136 @@
--- Demand 3 is not empty: all its clauses on store S with case A's turns, and, for every accepted graph, a schedule
--- that clause 5 finishes.
+-- Demand 3 is not empty: all its clauses of the row that case A's call reports on store S, and, for every call without a
+-- fault, a schedule of bytes that clause 5 finishes.
+use mathlib.Core.Path.{_≡_, refl, ap}
 use mathlib.Core.Bool.{true}
-use mathlib.Core.List.{[], _∷_, List}
-use Prim.Native.Nat.{ℕ, _+_, _<_, zero, suc, _*_, _≤_}
-use native.Mathlib.Omega.{arith}
-use Rattle.laws.specs.Sum.{sum, hit}
-use Rattle.laws.proofs.Sum.{hit-equal, sum-snoc, hit-same}
-use Rattle.graph.specs.Graph.{wellFormed, Graph, Leaves}
-use Rattle.graph.specs.Chain.{leavingReached, marksAt, Reach}
-use Rattle.graph.proofs.Formed.{formed}
-use Rattle.machine.specs.Run.{carried, keep, rest}
-use Rattle.machine.specs.Machine.{Setting, State, allEnded, entries, start, startRuns, turns, result, Entry}
-use Rattle.machine.specs.Drawings.{S, turnsA}
-use Rattle.machine.specs.Accepted.{Accepted}
-use Rattle.machine.specs.Demand2.{outcome}
-use mathlib.Core.Path.{_≡_, refl, ap, _∙_}
-use mathlib.Core.Logic.{_↔_, by-cases}
+use mathlib.Core.List.{List, [], _∷_, _++_}
+use mathlib.Core.Logic.{by-cases}
+use Prim.Native.Nat.{ℕ, zero, suc, _≤_, _<_}
 use native.Mathlib.Decide.{decLt}
+use native.Mathlib.Omega.{arith}
+use borrow.Author.Tests.{lt-ltb}
 use lib.ListN.{length, replicate, length-replicate}
-use Rattle.machine.specs.Demand3.{stretchBound, entriesOf, AllHave, eachInTurn, longEnough, Cut, trailOf}
+use Rattle.laws.specs.Blocks.{laid}
+use Rattle.laws.specs.Every.{Every}
+use Rattle.laws.specs.Sum.{sum, hit}
+use Rattle.laws.proofs.Every.{every-append}
+use Rattle.laws.proofs.Sum.{hit-same}
+use Rattle.graph.specs.Graph.{rising, allBelow, wellFormed}
+use Rattle.graph.specs.Chain.{leavingReached, marksAt}
+use Rattle.machine.specs.Row.{Row}
+use Rattle.machine.specs.Run.{carried, keep, rest}
+use Rattle.machine.specs.Machine.{Entry, allEnded, entries, live, start, startRuns, turns}
+use Rattle.machine.specs.Call.{Call, graphOf, settingOf, startsOf, scheduledBy, scheduleFits, fault, marking}
+use Rattle.machine.specs.Demand3.{stretchBound, entriesOf, AllHave, joined, roundOf, rounds, longSchedule, Cut, Demand3}
+use Rattle.machine.specs.Drawings.{S, turnsA, gives, drawing, ones}
+use Rattle.machine.proofs.Accept.{checked, fault-scheduled}
 use Rattle.machine.proofs.Demand3.{demand3}
 
--- ---- every worker in turn
+-- ---- rounds
 
-in-turn : (k b : ℕ) → b < k → 0 < entriesOf b (eachInTurn k)
-unfolding eachInTurn
-in-turn zero b h = absurd (omega arith)
-in-turn (suc k) b h =
-    let last = sum-snoc (λ (x : Entry). hit b (x .worker)) (eachInTurn k) (record { worker = k; named = 0 }) in
+-- a round has a turn of every worker
+in-round : (k b : ℕ) → b < k → 0 < entriesOf b (entries (roundOf k))
+unfolding roundOf entries sum
+in-round zero b h = absurd (omega arith)
+in-round (suc k) b h =
     by-cases (decLt b k)
-    (λ (p : b < k). omega (arith, last, in-turn k b p))
-    (λ (p : ¬ (b < k)). let e : b ≡ k = omega arith in omega (arith, last, ap (hit b) e, hit-same b))
+    (λ (p : b < k). omega (arith, in-round k b p))
+    (λ (p : ¬ (b < k)). let e : b ≡ k = omega arith in omega (arith, ap (hit b) e, hit-same b))
 
-each-in-turn : (W k : ℕ) → AllHave W (replicate k (eachInTurn W))
-each-in-turn W zero = tt
-each-in-turn W (suc k) = (λ b h. in-turn W b (omega arith), each-in-turn W k)
+each-round : (W k : ℕ) → AllHave W (replicate k (entries (roundOf W)))
+each-round W zero = tt
+each-round W (suc k) = (λ b h. in-round W b (omega arith), each-round W k)
 
--- as many stretches as clause 5 asks for
-pub long-enough-cut : (G : Graph) (starts : List ℕ) (W : ℕ) → Cut W (stretchBound (leavingReached G starts) W) (longEnough G starts W)
-unfolding longEnough
-long-enough-cut G starts W =
+-- its bytes are whole entries
+round-entries : (k : ℕ) (l : List ℕ) → entries (roundOf k ++ l) ≡ entries (roundOf k) ++ entries l
+unfolding roundOf entries
+round-entries zero l = refl
+round-entries (suc k) l = ap (λ (xs : List Entry). record { worker = k; named = 0 } ∷ xs) (round-entries k l)
+
+rounds-joined : (W k : ℕ) → joined (replicate k (entries (roundOf W))) ≡ entries (rounds W k)
+unfolding rounds joined laid entries
+rounds-joined W zero = refl
+rounds-joined W (suc k) =
+    rw (round-entries W (rounds W k)) (ap (λ (xs : List Entry). entries (roundOf W) ++ xs) (rounds-joined W k))
+
+-- each with a worker below W, and as bytes
+round-fits : (W k : ℕ) (l : List ℕ) → k ≤ W → scheduleFits W l ≡ true → scheduleFits W (roundOf k ++ l) ≡ true
+unfolding roundOf scheduleFits
+round-fits W zero l h f = f
+round-fits W (suc k) l h f = rw (lt-ltb k W (omega arith), round-fits W k l (omega arith) f) refl
+
+rounds-fit : (W k : ℕ) → scheduleFits W (rounds W k) ≡ true
+unfolding rounds scheduleFits
+rounds-fit W zero = refl
+rounds-fit W (suc k) = round-fits W W (rounds W k) (omega arith) (rounds-fit W k)
+
+abbrev Byte : ℕ → Type 0
+Byte x = x < 256
+
+round-bytes : (k : ℕ) → k ≤ 16 → Every Byte (roundOf k)
+unfolding roundOf
+round-bytes zero h = tt
+round-bytes (suc k) h = (omega arith, (omega arith, round-bytes k (omega arith)))
+
+rounds-bytes : (W k : ℕ) → W ≤ 16 → Every Byte (rounds W k)
+unfolding rounds
+rounds-bytes W zero h = tt
+rounds-bytes W (suc k) h = every-append Byte (roundOf W) (rounds W k) (round-bytes W h) (rounds-bytes W k h)
+
+-- ---- every call without a fault has a schedule that finishes
+
+-- the schedule that is long enough for a call
+abbrev pub longFor : Call → List ℕ
+longFor c = longSchedule (graphOf c) (startsOf c) (c .workers)
+
+pub record Finishable (c : Call) (marks work : List ℕ) : Type 0 where
+  pub bytes : Every Byte (longFor c)
+  pub faultless : fault (scheduledBy (longFor c) c) (length marks) (length work) ≡ 0
+  pub finished : marking (scheduledBy (longFor c) c) marks work .finished ≡ true
+
+pub long-enough : (c : Call) (marks work : List ℕ) → fault c (length marks) (length work) ≡ 0 → Finishable c marks work
+unfolding longSchedule
+long-enough c marks work e =
+    let A = checked c (length marks) (length work) e .accepted in
+    let k = stretchBound (leavingReached (graphOf c) (startsOf c)) (c .workers) in
+    let none = fault-scheduled c (length marks) (length work) e (longFor c) (rounds-fit (c .workers) k) in
+    let cut : Cut (c .workers) k (entries (longFor c)) = record {
+      stretches = replicate k (entries (roundOf (c .workers)));
+      number = length-replicate k (entries (roundOf (c .workers)));
+      whole = rounds-joined (c .workers) k;
+      each = each-round (c .workers) k;
+    } in
     record {
-      stretches = replicate (stretchBound (leavingReached G starts) W) (eachInTurn W);
-      number = length-replicate (stretchBound (leavingReached G starts) W) (eachInTurn W);
-      whole = refl;
-      each = each-in-turn W (stretchBound (leavingReached G starts) W);
+      bytes = rounds-bytes (c .workers) k (A .workers-limit);
+      faultless = none;
+      finished = rw none (demand3 A (entries (longFor c)) .finishes cut);
     }
-
--- every accepted graph has a schedule that finishes
-pub long-enough : {G : Graph} {starts : List ℕ} {W : ℕ} {g : Setting} → Accepted G starts W g
-    → result (outcome G starts W g (longEnough G starts W)) .finished ≡ true
-long-enough {G} {starts} {W} A = demand3 A (longEnough G starts W) .finishes (long-enough-cut G starts W)
 
 -- ---- store S, case A
 
--- D and K of case A
-abbrev pub settingA : Setting
-settingA = record { batch = 1; cutoff = 1 }
+-- the row that case A's call reports
+abbrev pub rowA : Row
+rowA = gives true 4 5 1 0 18
 
--- R of store S
-pub R-of-S : leavingReached S (0 ∷ []) ≡ 5
-unfolding leavingReached
-R-of-S = refl
+abbrev pub callA : Call
+callA = drawing S 2 1 1 turnsA rowA .call
 
--- the call is accepted
-pub accepted-S : Accepted S (0 ∷ []) 2 settingA
-unfolding wellFormed sum
-accepted-S =
-    record {
-      formed = formed S refl;
-      some-object = omega arith;
-      some-worker = omega arith;
-      workers-limit = omega arith;
-      some-batch = omega arith;
-      batch-limit = omega arith;
-      some-cutoff = omega arith;
-      cutoff-limit = omega arith;
-      starts-below = λ (v : ℕ) (h : 0 < hit v 0 + 0). omega (arith, hit-equal v 0 (omega arith));
-    }
-
--- the state that case A's turns leave
-abbrev pub caseA : State
-caseA = outcome S (0 ∷ []) 2 settingA (entries turnsA)
-
--- they finish
-pub finished-A : result caseA .finished ≡ true
-unfolding turns start entries turnsA startRuns carried marksAt keep rest allEnded
-finished-A = refl
-
--- case A's trail
-abbrev pub trailA : List ℕ
-trailA = trailOf S (0 ∷ []) 2 settingA (entries turnsA)
-
--- what each clause of demand 3 says of case A, with R = 5
+-- the call has no fault, reports that row, and demand 3 holds of it, where R is 5
 pub record OnS : Type 0 where
-  pub once : (e : ℕ) → sum (hit e) trailA ≤ 1
-  pub followed : caseA .counts .followed ≡ length trailA
-  pub exactly : (e : ℕ) → (0 < sum (hit e) trailA) ↔ ((v : ℕ) × Reach S (0 ∷ []) v × Leaves S e v)
-  pub whole : length trailA ≡ 5
-  pub handed : caseA .counts .handed * 1 ≤ 15
-  pub moved : caseA .counts .moved ≤ 37
-  pub finishes : (xs : List Entry) → Cut 2 37 xs → result (outcome S (0 ∷ []) 2 settingA xs) .finished ≡ true
+  pub faultless : fault callA 6 32 ≡ 0
+  pub reports : marking callA (ones 6) (ones 32) ≡ rowA
+  pub five : leavingReached S (0 ∷ []) ≡ 5
+  pub holds : Demand3 S (0 ∷ []) 2 (settingOf callA) (entries turnsA) rowA
 
--- they hold
+faultless-A : fault callA 6 32 ≡ 0
+unfolding fault turnsA scheduleFits rising allBelow wellFormed
+faultless-A = refl
+
 pub on-S : OnS
+unfolding turns start entries turnsA startRuns carried marksAt keep rest allEnded live leavingReached fault scheduleFits rising allBelow wellFormed
 on-S =
-    let d = demand3 accepted-S (entries turnsA) in
     record {
-      once = d .once;
-      followed = d .followed;
-      exactly = d .exactly finished-A;
-      whole = d .whole finished-A ∙ R-of-S;
-      handed = omega (arith, d .handed, R-of-S);
-      moved = omega (arith, d .moved, R-of-S);
-      finishes = λ (xs : List Entry) (c : Cut 2 37 xs). demand3 accepted-S xs .finishes (rw R-of-S c);
+      faultless = faultless-A;
+      reports = refl;
+      five = refl;
+      holds = demand3 (checked callA 6 32 faultless-A .accepted) (entries turnsA);
     }

@@ -26,12 +26,13 @@ use Rattle.machine.specs.Machine.{runsOf, carriedBy, carriedAll, live, s
 use Rattle.machine.specs.Accepted.{Accepted}
 use Rattle.machine.specs.Sound.{Marked, Within, Whole, WholeInside, Carries, batchOf, Working, WorkerSound, holds, waits, stopped, sinceOf, runsSum, heldSum, Sound, asks?}
 use Rattle.machine.specs.Sound.{phaseTurns, turnsOf, upTo}
+use Rattle.machine.specs.Events.{owed?, refused?, replies}
 use Rattle.machine.specs.Move.{wakes, takes-up, ends, polls, looks, asked, hands, refuses, Taken, seen, lost, won, Waiting, Move, still, alone, follow}
 use Rattle.machine.proofs.Facts.{there, given-carries, busy-below, busy-working, busy-carried, busy-carried-all, first-target}
 use Rattle.machine.proofs.Runs.{cuts, runs-append, runs-from, runs-cut, carried-is, carried-length, halves, length-from, length-cut, within-part}
 use Rattle.machine.proofs.Runs.{within-cut, within-more, leaving-runs, whole-append, inside-from, inside-keep, inside-rest}
 use Rattle.machine.proofs.Marks.{claim-mark-set, claim-mark-limit, marked-keeps, marked-from, marked-there, over-more, live-more}
-use Rattle.machine.proofs.Change.{Change, put, Fits, before, after, beforeAt, afterAt, one, two, fits-two}
+use Rattle.machine.proofs.Change.{Change, put, Fits, before, after, beforeAt, afterAt, one, two, fits-two, replied, replies-none, replies-one, replies-two}
 
 -- ---- the record
 
@@ -52,6 +53,8 @@ pub record Marking (G : Graph) (W : ℕ) (s : State) (ms : List ℕ) (t : List �
 pub record Weighs (g : Setting) (s s′ : State) (k : ℕ) (cs : List Change) : Type 0 where
   pub followed : s′ .counts .followed ≡ s .counts .followed + k
   pub refused : s′ .counts .refused + s .counts .moved ≤ s .counts .refused + s′ .counts .moved
+  pub handed-is : s′ .counts .handed ≡ s .counts .handed + replied owed? cs
+  pub refused-is : s′ .counts .refused ≡ s .counts .refused + replied refused? cs
   pub lives : s′ .counts .live + live (s .marks) ≡ s .counts .live + live (s′ .marks)
   -- who enters a cell waits from then on, and who leaves it has a reply
   pub cells : (i : ℕ) → after (holds i) cs + beforeAt waits i cs ≡ before (holds i) cs + afterAt waits i cs
@@ -72,6 +75,8 @@ pub record Step (G : Graph) (W : ℕ) (g : Setting) (s : State) (t : List ℕ) (
   pub now-sound : Every (λ (c : Change). WorkerSound G g (s′ .marks) (c .now)) changes
   -- references move from the runs to the trail, and a newly marked object's enter the runs
   pub held : (f : ℕ → ℕ) → after (heldSum f) changes + sum f t + over G f (s .marks) ≡ before (heldSum f) changes + over G f (s′ .marks)
+  -- who has a reply is among those that change
+  pub replies-are : (f : Worker → ℕ) → f asking ≡ 0 → replies f (s .workers) (s′ .workers) ≡ replied f changes
   pub weighs : Weighs g s s′ (length t) changes
   pub marking : Marking G W s (s′ .marks) t
 
@@ -232,6 +237,7 @@ module _ {G : Graph} {starts : List ℕ} {W : ℕ} {g : Setting} {s : State} (A 
         fits = (q, inside-there b q h, tt);
         now-sound = (u, tt);
         held = λ (f : ℕ → ℕ). omega (arith, held f);
+        replies-are = λ f z. rw i (replies-one f z (s .workers) b x y q (inside-there b q h));
         weighs = w;
         marking = m;
       }
@@ -253,6 +259,8 @@ module _ {G : Graph} {starts : List ℕ} {W : ℕ} {g : Setting} {s : State} (A 
         fits = fits-two (s .workers) b a (busy c n p rs) y x z q (inside-there b q (omega arith)) r (inside-there a r h) apart;
         now-sound = (u, (v, tt));
         held = λ (f : ℕ → ℕ). omega (arith, held f, ap (runsSum f) e);
+        replies-are = λ f o.
+            rw i (replies-two f o (s .workers) b a (busy c n p rs) y x z q (inside-there b q (omega arith)) r (inside-there a r h) apart);
         weighs = w;
         marking = m;
       }
@@ -323,6 +331,7 @@ module _ {G : Graph} {starts : List ℕ} {W : ℕ} {g : Setting} {s : State} (A 
         fits = tt;
         now-sound = tt;
         held = λ (f : ℕ → ℕ). omega arith;
+        replies-are = λ f z. replies-none f z (s .workers);
         weighs = omega arith;
         marking = none-taken;
       }

@@ -23,6 +23,19 @@ pub record Call : Type 0 where
   pub cutoff : ℕ
   pub schedule : List ℕ
 
+-- the call with another schedule
+abbrev pub scheduledBy : List ℕ → Call → Call
+scheduledBy schedule c =
+    record {
+      offsets = c .offsets;
+      targets = c .targets;
+      index = c .index;
+      workers = c .workers;
+      batch = c .batch;
+      cutoff = c .cutoff;
+      schedule = schedule;
+    }
+
 abbrev pub graphOf : Call → Graph
 graphOf c = graph (c .offsets) (c .targets)
 

@@ -1,16 +1,17 @@
--- Demand 3 in one piece, SPECIFICATION 6: one statement about the whole list of turns.
+-- Demand 3 in one piece, SPECIFICATION 6: one statement about the whole list of turns and the row reported of it.
 use mathlib.Core.Path.{_≡_}
 use mathlib.Core.Bool.{true}
 use mathlib.Core.List.{List, [], _∷_, _++_}
 use mathlib.Core.Logic.{_↔_}
 use Prim.Native.Nat.{ℕ, zero, suc, _+_, _*_, _≤_, _<_}
-use lib.ListN.{length, replicate}
+use lib.ListN.{length}
 use Rattle.laws.specs.Blocks.{laid}
 use Rattle.laws.specs.Sum.{sum, hit}
 use Rattle.graph.specs.Graph.{Graph, Leaves}
 use Rattle.graph.specs.Chain.{Reach, leavingReached}
-use Rattle.machine.specs.Machine.{Setting, Entry, result, start, trail}
-use Rattle.machine.specs.Demand2.{outcome}
+use Rattle.machine.specs.Row.{Row}
+use Rattle.machine.specs.Machine.{Setting, Entry, start, trail}
+use Rattle.machine.specs.Events.{Changing, owed?, refused?, answered}
 
 -- the most turns that change something, and the stretches that finish
 abbrev pub stretchBound : ℕ → ℕ → ℕ
@@ -45,28 +46,37 @@ pub record Cut (W k : ℕ) (xs : List Entry) : Type 0 where
 abbrev pub trailOf : Graph → List ℕ → ℕ → Setting → List Entry → List ℕ
 trailOf G starts W g xs = trail G g (start G starts W) xs
 
-pub record Demand3 (G : Graph) (starts : List ℕ) (W : ℕ) (g : Setting) (xs : List Entry) : Type 0 where
+pub record Demand3 (G : Graph) (starts : List ℕ) (W : ℕ) (g : Setting) (xs : List Entry) (r : Row) : Type 0 where
   -- 1. no number stands in the trail twice, and followed is its length
   pub once : (e : ℕ) → sum (hit e) (trailOf G starts W g xs) ≤ 1
-  pub followed : outcome G starts W g xs .counts .followed ≡ length (trailOf G starts W g xs)
+  pub followed : r .counts .followed ≡ length (trailOf G starts W g xs)
+  -- the other counts: asks answered with references, asks answered no, turns after which something differs
+  pub hand-overs : r .counts .handed ≡ answered owed? G g (start G starts W) xs
+  pub refusals : r .counts .refused ≡ answered refused? G g (start G starts W) xs
+  pub changes : Changing G g (start G starts W) xs (r .counts .moved)
   -- 2. when finished, it holds just the R numbers that leave reachable objects
-  pub exactly : result (outcome G starts W g xs) .finished ≡ true
+  pub exactly : r .finished ≡ true
       → (e : ℕ) → (0 < sum (hit e) (trailOf G starts W g xs)) ↔ ((v : ℕ) × Reach G starts v × Leaves G e v)
-  pub whole : result (outcome G starts W g xs) .finished ≡ true
-      → length (trailOf G starts W g xs) ≡ leavingReached G starts
+  pub whole : r .finished ≡ true → r .counts .followed ≡ leavingReached G starts
   -- 3. handed × K is at most 3R
-  pub handed : outcome G starts W g xs .counts .handed * g .cutoff ≤ handedBound (leavingReached G starts)
+  pub handed : r .counts .handed * g .cutoff ≤ handedBound (leavingReached G starts)
   -- 4. moved is at most 7R + W
-  pub moved : outcome G starts W g xs .counts .moved ≤ stretchBound (leavingReached G starts) W
+  pub moved : r .counts .moved ≤ stretchBound (leavingReached G starts) W
   -- 5. 7R + W stretches finish
-  pub finishes : Cut W (stretchBound (leavingReached G starts) W) xs → result (outcome G starts W g xs) .finished ≡ true
+  pub finishes : Cut W (stretchBound (leavingReached G starts) W) xs → r .finished ≡ true
 
--- each of the first k workers in turn, naming 0
-unfoldable pub eachInTurn : ℕ → List Entry
-eachInTurn zero = []
-eachInTurn (suc k) = eachInTurn k ++ (record { worker = k; named = 0 } ∷ [])
+-- a turn of each of the first k workers, the last one first, naming 0: as bytes of a schedule
+unfoldable pub roundOf : ℕ → List ℕ
+roundOf zero = []
+roundOf (suc k) = k ∷ 0 ∷ roundOf k
 
--- a schedule that clause 5 finishes: each worker in turn, 7R + W times
-unfoldable pub longEnough : Graph → List ℕ → ℕ → List Entry
-unfolding joined eachInTurn leavingReached
-longEnough G starts W = joined (replicate (stretchBound (leavingReached G starts) W) (eachInTurn W))
+-- so many such rounds of W workers
+unfoldable pub rounds : ℕ → ℕ → List ℕ
+unfolding roundOf
+rounds W zero = []
+rounds W (suc k) = roundOf W ++ rounds W k
+
+-- a schedule that clause 5 finishes: 7R + W rounds
+unfoldable pub longSchedule : Graph → List ℕ → ℕ → List ℕ
+unfolding rounds leavingReached
+longSchedule G starts W = rounds W (stretchBound (leavingReached G starts) W)

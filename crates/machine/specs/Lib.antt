@@ -3,6 +3,7 @@ pub mod Call
 pub mod Demand2
 pub mod Demand3
 pub mod Drawings
+pub mod Events
 pub mod Limits
 pub mod Machine
 pub mod Move

@@ -151,8 +151,9 @@ module _ (c : Call) (marks work : List ℕ) where
         row-is = l .0;
         marks-are = l .1 .0;
         work-is = l .1 .1;
-        demand2 = λ e. demand2 (checked c (length marks) (length work) e .accepted) (entries (c .schedule));
-        demand3 = λ e. demand3 (checked c (length marks) (length work) e .accepted) (entries (c .schedule));
+        demand2 = λ e.
+            rw (rw e at (l .0), rw e at (l .1 .0)) (demand2 (checked c (length marks) (length work) e .accepted) (entries (c .schedule)));
+        demand3 = λ e. rw (rw e at (l .0)) (demand3 (checked c (length marks) (length work) e .accepted) (entries (c .schedule)));
       }
 
   -- any other number than 0 is a refusal, and the buffers stay

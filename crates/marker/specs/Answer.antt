@@ -37,13 +37,13 @@ row (Refused r) = refusedRow (number r)
 pub record Finds (v : Verdict) (c : Call) (marks work : ℕ) : Type 0 where
   pub number-is : numberOf v ≡ fault c marks work
 
--- the call's promise, for all inputs: the answer, every mark and every work word; and, of a call without a fault,
--- demands 2 and 3
+-- the call's promise, for all inputs: the answer, every mark and every work word; and, where the call has no fault,
+-- demands 2 and 3 of the answer and the marks
 pub record Answered (c : Call) (marks work : List ℕ) (r : Marked) (marks′ work′ : List ℕ) : Type 0 where
   pub row-is : row r ≡ marking c marks work
   pub marks-are : marks′ ≡ marksAfter c marks work
   pub work-is : work′ ≡ workAfter c marks work
   pub demand2 : fault c (length marks) (length work) ≡ 0
-      → Demand2 (graphOf c) (startsOf c) (c .workers) (settingOf c) (entries (c .schedule))
+      → Demand2 (graphOf c) (startsOf c) (c .workers) (settingOf c) (entries (c .schedule)) (row r) marks′
   pub demand3 : fault c (length marks) (length work) ≡ 0
-      → Demand3 (graphOf c) (startsOf c) (c .workers) (settingOf c) (entries (c .schedule))
+      → Demand3 (graphOf c) (startsOf c) (c .workers) (settingOf c) (entries (c .schedule)) (row r)
