@@ -1,7 +1,7 @@
 -- Layout and reading are each other's inverse.
-use mathlib.Core.Path.{_≡_, refl, ap, sym, subst, _∙_}
+use mathlib.Core.Path.{_≡_, refl, sym, _∙_}
 use mathlib.Core.List.{List, [], _++_, flatMap, append-nil}
-use Prim.Native.Nat.{ℕ, zero, suc, _+_, _*_}
+use Prim.Native.Nat.{ℕ, _+_, _*_}
 use native.Mathlib.Omega.{arith}
 use lib.ListN.{take, drop, replicate}
 use lib.Seq.{take-all, drop-drop}
@@ -9,20 +9,14 @@ use Rattle.laws.specs.Words.{le, word, Bytes}
 use Rattle.laws.proofs.Words.{word-le, le-field, take-join, bytes-drop}
 use Rattle.catalogue.specs.Store.{Store, InRange, objects, references}
 use Rattle.catalogue.specs.Layout.{reference, headerRecord, objectRecord, referenceRecord, layout}
-use Rattle.catalogue.specs.Reading.{accepted, judged, reading, faults, dues, catalogueFault, records, storeOf}
+use Rattle.catalogue.specs.Reading.{accepted, reading, faults, dues, catalogueFault, records, storeOf}
 use Rattle.catalogue.specs.Reading.{n-field, m-field, index-field, size-field, pair-field}
-use Rattle.catalogue.specs.Acceptance.{Acceptance}
 use Rattle.catalogue.proofs.Faults.{GoodHeader, clear-header}
 use Rattle.catalogue.proofs.Forms.{object-form, reference-form, form-bytes, record-bytes, written-faults, written-records, written-behind}
-use Rattle.catalogue.proofs.Accepted.{Whole, whole-bytes, whole-range}
+use Rattle.catalogue.proofs.Accepted.{Whole}
 use Rattle.catalogue.proofs.Reader.{store-objects, store-references}
 
 -- ---- from bytes to the layout
-
--- an accepted reading
-judged-store : (k : ℕ) (r s : Store) → judged k r ≡ accepted s → (k ≡ 0) × (r ≡ s)
-judged-store zero r s h = (refl, cc)
-judged-store (suc k) r s h = absurd (let z : _≡_ {A = ℕ} 0 1 = cc in omega arith)
 
 header-bytes : (b : List ℕ) → Bytes b → GoodHeader b
     → (s : Store) → objects s ≡ n-field b → references s ≡ m-field b → s .index ≡ index-field b → headerRecord s ≡ take 16 b
@@ -40,7 +34,7 @@ header-bytes b h g s en em ei =
       take-join 4 4 8 b,
     ) (take-join 0 4 12 b)
 
-whole-layout : (b : List ℕ) → Bytes b → Whole b → b ≡ layout (storeOf b)
+pub whole-layout : (b : List ℕ) → Bytes b → Whole b → b ≡ layout (storeOf b)
 unfolding layout storeOf
 whole-layout b h w =
     let n = n-field b in
@@ -113,21 +107,6 @@ module _ (s : Store) (r : InRange s) where
       rw (header-n, header-m, pairs-behind, ← append-nil pairs)
       (written-records (reference-form (r .few)) (s .pairs) [] (r .ends-below))
 
-  layout-accepted : reading (layout s) ≡ accepted s
+  pub layout-accepted : reading (layout s) ≡ accepted s
   unfolding reading storeOf
   layout-accepted = rw (layout-clear, header-index, layout-sizes, layout-pairs)
-
--- an accepted catalogue is one without a fault, and its store is the one that it tells
-pub accepted-whole : (b : List ℕ) (s : Store) → reading b ≡ accepted s → Whole b × (storeOf b ≡ s)
-unfolding reading
-accepted-whole b s e = let o = judged-store (catalogueFault b) (storeOf b) s e in (whole-bytes b (o .0), o .1)
-
-pub accepted-range : (b : List ℕ) (s : Store) → reading b ≡ accepted s → InRange s
-accepted-range b s e = let o = accepted-whole b s e in subst InRange (o .1) (whole-range b (o .0))
-
-pub acceptance : Acceptance
-acceptance =
-    record {
-      of-layout = λ s r. layout-accepted s r;
-      only-layout = λ b s h e. let o = accepted-whole b s e in (accepted-range b s e, whole-layout b h (o .0) ∙ ap layout (o .1));
-    }

@@ -7,3 +7,4 @@ pub mod Accepted
 pub mod Reader
 pub mod Acceptance
 pub mod ReadGraph
+pub mod Accepting

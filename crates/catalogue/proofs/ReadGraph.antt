@@ -14,9 +14,7 @@ use Rattle.graph.proofs.Formed.{well-formed}
 use Rattle.graph.proofs.View.{view-part}
 use Rattle.catalogue.specs.Store.{Store, Pair, Ends, InRange, objects, references, targetsOf}
 use Rattle.catalogue.specs.Fill.{fromOf, toOf}
-use Rattle.catalogue.specs.Reading.{reading, accepted}
 use Rattle.catalogue.specs.ReadGraph.{ReadGraph, readGraph, targetsFrom}
-use Rattle.catalogue.proofs.Acceptance.{accepted-range}
 
 to-ends : (n : ℕ) (l : List Pair) → Every (Ends n) l → Every (λ (x : ℕ). x < n) (map toOf l)
 to-ends n [] h = tt
@@ -60,9 +58,6 @@ module _ (s : Store) (r : InRange s) where
       (omega (arith, z, references-is, below-le fromOf (suc v) (s .pairs)))
       ∙ rw (q, a) (mapped-part fromOf toOf (objects s) v (s .pairs) h)
 
-  store-graph : ReadGraph s
-  store-graph = record { n-is = objects-is; m-is = references-is; passes = well-formed (readGraph s) is-formed; view = view-is }
-
--- of every accepted catalogue
-pub read-graph : (b : List ℕ) (s : Store) → reading b ≡ accepted s → ReadGraph s
-read-graph b s e = store-graph s (accepted-range b s e)
+  -- the graph of a store within the ranges
+  pub read-graph : ReadGraph s (readGraph s)
+  read-graph = record { n-is = objects-is; m-is = references-is; passes = well-formed (readGraph s) is-formed; view = view-is }

@@ -1,14 +1,37 @@
--- The reader accepts bytes exactly when they are the layout of a store within the ranges, and then returns that store:
--- layout and reading are each other's inverse.
+-- SPECIFICATION 1: the reader accepts bytes exactly when they are the layout of a store within the ranges, and then returns
+-- that store. It is in the contract of `catalogue::read`, for any lent bytes.
 use mathlib.Core.Path.{_≡_}
 use mathlib.Core.List.{List}
+use mathlib.Core.Logic.{_⊎_, _↔_}
 use Prim.Native.Nat.{ℕ}
-use Rattle.laws.specs.Words.{Bytes}
-use Rattle.catalogue.specs.Store.{Store, InRange}
+use Rattle.graph.specs.Graph.{graph}
+use Rattle.catalogue.specs.Store.{Store, InRange, objects, references, offsetsOf, targetsOf}
 use Rattle.catalogue.specs.Layout.{layout}
-use Rattle.catalogue.specs.Reading.{reading, accepted}
+use Rattle.catalogue.specs.Answer.{Row}
+use Rattle.catalogue.specs.ReadGraph.{ReadGraph}
 
--- both directions
-pub record Acceptance : Type 0 where
-  pub of-layout : (s : Store) → InRange s → reading (layout s) ≡ accepted s
-  pub only-layout : (b : List ℕ) (s : Store) → Bytes b → reading b ≡ accepted s → InRange s × (b ≡ layout s)
+-- the number of a call that finds none of the faults 1 to 6: 0, or 7 where only a lent length is wrong
+abbrev pub Faultless : ℕ → Type 0
+Faultless k = (k ≡ 0) ⊎ (k ≡ 7)
+
+-- the bytes are the layout of this store, which is within the ranges
+pub record Lays (b : List ℕ) (s : Store) : Type 0 where
+  pub in-range : InRange s
+  pub bytes-are : b ≡ layout s
+
+-- the values returned and the buffers filled in are this store's
+pub record Returned (s : Store) (r : Row) (offsets targets sizes : List ℕ) : Type 0 where
+  pub n-is : r .n ≡ objects s
+  pub m-is : r .m ≡ references s
+  pub index-is : r .index ≡ s .index
+  pub offsets-are : offsets ≡ offsetsOf s
+  pub targets-are : targets ≡ targetsOf s
+  pub sizes-are : sizes ≡ s .sizes
+  pub graph-is : ReadGraph s (graph offsets targets)
+
+-- a call on the bytes b that answered the row r and left these buffers
+pub record Acceptance (b : List ℕ) (r : Row) (offsets targets sizes : List ℕ) : Type 0 where
+  -- no fault 1 to 6 exactly where some store lies in the bytes
+  pub exactly : Faultless (r .refusal) ↔ ((s : Store) × Lays b s)
+  -- and an accepted call returns the store that lies in them
+  pub that-store : r .refusal ≡ 0 → (s : Store) → Lays b s → Returned s r offsets targets sizes

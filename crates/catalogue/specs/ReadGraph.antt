@@ -16,9 +16,9 @@ readGraph s = graph (offsetsOf s) (targetsOf s)
 abbrev pub targetsFrom : Store → ℕ → List ℕ
 targetsFrom s v = map (λ (p : Pair). p .to) (part (λ (p : Pair). p .from) v (s .pairs))
 
--- n, m, check 10 and the view of the graph that was read
-pub record ReadGraph (s : Store) : Type 0 where
-  pub n-is : graph-objects (readGraph s) ≡ objects s
-  pub m-is : graph-references (readGraph s) ≡ references s
-  pub passes : wellFormed (readGraph s) ≡ true
-  pub view : (v : ℕ) → v < objects s → referencesOf (readGraph s) v ≡ targetsFrom s v
+-- a graph that is this store's: its n and m, check 10, and the view of each object
+pub record ReadGraph (s : Store) (G : Graph) : Type 0 where
+  pub n-is : graph-objects G ≡ objects s
+  pub m-is : graph-references G ≡ references s
+  pub passes : wellFormed G ≡ true
+  pub view : (v : ℕ) → v < objects s → referencesOf G v ≡ targetsFrom s v

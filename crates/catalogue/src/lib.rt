@@ -6,6 +6,7 @@ ghost use mathlib.Core.Path.{_≡_};
 ghost use Prim.Native.Nat.{_≤_};
 ghost use Rattle.graph.specs.Limits.{most-objects};
 ghost use Rattle.catalogue.specs.Answer.{row, headerRow, misfits, Reads};
+ghost use Rattle.catalogue.specs.Acceptance.{Acceptance};
 use refusal::Refusal;
 use refusal::Verdict;
 
@@ -65,6 +66,7 @@ pub fn read(bytes: &[u8], offsets: &mut [u32], targets: &mut [u32], sizes: &mut 
     ensures { λ r. ⌜
         Reads (now (bytes .entry)) (now (offsets .entry)) (now (targets .entry)) (now (sizes .entry)) (row r)
         (now (offsets .exit)) (now (targets .exit)) (now (sizes .exit)) ⌝ }
+    ensures { λ r. ⌜ Acceptance (now (bytes .entry)) (row r) (now (offsets .exit)) (now (targets .exit)) (now (sizes .exit)) ⌝ }
 {
     if let Verdict::Faulty(refusal) = record::catalogue_fault(bytes) {
         return Answer::Refused(refusal);

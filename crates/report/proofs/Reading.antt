@@ -33,11 +33,10 @@ every-fits [] h = refl
 every-fits (x ∷ l) h = rw (le-leb x largest-size (h .0)) (every-fits l (h .1))
 
 -- a store that was read passes
-passing : (b : List ℕ) → catalogueFault b ≡ 0 → Passing (contentsOf (storeOf b))
-unfolding reading
+pub passing : (b : List ℕ) → catalogueFault b ≡ 0 → Passing (contentsOf (storeOf b))
 passing b z =
     let range : InRange (storeOf b) = whole-range b (whole-bytes b z) in
-    let g : ReadGraph (storeOf b) = read-graph b (storeOf b) (ap (λ (k : ℕ). judged k (storeOf b)) z) in
+    let g : ReadGraph (storeOf b) (readGraph (storeOf b)) = read-graph (storeOf b) range in
     record {
       counts =
           rw (

@@ -1,19 +1,32 @@
 -- `catalogue::read` meets its contract: one law of `Reader` for each way out.
 use mathlib.Core.Path.{_≡_, sym, _∙_}
 use mathlib.Core.Bool.{false}
+use mathlib.Core.List.{List}
 use Prim.Native.Nat.{ℕ}
 use native.Mathlib.Omega.{arith}
 use lib.ListN.{length}
+use Rattle.laws.specs.Words.{Bytes}
 use Rattle.refusal.proofs.Numbers.{when-fine, when-faulty}
-use Rattle.catalogue.specs.Answer.{misfits}
+use Rattle.catalogue.specs.Answer.{Row, misfits, Reads}
+use Rattle.catalogue.specs.Acceptance.{Acceptance}
 use Rattle.catalogue.proofs.Accepted.{Whole, whole-bytes, whole-fillable}
 use Rattle.catalogue.proofs.Reader.{Fits, fits, read-fault, read-unfit, read-filled}
+use Rattle.catalogue.proofs.Accepting.{acceptance}
 use borrow.Author.Needs.{needs}
 use Rattle.catalogue.proofs.read.Statement.{statement}
 use Rattle.catalogue.proofs.read.Tie as tie
 
 abbrev start : tie.After-catalogue-fault → tie.Start
 start c = c .before .before .before .before .before
+
+-- what is lent are bytes
+are-bytes : (c : tie.After-catalogue-fault) → Bytes (start c .args .bytes .now)
+are-bytes c i = let known = c .before .before .before .before .shared-slice-known .given i in omega arith
+
+-- the answer by its definition, and what that promises of any bytes
+promised : {b o t s : List ℕ} {r : Row} {o′ t′ s′ : List ℕ} → Bytes b → Reads b o t s r o′ t′ s′
+    → Reads b o t s r o′ t′ s′ × Acceptance b r o′ t′ s′
+promised h d = (d, acceptance d h)
 
 -- the catalogue has no fault
 whole : (c : tie.After-enum-told) → Whole (start (c .before .before) .args .bytes .now)
@@ -38,12 +51,14 @@ module _ (c : tie.Else1) where
 returns : tie.Need-returns
 returns c =
     let f = c .before .refusal .given in
-    read-fault (f .0 .0) (when-faulty (c .before .before .before .catalogue-fault .ensures) (f .1))
+    let checked = c .before .before .before in
+    promised (are-bytes checked) (read-fault (f .0 .0) (when-faulty (checked .catalogue-fault .ensures) (f .1)))
 
 returns-2 : tie.Need-returns-2
 returns-2 c =
     let h = c .before .before in
-    read-unfit (whole (h .before) .clear) (h .header-of .ensures) (sym (c .before .lent-wrong .ensures) ∙ c .if1 .taken)
+    promised (are-bytes (h .before .before .before))
+    (read-unfit (whole (h .before) .clear) (h .header-of .ensures) (sym (c .before .lent-wrong .ensures) ∙ c .if1 .taken))
 
 fill-sizes-requires : tie.Need-fill-sizes-requires
 fill-sizes-requires c κs =
@@ -62,7 +77,8 @@ returns-3 c =
     let s = g .before .before .before .before .before in
     let e = s .before .before in
     let o = g .fill-graph .ensures in
-    read-filled (whole (at-head e .before) .clear) (at-head e .header-of .ensures) (fitting e) (o .0) (o .1) (s .fill-sizes .ensures)
+    promised (are-bytes (at-head e .before .before .before))
+    (read-filled (whole (at-head e .before) .clear) (at-head e .header-of .ensures) (fitting e) (o .0) (o .1) (s .fill-sizes .ensures))
 
 pub read-spec : {M : Type 1} → statement M
 read-spec =

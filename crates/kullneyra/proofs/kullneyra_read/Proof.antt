@@ -18,7 +18,7 @@ returns-2 c =
     let at-if1 = at-read .before .before .before .before in
     let start = at-if1 .before .before .before .before .before .before in
     let f = eq-eqb (length (start .args .result .now)) 3 (at-if1 .if1 .left) in
-    let done = at-read .read .ensures in
+    let done = at-read .read .ensures .0 in
     let h = done .returned in
     let given = at-give .give .ensures in
     record {

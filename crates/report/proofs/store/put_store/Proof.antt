@@ -16,21 +16,21 @@ returns c =
     let at-refusal = c .before .before in
     let at-told = at-refusal .before .before .before in
     let r = at-read (at-told .before .before) in
-    as-text (due-catalogue (entry r .pre) (r .read .ensures) (at-told .enum-told .given .1) (at-refusal .before .refusal-of .ensures))
+    as-text (due-catalogue (entry r .pre) (r .read .ensures .0) (at-told .enum-told .given .1) (at-refusal .before .refusal-of .ensures))
     (at-refusal .put-refusal .ensures .put)
 
 put-ordered-requires : tie.Need-put-ordered-requires
 put-ordered-requires c κs =
     let at-found = c .before .before .before .before .before .before .before .before in
     let r = at-read (at-found .before .before) in
-    orderly (entry r .pre) (r .read .ensures) (at-found .found .given .1)
+    orderly (entry r .pre) (r .read .ensures .0) (at-found .found .given .1)
 
 returns-2 : tie.Need-returns-2
 returns-2 c =
     let at-ordered = c .before .before .before .before .before .before .before .before in
     let at-found = at-ordered .before .before .before .before .before .before .before .before .before in
     let r = at-read (at-found .before .before) in
-    as-text (due-read (entry r .pre) (r .read .ensures) (at-found .found .given .1)) (at-ordered .put-ordered .ensures)
+    as-text (due-read (entry r .pre) (r .read .ensures .0) (at-found .found .given .1)) (at-ordered .put-ordered .ensures)
 
 pub put-store-spec : {M : Type 1} → statement M
 put-store-spec =
