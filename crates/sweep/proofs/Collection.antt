@@ -1,5 +1,5 @@
 -- After a finished marking the dead objects are those to which no chain leads.
-use mathlib.Core.Path.{_≡_, refl}
+use mathlib.Core.Path.{_≡_, refl, ap, _∙_}
 use mathlib.Core.List.{List, [], _∷_}
 use mathlib.Core.Logic.{by-cases, _↔_}
 use native.Mathlib.Decide.{decLe}
@@ -7,16 +7,16 @@ use native.Mathlib.Nat.{zero-add}
 use native.Mathlib.Omega.{arith}
 use Prim.Native.Nat.{ℕ, zero, suc, _+_, _≤_, _<_}
 use lib.ListN.{length, getD}
+use lib.Seq.{take-at}
 use Rattle.laws.specs.Sum.{sum, hit}
 use Rattle.laws.proofs.Sum.{hit-same, hit-equal}
 use Rattle.graph.specs.Graph.{Graph, objects}
-use Rattle.machine.specs.Machine.{Setting, Entry}
-use Rattle.machine.specs.Accepted.{Accepted}
-use Rattle.machine.specs.Demand2.{outcome}
+use Rattle.graph.specs.Chain.{Reach}
+use Rattle.machine.specs.Sound.{Marked}
 use Rattle.machine.proofs.Demand2.{demand2}
 use Rattle.machine.proofs.Start.{sound}
-use Rattle.sweep.specs.Sweep.{deadFrom, dead}
-use Rattle.sweep.specs.Collection.{UpwardsFrom, Collection}
+use Rattle.sweep.specs.Sweep.{deadFrom, dead, Row, refusedRow, fault, sweeping, listAfter}
+use Rattle.sweep.specs.Collection.{UpwardsFrom, FinishedMarks, listed, Collection}
 
 -- where a listed number stands among the marks
 record Place (b v : ℕ) (ms : List ℕ) : Type 0 where
@@ -61,7 +61,7 @@ lower : (b : ℕ) (vs : List ℕ) → UpwardsFrom (suc b) vs → UpwardsFrom b v
 lower b [] u = tt
 lower b (v ∷ vs) u = let h = u .0 in (omega arith, u .1)
 
-dead-upwards : (b : ℕ) (ms : List ℕ) → UpwardsFrom b (deadFrom b ms)
+pub dead-upwards : (b : ℕ) (ms : List ℕ) → UpwardsFrom b (deadFrom b ms)
 unfolding deadFrom
 dead-upwards b [] = tt
 dead-upwards b (zero ∷ ms) = (omega arith, dead-upwards (suc b) ms)
@@ -81,22 +81,44 @@ listed-is ms v h =
 is-listed : (ms : List ℕ) (v : ℕ) → v < length ms → (0 < getD ms v 0 → ⊥) → 0 < sum (hit v) (dead ms)
 is-listed ms v h z = rw zero-add at (place-dead 0 ms v h (zero-or (getD ms v 0) z))
 
--- of the machine this needs only that there is a mark for each object, and demand 2
-module _ {G : Graph} {starts : List ℕ} {W : ℕ} {g : Setting} (A : Accepted G starts W g) (xs : List Entry) where
-  abbrev marks : List ℕ
-  marks = outcome G starts W g xs .marks
+-- the dead after a finished marking; of the machine this needs only that there is a mark for each object, and demand 2
+module _ {G : Graph} {starts marks : List ℕ} (m : FinishedMarks G starts marks) where
+  all-marks : length marks ≡ objects G
+  all-marks = ap length (m .marks-are) ∙ sound (m .accepted) (m .turns) .marks-length
 
-  is-object : (v : ℕ) → v < length marks ↔ v < objects G
-  is-object v = let n = sound A xs .marks-length in (λ h. omega arith, λ h. omega arith)
+  marked-is : (v : ℕ) → Marked marks v ↔ Reach G starts v
+  marked-is v = rw (m .marks-are) (demand2 (m .accepted) (m .turns) .marked-exactly (m .finished) v)
 
-  pub collection : Collection G starts W g xs
-  collection =
-      let d = demand2 A xs in
+  pub dead-exactly : (v : ℕ) → (0 < sum (hit v) (dead marks)) ↔ ((v < objects G) × (Reach G starts v → ⊥))
+  dead-exactly v = (
+    λ h. (omega (arith, all-marks, listed-is marks v h .0), λ r. omega (arith, marked-is v .1 r, listed-is marks v h .1)),
+    λ p. is-listed marks v (omega (arith, all-marks, p .0)) (λ q. p .1 (marked-is v .0 q)),
+  )
+
+-- what was answered and listed by the definition
+module _ (marks sizes before : List ℕ) {r : Row} {list : List ℕ} (d : (r ≡ sweeping marks sizes before) × (list ≡ listAfter marks sizes before)) where
+  listed-dead : fault marks sizes before ≡ 0 → listed r list ≡ dead marks
+  listed-dead e = rw (d .0, d .1, e) (take-at (dead marks) _ (length (dead marks)) refl)
+
+  collected-by : (k : ℕ) → fault marks sizes before ≡ k → Collection marks r list
+  unfolding sum
+  collected-by zero e =
+      let l = listed-dead e in
       record {
-        upwards = dead-upwards 0 marks;
-        exactly = λ done v. (
-          λ h. (is-object v .0 (listed-is marks v h .0), λ r. omega (arith, d .marked-exactly done v .1 r, listed-is marks v h .1)),
-          λ p. is-listed marks v (is-object v .1 (p .0)) (λ m. p .1 (d .marked-only v m)),
-        );
-        objects-only = λ v h. is-object v .0 (listed-is marks v h .0);
+        upwards = rw l (dead-upwards 0 marks);
+        objects-only = λ v h. listed-is marks v (rw l at h) .0;
+        exactly = λ n G starts m v. rw l (dead-exactly m v);
       }
+  collected-by (suc k) e =
+      let refused : r ≡ refusedRow (suc k) = rw (d .0, e) in
+      let none : listed r list ≡ [] = rw refused in
+      let n : r .number ≡ suc k = rw refused in
+      record {
+        upwards = rw none tt;
+        objects-only = λ v h. absurd (let z = rw none at h in omega arith);
+        exactly = λ z G starts m v. absurd (omega arith);
+      }
+
+  -- and with it what a sweep promises after a finished marking
+  pub collected : (r ≡ sweeping marks sizes before) × ((list ≡ listAfter marks sizes before) × Collection marks r list)
+  collected = (d .0, (d .1, collected-by (fault marks sizes before) refl))

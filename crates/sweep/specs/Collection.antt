@@ -1,31 +1,43 @@
--- SPECIFICATION 5: after a finished marking the sweep lists exactly the objects to which no chain leads.
+-- SPECIFICATION 5: after a finished marking the sweep lists exactly the objects to which no chain leads, upwards. It is in the
+-- contract of `sweep::sweep`, for any lent marks.
 use mathlib.Core.Path.{_≡_}
 use mathlib.Core.Bool.{true}
 use mathlib.Core.List.{List, [], _∷_}
 use mathlib.Core.Logic.{_↔_}
 use Prim.Native.Nat.{ℕ, suc, _≤_, _<_}
+use lib.ListN.{length, take}
 use Rattle.laws.specs.Sum.{sum, hit}
 use Rattle.graph.specs.Graph.{Graph, objects}
 use Rattle.graph.specs.Chain.{Reach}
 use Rattle.machine.specs.Machine.{Setting, Entry, result}
+use Rattle.machine.specs.Accepted.{Accepted}
 use Rattle.machine.specs.Demand2.{outcome}
-use Rattle.sweep.specs.Sweep.{dead}
+use Rattle.sweep.specs.Sweep.{Row}
 
 -- every number of the list is at least b, and the later ones are larger
 abbrev pub UpwardsFrom : ℕ → List ℕ → Type 0
 UpwardsFrom b [] = Unit {0}
 UpwardsFrom b (v ∷ vs) = (b ≤ v) × UpwardsFrom (suc v) vs
 
--- what is dead after the turns xs
-abbrev pub deadAfter : Graph → List ℕ → ℕ → Setting → List Entry → List ℕ
-deadAfter G starts W g xs = dead (outcome G starts W g xs .marks)
+-- the marks are those that a finished collection of this graph leaves, under some W, setting and turns
+pub record FinishedMarks (G : Graph) (starts marks : List ℕ) : Type 0 where
+  pub workers : ℕ
+  pub setting : Setting
+  pub turns : List Entry
+  pub accepted : Accepted G starts workers setting
+  pub finished : result (outcome G starts workers setting turns) .finished ≡ true
+  pub marks-are : marks ≡ outcome G starts workers setting turns .marks
 
--- what the list of the dead is
-pub record Collection (G : Graph) (starts : List ℕ) (W : ℕ) (g : Setting) (xs : List Entry) : Type 0 where
+-- the numbers that a sweep listed: as many of the list as it answered
+abbrev pub listed : Row → List ℕ → List ℕ
+listed r list = take (r .count) list
+
+-- a sweep of these marks that answered the row r and left the list
+pub record Collection (marks : List ℕ) (r : Row) (list : List ℕ) : Type 0 where
   -- upwards, so each once
-  pub upwards : UpwardsFrom 0 (deadAfter G starts W g xs)
-  -- finished: exactly the objects to which no chain leads
-  pub exactly : result (outcome G starts W g xs) .finished ≡ true
-      → (v : ℕ) → (0 < sum (hit v) (deadAfter G starts W g xs)) ↔ ((v < objects G) × (Reach G starts v → ⊥))
-  -- finished or not: only objects are listed
-  pub objects-only : (v : ℕ) → 0 < sum (hit v) (deadAfter G starts W g xs) → v < objects G
+  pub upwards : UpwardsFrom 0 (listed r list)
+  -- only objects
+  pub objects-only : (v : ℕ) → 0 < sum (hit v) (listed r list) → v < length marks
+  -- after a finished marking: exactly those to which no chain leads
+  pub exactly : r .number ≡ 0 → (G : Graph) (starts : List ℕ) → FinishedMarks G starts marks
+      → (v : ℕ) → (0 < sum (hit v) (listed r list)) ↔ ((v < objects G) × (Reach G starts v → ⊥))

@@ -5,6 +5,7 @@ use graph::MOST_OBJECTS;
 use refusal::Refusal;
 ghost use mathlib.Core.Path.{_≡_};
 ghost use Rattle.sweep.specs.Sweep.{allFit, Listable, Listed, row, sweeping, listAfter};
+ghost use Rattle.sweep.specs.Collection.{Collection};
 
 // What the sweep answers: how many objects are dead and the sum of their sizes, or the refusal.
 pub enum Swept {
@@ -61,6 +62,7 @@ fn list_dead(marks: &[u8], sizes: &[u64], list: &mut [u32]) -> Listing
 pub fn sweep(marks: &[u8], sizes: &[u64], list: &mut [u32]) -> Swept
     ensures { λ r. ⌜ row r ≡ sweeping (now (marks .entry)) (now (sizes .entry)) (now (list .entry)) ⌝ }
     ensures { λ r. ⌜ now (list .exit) ≡ listAfter (now (marks .entry)) (now (sizes .entry)) (now (list .entry)) ⌝ }
+    ensures { λ r. ⌜ Collection (now (marks .entry)) (row r) (now (list .exit)) ⌝ }
 {
     let n = sizes.len();
     if n == 0 {

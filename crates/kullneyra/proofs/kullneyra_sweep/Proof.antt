@@ -30,7 +30,7 @@ returns-2 c =
     let v = at-count .count .given in
     let done = at-sweep .sweep .ensures in
     let h = rw (v .1) at (done .0) in
-    (rw (f, ← h), (rw f (done .1), rw (f, ← h) (sets-all (v .0 .0 ∷ v .0 .1 .0 ∷ []) r l)))
+    (rw (f, ← h), (rw f (done .1 .0), rw (f, ← h) (sets-all (v .0 .0 ∷ v .0 .1 .0 ∷ []) r l)))
 
 returns-3 : tie.Need-returns-3
 returns-3 c =
@@ -43,7 +43,7 @@ returns-3 c =
     let v = at-refusal .refusal .given in
     let done = at-sweep .sweep .ensures in
     let h = rw (v .1) at (done .0) in
-    (rw (f, ← h) (c .number-of .ensures), (rw f (done .1), rw (f, ← h) (kept (v .0 .0) (0 ∷ 0 ∷ []) r)))
+    (rw (f, ← h) (c .number-of .ensures), (rw f (done .1 .0), rw (f, ← h) (kept (v .0 .0) (0 ∷ 0 ∷ []) r)))
 
 pub kullneyra-sweep-spec : {M : Type 1} → statement M
 kullneyra-sweep-spec =

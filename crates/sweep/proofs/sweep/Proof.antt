@@ -6,6 +6,7 @@ use borrow.Author.Needs.{needs}
 use Rattle.sweep.specs.Sweep.{fault, Listable}
 use Rattle.sweep.proofs.Dead.{padded}
 use Rattle.sweep.proofs.Fault.{refusing, fault-none, fault-many, fault-marks, fault-list, fault-size, fault-free}
+use Rattle.sweep.proofs.Collection.{collected}
 use Rattle.sweep.proofs.sweep.Statement.{statement}
 use Rattle.sweep.proofs.sweep.Tie as tie
 
@@ -13,7 +14,7 @@ returns-5 : tie.Need-returns-5
 returns-5 c =
     let e = c .before .before in
     let fits = sym (c .before .sizes-fit .ensures) ∙ not-true _ (c .if5 .taken) in
-    refusing _ _ _ 5 (fault-size _ _ _ (omega arith) (omega arith) (e .before .if3 .left) (e .if4 .left) fits)
+    collected _ _ _ (refusing _ _ _ 5 (fault-size _ _ _ (omega arith) (omega arith) (e .before .if3 .left) (e .if4 .left) fits))
 
 -- no check fails
 module _ (c : tie.Else5) where
@@ -41,14 +42,14 @@ returns-6 c =
     let d = z .before .before .before .before in
     let e = d .before .before in
     let l = d .list-dead .ensures in
-    (rw (free e, l .counted, l .summed), rw (free e) (padded l (listable e .list-is) (z .clear .ensures)))
+    collected _ _ _ (rw (free e, l .counted, l .summed), rw (free e) (padded l (listable e .list-is) (z .clear .ensures)))
 
 pub sweep-spec : {M : Type 1} → statement M
 sweep-spec =
     tie.close
-    (tie.spec (λ c. refusing _ _ _ 3 (fault-none _ _ _ (c .if1 .taken)))
-    (λ c. refusing _ _ _ 3 (fault-many _ _ _ (c .if2 .taken)))
-    (λ c. refusing _ _ _ 6 (fault-marks _ _ _ (omega arith) (omega arith) (c .if3 .taken)))
-    (λ c. refusing _ _ _ 6 (fault-list _ _ _ (omega arith) (omega arith) (c .before .if3 .left) (c .if4 .taken)))
+    (tie.spec (λ c. collected _ _ _ (refusing _ _ _ 3 (fault-none _ _ _ (c .if1 .taken))))
+    (λ c. collected _ _ _ (refusing _ _ _ 3 (fault-many _ _ _ (c .if2 .taken))))
+    (λ c. collected _ _ _ (refusing _ _ _ 6 (fault-marks _ _ _ (omega arith) (omega arith) (c .if3 .taken))))
+    (λ c. collected _ _ _ (refusing _ _ _ 6 (fault-list _ _ _ (omega arith) (omega arith) (c .before .if3 .left) (c .if4 .taken))))
     (λ c κs. search needs) returns-5 (λ c κs. listable (c .before)) (λ c κs. search needs) (λ c. search needs)
     (λ c. search needs) returns-6)

@@ -29,7 +29,7 @@ left : (c : tie.After-swept) → let a = entry (at-sweep c) .args in
     SweptTo (a .sizes .now) (a .marks .now) (list c) (a .out .now) (a .at) (count c) (c .swept .given .0 .1 .0)
 left c =
     let done = at-sweep c .sweep .ensures in
-    swept-to (entry (at-sweep c) .pre) (c .swept .given .1) (done .0) (done .1)
+    swept-to (entry (at-sweep c) .pre) (c .swept .given .1) (done .0) (done .1 .0)
 
 returns : tie.Need-returns
 returns c =
