@@ -8,3 +8,4 @@ pub mod Reader
 pub mod Acceptance
 pub mod ReadGraph
 pub mod Accepting
+pub mod Chain

@@ -1,5 +1,6 @@
 pub mod Acceptance
 pub mod Answer
+pub mod Chain
 pub mod Examples
 pub mod Fill
 pub mod Layout

@@ -15,7 +15,7 @@ use Rattle.graph.specs.Graph.{graph, objects}
 use Rattle.machine.specs.declared.Counts.{Counts}
 use Rattle.machine.specs.Row.{Row, refusedRow}
 use Rattle.machine.specs.Machine.{result, stretchLength}
-use Rattle.machine.specs.Call.{Call, fault, bufferFault, scheduleFault, answerFor, marksFor, final}
+use Rattle.machine.specs.Call.{Call, fault, settingFault, bufferFault, scheduleFault, answerFor, marksFor, final}
 use Rattle.marker.proofs.Marked as TheMarked
 use Rattle.marker.specs.declared.Marked.{Marked}
 use Rattle.marker.specs.declared.Marked.the-variants.{Finished, Unfinished, Refused}
@@ -24,10 +24,11 @@ use Rattle.sweep.specs.Sweep.{dead}
 use Rattle.report.specs.declared.order.Order.{Order}
 use Rattle.report.specs.Lines.{refusalLine, countLines}
 use Rattle.report.specs.Report.{Contents, callOf, deadText, resultText, printed}
-use Rattle.report.specs.Ready.{Lent, Collectable}
+use Rattle.report.specs.Ready.{Lent, Passing, Collectable}
 
 module _ (s : Contents) (o : Order) (schedule : List ℕ) where
-  beside : (k f : ℕ) → 0 < k → k ≡ f → refusalLine k ≡ printed f s o schedule
+  -- a fault's only line
+  pub beside : (k f : ℕ) → 0 < k → k ≡ f → refusalLine k ≡ printed f s o schedule
   beside k zero h e = absurd (omega arith)
   beside k (suc f) h e = ap refusalLine e
 
@@ -57,21 +58,19 @@ result-row : (r : Row) (f : ℕ) (c : Call) → r .number ≡ 0 → r ≡ answer
 result-row r zero c z e = (refl, e)
 result-row r (suc f) c z e = let q = ap (λ (x : Row). x .number) e in absurd (omega arith)
 
-module _ {s : Contents} {o : Order} {l : Lent} (ready : Collectable s o l) where
-  buffers : bufferFault (objects (graph (s .offsets) (s .targets))) (o .workers) (length (l .marks)) (length (l .work)) ≡ 0
-  buffers =
-      rw (
-        ready .passing .objects-are,
-        eq-eqb (length (l .marks)) (length (s .sizes)) (ready .fitting .all-marks),
-        eq-eqb (length (l .work)) (o .workers * stretchLength (length (s .sizes))) (ready .all-work),
-      )
+-- contents that pass and settings in their ranges, with buffers of the lengths that they ask for: one check is left
+pub passing-fault : {s : Contents} (o : Order) {marks work : ℕ} → Passing s → settingFault (o .workers) (o .batch) (o .cutoff) ≡ 0
+    → marks ≡ length (s .sizes) → work ≡ o .workers * stretchLength (length (s .sizes))
+    → (schedule : List ℕ) → fault (callOf s o schedule) marks work ≡ scheduleFault (o .workers) schedule
+unfolding fault
+passing-fault {s} o {marks} {work} p settings em ew schedule =
+    let buffers : bufferFault (objects (graph (s .offsets) (s .targets))) (o .workers) marks work ≡ 0 =
+    rw (p .objects-are, eq-eqb marks (length (s .sizes)) em, eq-eqb work (o .workers * stretchLength (length (s .sizes))) ew) in
+    rw (settings, p .counts, buffers, p .formed, p .start)
 
-  -- the one check that is left
+module _ {s : Contents} {o : Order} {l : Lent} (ready : Collectable s o l) where
   only-schedule : (schedule : List ℕ) → fault (callOf s o schedule) (length (l .marks)) (length (l .work)) ≡ scheduleFault (o .workers) schedule
-  unfolding fault
-  only-schedule schedule =
-      let p = ready .passing in
-      rw (ready .settings, p .counts, buffers, p .formed, p .start)
+  only-schedule = passing-fault o (ready .passing) (ready .settings) (ready .fitting .all-marks) (ready .all-work)
 
   module _ {schedule : List ℕ} {m : Marked} {marks′ work′ : List ℕ} (done : Answered (callOf s o schedule) (l .marks) (l .work) m marks′ work′) where
     answered : row m ≡ answerFor (scheduleFault (o .workers) schedule) (callOf s o schedule)

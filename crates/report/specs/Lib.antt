@@ -1,4 +1,5 @@
 pub mod Limits
 pub mod Lines
+pub mod Promise
 pub mod Ready
 pub mod Report

@@ -13,11 +13,12 @@ use catalogue::Answer;
 use limits::TEXT_ROOM;
 use refusal::Verdict;
 ghost use Prim.Native.Nat.{_≤_};
-ghost use lib.ListN.{length};
+ghost use lib.ListN.{length, take};
 ghost use Rattle.text.specs.Text.{Put};
 ghost use Rattle.report.specs.Limits.{text-room};
 ghost use Rattle.report.specs.Report.{files, programText};
 ghost use Rattle.report.specs.Ready.{Prints};
+ghost use Rattle.report.specs.Promise.{Promise};
 
 // A file as the program got it: whole, with more bytes than its limit, or not at all.
 pub enum Loaded {
@@ -64,6 +65,8 @@ pub fn answer(
 ) -> usize
     ensures { λ r. ⌜ Prints (now (out .entry))
         (programText (files storefile (now (store .entry)) orderfile (now (order .entry)))) (now (out .exit)) r ⌝ }
+    ensures { λ r. ⌜ (text-room ≤ length (now (out .entry))
+        → Promise (files storefile (now (store .entry)) orderfile (now (order .entry))) (take r (now (out .exit)))) ⌝ }
 {
     if out.len() < TEXT_ROOM {
         return 0;

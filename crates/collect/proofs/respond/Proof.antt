@@ -18,7 +18,7 @@ slice-aggregate-answer-2 c =
 
 slice-aggregate-write-all : tie.Need-slice-aggregate-write-all
 slice-aggregate-write-all c =
-    let d = c .before .before .before .answer in sym (length-take-le (d .result) (d .last .1 .1 .1 .1 .0) (d .ensures .inside))
+    let d = c .before .before .before .answer in sym (length-take-le (d .result) (d .last .1 .1 .1 .1 .0) (d .ensures .0 .inside))
 
 pub respond-spec : {M : Type 1} → statement M
 respond-spec =

@@ -1,0 +1,76 @@
+-- Chains of the catalogue's references are the chains of the graph that is read from it.
+use mathlib.Core.Path.{_≡_, refl, sym, subst}
+use mathlib.Core.List.{List, [], _∷_, map}
+use mathlib.Core.Logic.{_↔_}
+use Prim.Native.Nat.{ℕ, zero, suc, _+_, _*_, _≤_, _<_}
+use native.Mathlib.Omega.{arith}
+use Rattle.laws.specs.Sum.{sum, hit}
+use Rattle.laws.specs.Grouping.{part, cons-if}
+use Rattle.laws.proofs.Sum.{hit-same, hit-equal, hit-at-most-one}
+use Rattle.graph.specs.Graph.{Graph, target, objects as graph-objects, references as graph-references}
+use Rattle.graph.specs.Formed.{Formed}
+use Rattle.graph.specs.Chain.{Reach, here, on}
+use Rattle.graph.proofs.Formed.{formed}
+use Rattle.graph.proofs.OverMarked.{after-limit}
+use Rattle.graph.proofs.View.{view-has, view-only}
+use Rattle.catalogue.specs.Store.{Store, Pair, InRange, objects}
+use Rattle.catalogue.specs.Fill.{fromOf, toOf}
+use Rattle.catalogue.specs.ReadGraph.{ReadGraph, readGraph, targetsFrom}
+use Rattle.catalogue.specs.Chain.{leading, Chain, begins, along}
+use Rattle.catalogue.proofs.ReadGraph.{read-graph}
+
+-- the references from u to v are those among u's whose target is v
+chosen : (k v : ℕ) (p : Pair) (rest : List Pair) → k ≤ 1
+    → k * hit v (p .to) + sum (hit v) (map toOf rest) ≡ sum (hit v) (map toOf (cons-if fromOf k p rest))
+unfolding sum
+chosen zero v p rest h = omega arith
+chosen (suc zero) v p rest h = omega arith
+chosen (suc (suc k)) v p rest h = absurd (omega arith)
+
+among : (u v : ℕ) (l : List Pair) → sum (λ (p : Pair). hit u (p .from) * hit v (p .to)) l ≡ sum (hit v) (map toOf (part fromOf u l))
+unfolding sum part
+among u v [] = refl
+among u v (p ∷ l) =
+    rw (among u v l) (chosen (hit u (p .from)) v p (part fromOf u l) (hit-at-most-one u (p .from)))
+
+module _ (s : Store) (r : InRange s) where
+  abbrev G : Graph
+  G = readGraph s
+
+  g : ReadGraph s G
+  g = read-graph s r
+
+  is-formed : Formed G
+  is-formed = formed G (g .passes)
+
+  -- by the view of u on the graph
+  leading-is : (u v : ℕ) → leading s u v ≡ sum (hit v) (targetsFrom s u)
+  leading-is u v = among u v (s .pairs)
+
+  -- chains lead to objects only
+  reaches-object : {v : ℕ} → Reach G (s .index ∷ []) v → v < objects s
+  unfolding sum
+  reaches-object (here {v = v} h) = omega (arith, hit-equal v (s .index) (omega arith), r .index-below)
+  reaches-object (on {u = u} e c l) =
+      let inside : e < graph-references G = omega (arith, l .below, after-limit G is-formed u (l .object)) in
+      omega (arith, g .n-is, is-formed .inside e inside)
+
+  chain-reaches : {v : ℕ} → Chain s v → Reach G (s .index ∷ []) v
+  unfolding sum
+  chain-reaches begins = here {v = s .index} (omega (arith, hit-same (s .index)))
+  chain-reaches (along {u = u} {v = v} c h) =
+      let reached = chain-reaches c in
+      let below = reaches-object reached in
+      let inside : u < graph-objects G = omega (arith, g .n-is) in
+      let q = view-only is-formed inside v (rw (g .view u below) (rw (leading-is u v) at h)) in
+      subst (Reach G (s .index ∷ [])) (sym (q .2)) (on (q .0) reached (q .1))
+
+  reach-chains : {v : ℕ} → Reach G (s .index ∷ []) v → Chain s v
+  unfolding sum
+  reach-chains (here {v = v} h) = subst (Chain s) (sym (hit-equal v (s .index) (omega arith))) begins
+  reach-chains (on {u = u} e c l) =
+      let below : u < objects s = omega (arith, l .object, g .n-is) in
+      along {v = target G e} (reach-chains c) (rw (leading-is u (target G e), ← g .view u below) (view-has is-formed (l .object) l))
+
+  pub chain-is-reach : (v : ℕ) → Chain s v ↔ Reach G (s .index ∷ []) v
+  chain-is-reach v = (λ c. chain-reaches c, λ c. reach-chains c)

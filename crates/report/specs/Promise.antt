@@ -1,0 +1,38 @@
+-- From the bytes of the two files to the text: a finished collection prints as dead exactly the objects to which no chain of
+-- the catalogue's own references leads from its index. It is in the contract of `report::answer`, for any two files.
+use mathlib.Core.Path.{_≡_}
+use mathlib.Core.Bool.{true, false}
+use mathlib.Core.List.{List, _++_}
+use mathlib.Core.Logic.{_⊎_, _↔_}
+use Prim.Native.Nat.{ℕ, _<_}
+use Rattle.laws.specs.Sum.{sum, hit}
+use Rattle.catalogue.specs.Store.{Store, objects}
+use Rattle.catalogue.specs.Acceptance.{Lays}
+use Rattle.catalogue.specs.Chain.{Chain}
+use Rattle.machine.specs.declared.Counts.{Counts}
+use Rattle.sweep.specs.Sweep.{sizesOf}
+use Rattle.sweep.specs.Collection.{UpwardsFrom}
+use Rattle.report.specs.Lines.{refusalLine, countLines, deadLines, freedLine}
+use Rattle.report.specs.Report.{Files, programFault}
+
+-- a finished collection of this store: the dead upwards, each with its size, and the sum of these sizes
+pub record FinishedText (s : Store) (text : List ℕ) : Type 0 where
+  pub counts : Counts
+  pub numbers : List ℕ
+  pub upwards : UpwardsFrom 0 numbers
+  pub exactly : (v : ℕ) → (0 < sum (hit v) numbers) ↔ ((v < objects s) × (Chain s v → ⊥))
+  pub lines-are : text ≡ countLines true counts ++ (deadLines (s .sizes) numbers ++ freedLine (sizesOf (s .sizes) numbers))
+
+-- an unfinished one: the counts and nothing more
+pub record UnfinishedText (text : List ℕ) : Type 0 where
+  pub counts : Counts
+  pub lines-are : text ≡ countLines false counts
+
+-- what is printed for these files
+pub record Promise (f : Files) (text : List ℕ) : Type 0 where
+  -- a refusal is one line
+  pub refused : 0 < programFault f → text ≡ refusalLine (programFault f)
+  -- accepted: `store.cat` is the layout of a store within the ranges,
+  pub a-store : programFault f ≡ 0 → (s : Store) × Lays (f .store) s
+  -- and the text is that of a collection of this store
+  pub collected : programFault f ≡ 0 → (s : Store) → Lays (f .store) s → FinishedText s text ⊎ UnfinishedText text
