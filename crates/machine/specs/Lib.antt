@@ -8,5 +8,6 @@ pub mod Limits
 pub mod Machine
 pub mod Move
 pub mod Row
+pub mod Rules
 pub mod Run
 pub mod Sound
