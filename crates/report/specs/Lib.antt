@@ -1,3 +1,4 @@
+pub mod Examples
 pub mod Limits
 pub mod Lines
 pub mod Promise
