@@ -4,6 +4,9 @@
 //! says, or the [`Refusal`] that its table gives, and beside a refusal no lent buffer is changed.
 //! Nothing is kept between calls and nothing is allocated.
 //!
+//! A refusal is an `Err` and comes with nothing else. Where the zeros are wanted that the specification
+//! has beside it, `unwrap_or_default` gives them: the `Default` of each answer is all zeros.
+//!
 //! # The library
 //!
 //! The crate links `libkullneyra.a`, which `rt staticlib kullneyra` makes in the repository, as
@@ -147,7 +150,7 @@ fn answer(number: u32) -> Result<(), Refusal> {
 }
 
 /// What a catalogue's header says.
-#[derive(Clone, Copy, Debug, PartialEq, Eq)]
+#[derive(Clone, Copy, Debug, Default, PartialEq, Eq)]
 #[non_exhaustive]
 pub struct Header {
     /// n, 1 to 65,536.
@@ -197,7 +200,7 @@ impl<'a> Schedule<'a> {
 }
 
 /// What a marking did. The fields stand in the order of the result words.
-#[derive(Clone, Copy, Debug, PartialEq, Eq)]
+#[derive(Clone, Copy, Debug, Default, PartialEq, Eq)]
 #[non_exhaustive]
 pub struct Marked {
     /// Every worker has ended: the marks are exactly the reachable objects.
@@ -231,7 +234,7 @@ impl Marked {
 }
 
 /// What a sweep found.
-#[derive(Clone, Copy, Debug, PartialEq, Eq)]
+#[derive(Clone, Copy, Debug, Default, PartialEq, Eq)]
 #[non_exhaustive]
 pub struct Swept {
     /// How many objects are dead.
@@ -327,6 +330,15 @@ mod tests {
     fn display_is_in_words() {
         assert_eq!(Refusal::Buffer.to_string(), "refusal 7: a lent buffer is not as long as it must be");
         assert_eq!(Refusal::Other(13).to_string(), "refusal 13: a number newer than this crate");
+    }
+
+    #[test]
+    fn zeros_beside_a_refusal() {
+        assert_eq!(header(&[]).unwrap_or_default(), Header { objects: 0, references: 0, index: 0 });
+        let settings = Settings { workers: 0, batch: 1, cutoff: 1 };
+        let marked = mark(&[0, 0], &[], 0, settings, Schedule::new(&[]), &mut [0], &mut []).unwrap_or_default();
+        assert_eq!(marked.words(), [0; Marked::WORDS]);
+        assert_eq!(sweep(&[], &[], &mut []).unwrap_or_default(), Swept { count: 0, freed: 0 });
     }
 
     #[test]

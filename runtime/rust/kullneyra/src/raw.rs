@@ -1,6 +1,6 @@
-//! The five calls as the C header has them: the answer is 0 or a refusal's number, and result words go
-//! to a lent buffer whose length is checked like any other. Most callers want the functions of the
-//! crate itself.
+//! The five proved functions that the C header declares: the answer is 0 or a refusal's number, and result
+//! words go to a lent buffer. Its length is looked at before all else (another one is 7), and beside a
+//! refusal the words are left as they are. Most callers want the functions of the crate itself.
 
 mod c {
     // As in include/kullneyra.h.

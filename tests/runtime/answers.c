@@ -1,0 +1,112 @@
+/* The calls that answer in a struct, each beside a refusal and without one. Valid C99 and C++11. */
+#include "kullneyra.h"
+
+#include <stdio.h>
+
+static int failed = 0;
+
+static void expect(const char *name, uint64_t wanted, uint64_t found) {
+    if (wanted != found) {
+        printf("%s: %llu expected, %llu found\n", name, (unsigned long long)wanted, (unsigned long long)found);
+        failed = 1;
+    }
+}
+
+/* Nothing of an answer is left from before the call. */
+static void stain(void *answer, size_t bytes) { memset(answer, 0x5a, bytes); }
+
+static void expect_zeros(const char *name, const void *answer, size_t bytes) {
+    const unsigned char *at = (const unsigned char *)answer;
+    for (size_t i = 0; i < bytes; i++) {
+        expect(name, 0, at[i]);
+    }
+}
+
+#define REFUSED(name, number, call, answer)            \
+    do {                                               \
+        stain(&answer, sizeof answer);                 \
+        expect(name, number, call);                    \
+        expect_zeros(name, &answer, sizeof answer);    \
+    } while (0)
+
+#define ACCEPTED(name, call, answer)                   \
+    do {                                               \
+        stain(&answer, sizeof answer);                 \
+        expect(name, KULLNEYRA_OK, call);              \
+    } while (0)
+
+/* Two objects, 0 and 1, and the reference 0->0: object 1 hangs on nothing. */
+static const uint8_t catalogue[] = {
+    16, 0, 1, 0, 2, 0, 0, 0, 1, 0, 0, 0, 0, 0, 0, 0, /* n 2, m 1, index 0 */
+    12, 0, 2, 0, 100, 0, 0, 0, 0, 0, 0, 0,           /* object 0, 100 bytes */
+    12, 0, 2, 0, 200, 0, 0, 0, 0, 0, 0, 0,           /* object 1, 200 bytes */
+    12, 0, 3, 0, 0, 0, 0, 0, 0, 0, 0, 0,             /* reference 0->0 */
+};
+
+/* The list of the counts has each of them once, and finished is the only other word. */
+#define ONE(name) 1 +
+static const size_t count_names = KULLNEYRA_COUNTS(ONE) 0;
+
+int main(void) {
+    static const uint8_t turns[6] = {0, 0, 0, 0, 0, 0};
+    uint32_t offsets[KULLNEYRA_OFFSETS(2)], targets[KULLNEYRA_TARGETS(1)], list[KULLNEYRA_LIST(2) + 1];
+    uint64_t sizes[KULLNEYRA_SIZES(2)];
+    uint8_t marks[KULLNEYRA_MARKS(2)];
+    uint32_t work[KULLNEYRA_WORK(2, 1)];
+    struct kullneyra_head head;
+    struct kullneyra_part part;
+    struct kullneyra_marked marked;
+    struct kullneyra_swept swept;
+
+    expect("names of counts", KULLNEYRA_MARK_WORDS - 1, count_names);
+
+    REFUSED("header, empty", KULLNEYRA_SHORT, kullneyra_header_into(NULL, 0, &head), head);
+    ACCEPTED("header", kullneyra_header_into(catalogue, sizeof catalogue, &head), head);
+    expect("header, n", 2, head.n);
+    expect("header, m", 1, head.m);
+    expect("header, index", 0, head.index);
+
+    REFUSED("read, short offsets", KULLNEYRA_BUFFER,
+            kullneyra_read_into(catalogue, sizeof catalogue, offsets, 2, targets, 1, sizes, 2, &head), head);
+    ACCEPTED("read", kullneyra_read_into(catalogue, sizeof catalogue, offsets, 3, targets, 1, sizes, 2, &head), head);
+    expect("read, n", 2, head.n);
+    expect("read, m", 1, head.m);
+    expect("read, index", 0, head.index);
+    expect("read, offsets", 1, offsets[2]);
+    expect("read, sizes", 200, sizes[1]);
+
+    /* The view has no refusal; what it cannot answer is the empty part. */
+    REFUSED("references, no such object", KULLNEYRA_OK, kullneyra_references_into(offsets, 3, targets, 1, 2, &part),
+            part);
+    ACCEPTED("references", kullneyra_references_into(offsets, 3, targets, 1, 0, &part), part);
+    expect("references, start", 0, part.start);
+    expect("references, length", 1, part.length);
+
+    REFUSED("mark, half a turn", KULLNEYRA_SCHEDULE,
+            kullneyra_mark_into(offsets, 3, targets, 1, 0, 1, 1, 1, turns, 5, marks, 2, work, KULLNEYRA_WORK(2, 1),
+                                &marked),
+            marked);
+    ACCEPTED("mark, two turns",
+             kullneyra_mark_into(offsets, 3, targets, 1, 0, 1, 1, 1, turns, 4, marks, 2, work, KULLNEYRA_WORK(2, 1),
+                                 &marked),
+             marked);
+    expect("mark, unfinished", 0, marked.finished);
+    expect("mark, moved before the end", 2, marked.moved);
+    ACCEPTED("mark",
+             kullneyra_mark_into(offsets, 3, targets, 1, 0, 1, 1, 1, turns, 6, marks, 2, work, KULLNEYRA_WORK(2, 1),
+                                 &marked),
+             marked);
+    expect("mark, finished", 1, marked.finished);
+    expect("mark, live", 1, marked.live);
+    expect("mark, followed", 1, marked.followed);
+    expect("mark, handed", 0, marked.handed);
+    expect("mark, refused", 0, marked.refused);
+    expect("mark, moved", 3, marked.moved);
+
+    REFUSED("sweep, long list", KULLNEYRA_BUFFER, kullneyra_sweep_into(marks, 2, sizes, 2, list, 3, &swept), swept);
+    ACCEPTED("sweep", kullneyra_sweep_into(marks, 2, sizes, 2, list, 2, &swept), swept);
+    expect("sweep, count", 1, swept.count);
+    expect("sweep, freed", 200, swept.freed);
+    expect("sweep, list", 1, list[0]);
+    return failed;
+}
