@@ -16,12 +16,8 @@ PROGRAM = TOP / "target" / "bin" / "collect"
 FILES = ("store.cat", "order.run")
 NOBODY = 65534
 
-
-def as_nobody():
-    """Root may read every file, so the program runs as nobody where the tests run as root."""
-    if os.getuid() == 0:
-        os.setgid(NOBODY)
-        os.setuid(NOBODY)
+# Root may read every file, so the program runs as nobody where the tests run as root.
+AS_NOBODY = {"user": NOBODY, "group": NOBODY, "extra_groups": []} if os.getuid() == 0 else {}
 
 
 class Folder(unittest.TestCase):
@@ -44,10 +40,15 @@ class Folder(unittest.TestCase):
         (self.folder / name).write_bytes(data)
         (self.folder / name).chmod(0o644)
 
-    def run_program(self):
-        done = subprocess.run([self.program], cwd=self.folder, capture_output=True, preexec_fn=as_nobody, timeout=60)
-        self.assertEqual(done.returncode, 0)
-        self.assertEqual(done.stderr, b"")
+    def start(self, *command, stdout=subprocess.PIPE, **options):
+        """Runs the program, or a command of the shell that does."""
+        options = AS_NOBODY | {"cwd": self.folder, "stderr": subprocess.PIPE, "timeout": 60} | options
+        return subprocess.run(command or [self.program], stdout=stdout, **options)
+
+    def run_program(self, *command, **options):
+        """What the program prints, if it ends as it should."""
+        done = self.start(*command, **options)
+        self.assertEqual((done.returncode, done.stderr), (0, b""))
         return done.stdout.decode()
 
 

@@ -8,8 +8,6 @@ use report::limits::TEXT_ROOM;
 ghost use Prim.Native.Nat.{_≤_};
 ghost use lib.ListN.{length};
 
-const SEEK_END: i32 = 2;
-
 // A file: how it was got, and how many bytes of it stand in the buffer.
 struct Got {
     file: Loaded,
@@ -25,19 +23,22 @@ fn unreadable() -> Got
     }
 }
 
-// Whether a file, read up to its limit, has more. Nothing is read past the limit where the file
-// can tell its end; a pipe cannot, and is asked for one byte.
-fn has_more(fd: i32, limit: i64) -> bool {
-    let end = libc::lseek(fd, 0, SEEK_END);
-    if 0 <= end {
-        return limit < end;
-    }
+// How a file was got whose limit has been read: it is asked for one byte more. Its length is not
+// asked for, since a pipe has none and a device may tell any.
+fn filled(fd: i32) -> Loaded {
     let mut one = [0u8; 1];
-    0 < libc::read(fd, &mut one)
+    let more = libc::read(fd, &mut one);
+    if more < 0 {
+        return Loaded::Unreadable;
+    }
+    if more == 0 {
+        return Loaded::Whole;
+    }
+    Loaded::TooLong
 }
 
 // Reads up to the buffer's length, which is the file's limit.
-fn read_up_to(fd: i32, buffer: &mut [u8], limit: i64) -> Got
+fn read_up_to(fd: i32, buffer: &mut [u8]) -> Got
     ensures { λ r. ⌜ r .len ≤ length (now (buffer .exit)) ⌝ }
 {
     let mut at: usize = 0;
@@ -55,32 +56,24 @@ fn read_up_to(fd: i32, buffer: &mut [u8], limit: i64) -> Got
         }
         at += n;
     }
-    if has_more(fd, limit) {
-        return Got {
-            file: Loaded::TooLong,
-            len: at,
-        };
-    }
-    Got {
-        file: Loaded::Whole,
-        len: at,
-    }
+    let file = filled(fd);
+    Got { file, len: at }
 }
 
 // Opens, reads and closes a file.
-fn load(path: &[u8], buffer: &mut [u8], limit: i64) -> Got
+fn load(path: &[u8], buffer: &mut [u8]) -> Got
     ensures { λ r. ⌜ r .len ≤ length (now (buffer .exit)) ⌝ }
 {
     let fd = os::open_read(path);
     if fd < 0 {
         return unreadable();
     }
-    let got = read_up_to(fd, buffer, limit);
+    let got = read_up_to(fd, buffer);
     libc::close(fd);
     got
 }
 
-// Makes the answer and writes it whole.
+// Makes the answer and writes it. That it could not be written whole is told on standard error.
 fn respond(storefile: Got, store: &[u8], orderfile: Got, order: &[u8], out: &mut [u8])
     requires { ⌜ (storefile .len ≤ length (now store)) × (orderfile .len ≤ length (now order)) ⌝ }
 {
@@ -95,14 +88,16 @@ fn respond(storefile: Got, store: &[u8], orderfile: Got, order: &[u8], out: &mut
         &order[..order_len],
         out,
     );
-    io::write_all(STDOUT_FILENO, &out[..n]);
+    if !io::write_all(STDOUT_FILENO, &out[..n]) {
+        os::fail(b"collect: the answer was not written whole");
+    }
 }
 
 fn main() {
     let mut store = [0u8; MOST_STORE_BYTES];
     let mut order = [0u8; MOST_ORDER_BYTES];
     let mut out = [0u8; TEXT_ROOM];
-    let storefile = load(b"store.cat", &mut store, MOST_STORE_BYTES as i64);
-    let orderfile = load(b"order.run", &mut order, MOST_ORDER_BYTES as i64);
+    let storefile = load(b"store.cat", &mut store);
+    let orderfile = load(b"order.run", &mut order);
     respond(storefile, &store, orderfile, &order, &mut out);
 }

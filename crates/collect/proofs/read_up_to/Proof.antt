@@ -7,10 +7,10 @@ use Rattle.collect.proofs.read_up_to.Statement.{statement}
 use Rattle.collect.proofs.read_up_to.Tie as tie
 
 abbrev Inv-loop : tie.InvT-loop
-Inv-loop fd buffer₀ limit at₀ buffer at = (at ≤ length buffer) × (length buffer ≡ length buffer₀)
+Inv-loop fd buffer₀ at₀ buffer at = (at ≤ length buffer) × (length buffer ≡ length buffer₀)
 
 abbrev μ-loop : tie.MeasureT-loop
-μ-loop fd buffer₀ limit at₀ buffer at = length buffer₀ - at
+μ-loop fd buffer₀ at₀ buffer at = length buffer₀ - at
 
 pub read-up-to-spec : {M : Type 1} → statement M
 read-up-to-spec =
@@ -19,4 +19,4 @@ read-up-to-spec =
     (λ c κs. search needs) (λ c κs. search needs) (λ c. search needs) (λ c. search needs) (λ c. search needs)
     (λ c. search needs) (λ c. search needs) (λ c κs. search needs) (λ c. search needs) (λ c. search needs)
     (λ c. search needs) (λ c. search needs) (λ c. search needs) (λ c κs. search needs) (λ c. search needs)
-    (λ c. search needs) (λ c. search needs) (λ c. search needs))
+    (λ c. search needs))

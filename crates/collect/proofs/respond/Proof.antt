@@ -24,4 +24,5 @@ pub respond-spec : {M : Type 1} → statement M
 respond-spec =
     tie.close
     (tie.spec slice-aggregate-answer slice-aggregate-answer-2 (λ c κs. search needs) (λ c. search needs)
-    slice-aggregate-write-all (λ c κs. search needs) (λ c. search needs) (λ c. search needs))
+    slice-aggregate-write-all (λ c κs. search needs) (λ c. search needs) (λ c κs. search needs) (λ c. search needs)
+    (λ c. search needs) (λ c. search needs) (λ c. search needs))
