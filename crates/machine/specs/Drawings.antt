@@ -53,6 +53,23 @@ drawing G W D K l r =
       gives = r;
     }
 
+-- a call with W workers on these offsets and targets, D and K 1
+abbrev pub faulty : List ℕ → List ℕ → ℕ → ℕ → List ℕ → Call
+faulty offsets targets index W l =
+    record { offsets = offsets; targets = targets; index = index; workers = W; batch = 1; cutoff = 1; schedule = l }
+
+-- the order of the checks, by calls with the faults of two neighbours at once: 8 and 4, 4 and 7, 7 and 10, 10 and 5, 5 and 9
+pub checks-in-order :
+    fault (faulty [] [] 0 0 []) 0 0
+    ∷ fault (faulty (0 ∷ []) [] 0 1 []) 5 0
+    ∷ fault (faulty (1 ∷ 0 ∷ []) [] 0 1 []) 0 6
+    ∷ fault (faulty (1 ∷ 0 ∷ []) [] 9 1 []) 1 6
+    ∷ fault (faulty (0 ∷ 0 ∷ []) [] 9 1 (7 ∷ [])) 1 6
+    ∷ []
+    ≡ 8 ∷ 4 ∷ 7 ∷ 10 ∷ 5 ∷ []
+unfolding fault rising allBelow wellFormed scheduleFits
+checks-in-order = refl
+
 -- A to J, and L
 unfoldable pub drawings : List Drawing
 unfolding turnsA naming0
