@@ -36,7 +36,7 @@ fn small_store(rng: &mut Rng) -> Store {
 }
 
 /// A catalogue, often damaged, and the n and m that its buffers are made for.
-fn catalogue(rng: &mut Rng) -> (Vec<u8>, usize, usize) {
+pub fn catalogue(rng: &mut Rng) -> (Vec<u8>, usize, usize) {
     let store = small_store(rng);
     let sizes = store::sizes(rng, store.n);
     let mut records = store.records(&sizes);

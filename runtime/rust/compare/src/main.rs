@@ -1,8 +1,9 @@
 //! Compares the proved library with the specification in plain Rust, on drawn inputs.
 //!
 //! ```text
-//! compare [CASES [SEED]]       that many cases (300,000 of seed 1)
-//! compare replay SEED NUMBER   one of them, printed
+//! compare [CASES [SEED]]                that many cases (300,000 of seed 1)
+//! compare replay SEED NUMBER            one of them, printed
+//! compare program PATH [CASES [SEED]]   the program at this path, on that many pairs of files (3,000 of seed 1)
 //! ```
 //! It ends with exit status 1 at the first difference and prints how to replay it.
 
@@ -11,6 +12,7 @@ mod damage;
 mod draw;
 mod judge;
 mod large;
+mod program;
 mod rng;
 mod sides;
 mod store;
@@ -22,11 +24,13 @@ use case::Case;
 use rng::Rng;
 use std::env;
 use std::panic;
+use std::path::Path;
 use std::process::ExitCode;
 use std::sync::atomic::{AtomicU64, Ordering::Relaxed};
 use tally::Tally;
 
 const CASES: u64 = 300_000;
+const FILES: u64 = 3_000;
 const SEED: u64 = 1;
 
 /// The case of this seed and number.
@@ -100,8 +104,18 @@ fn number(text: Option<&String>, otherwise: u64) -> Result<u64, String> {
 fn chosen(arguments: &[String]) -> Result<(), String> {
     match arguments.first().map(String::as_str) {
         Some("replay") if arguments.len() == 3 => replay(number(arguments.get(1), SEED)?, number(arguments.get(2), 0)?),
+        Some("program") if (2..=4).contains(&arguments.len()) => {
+            let (files, seed) = (number(arguments.get(2), FILES)?, number(arguments.get(3), SEED)?);
+            println!("compare: the program on {files} pairs of files of seed {seed}");
+            program::compare(Path::new(&arguments[1]), files, seed)?;
+            println!("compare: no difference");
+            Ok(())
+        }
         _ if arguments.len() <= 2 => compare(number(arguments.first(), CASES)?, number(arguments.get(1), SEED)?),
-        _ => Err("usage: compare [CASES [SEED]] or compare replay SEED NUMBER".into()),
+        _ => {
+            Err("usage: compare [CASES [SEED]], compare replay SEED NUMBER or compare program PATH [CASES [SEED]]"
+                .into())
+        }
     }
 }
 

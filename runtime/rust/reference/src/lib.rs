@@ -5,10 +5,12 @@
 
 mod catalogue;
 mod machine;
+mod report;
 mod sweep;
 
 pub use catalogue::{header, part, read, references, Header};
 pub use machine::{depth_first, mark, Call, Outcome};
+pub use report::report;
 pub use sweep::{sweep, Swept};
 
 pub const MOST_OBJECTS: usize = 65_536;
