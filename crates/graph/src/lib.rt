@@ -19,24 +19,27 @@ pub const LARGEST_SIZE: u64 = 1099511627776;
 fn is_rising(offsets: &[u32]) -> bool
     ensures { λ r. ⌜ r ≡ rising (now (offsets .entry)) ⌝ }
 {
+    // Looks at every offset, so that the loop is compiled without a jump out of it.
+    let mut wrong: u32 = 0;
     for i in 1..offsets.len() {
         if offsets[i] < offsets[i - 1] {
-            return false;
+            wrong = 1;
         }
     }
-    true
+    wrong == 0
 }
 
 // Whether every number is below n.
 fn is_below(n: usize, numbers: &[u32]) -> bool
     ensures { λ r. ⌜ r ≡ allBelow n (now (numbers .entry)) ⌝ }
 {
+    let mut wrong: u32 = 0;
     for i in 0..numbers.len() {
         if n <= numbers[i] as usize {
-            return false;
+            wrong = 1;
         }
     }
-    true
+    wrong == 0
 }
 
 // Check 10: whether the offsets and targets are a graph.

@@ -2,6 +2,7 @@ pub mod Every
 pub mod Blocks
 pub mod Grouping
 pub mod Running
+pub mod Scan
 pub mod Span
 pub mod Stores
 pub mod Sum

@@ -15,9 +15,9 @@ use Rattle.machine.specs.Run.{Run, run, runFrom, carried, leaving, pairs}
 use Rattle.machine.specs.Machine.{State, Worker, idle, ended, busy, empty, poll, live, newRun, startRuns, withRuns, unmarked, start}
 use Rattle.machine.proofs.Marks.{live-more}
 use Rattle.worker.specs.declared.registers.Block.{Block}
-use Rattle.worker.specs.Registers.{Room, storeAt}
+use Rattle.worker.specs.Registers.{Room, storeAt, Stored}
 use Rattle.worker.specs.Stretch.{topWith}
-use Rattle.worker.proofs.Blocks.{Stored, store-stored}
+use Rattle.worker.proofs.Blocks.{store-stored}
 use Rattle.turns.specs.declared.Setup.{Setup}
 use Rattle.turns.specs.Counting.{carries?, running?, progressWith}
 use Rattle.turns.specs.Held.{memory, BlockIs, Holds}

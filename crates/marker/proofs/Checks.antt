@@ -2,11 +2,11 @@
 use mathlib.Core.Path.{_≡_, refl, sym, ap, _∙_}
 use mathlib.Core.Bool.{Bool, true, false, not, _||_}
 use mathlib.Core.List.{List, [], _∷_}
-use Prim.Native.Nat.{ℕ, zero, suc, _+_, _-_, _*_, _≤_, _<_}
+use Prim.Native.Nat.{ℕ, suc, _+_, _-_, _*_, _≤_, _<_}
 use native.Mathlib.Nat.{mul-le-mul}
 use native.Mathlib.Numerals.{add-one}
 use native.Mathlib.Omega.{arith}
-use borrow.Author.Tests.{lt-ltb, le-ltb, ltb-false, ne-eqb}
+use borrow.Author.Tests.{lt-ltb, le-ltb, ltb-false}
 use lib.ListN.{length, getD, drop, drop-of-length-le}
 use lib.Dec.{ltb, eqb}
 use lib.Seq.{drop-cons}
@@ -41,7 +41,7 @@ module _ (l : List ℕ) (i : ℕ) (h : i < length l) (room : 2 ≤ length l - i)
   unfolding scheduleFits
   fits-next W w = sym (ap (λ (t : List ℕ). scheduleFits W t) pair-is ∙ rw (lt-ltb (getD l i 0) W w))
 
-fits-done : (W : ℕ) (l : List ℕ) (i : ℕ) → length l ≤ i → scheduleFits W (drop i l) ≡ true
+pub fits-done : (W : ℕ) (l : List ℕ) (i : ℕ) → length l ≤ i → scheduleFits W (drop i l) ≡ true
 unfolding scheduleFits
 fits-done W l i h = ap (λ (t : List ℕ). scheduleFits W t) (drop-of-length-le l h)
 
@@ -56,36 +56,13 @@ fits-odd W (b ∷ v ∷ l) h = rw (fits-odd W l (λ k e. h (suc k) (omega arith)
     never true = refl
     never false = refl
 
--- what is known after k entries: whether one of them was wrong, and if none was, that the others decide
-pub record Scan (W : ℕ) (l : List ℕ) (k wrong : ℕ) : Type 0 where
-  pub none : wrong ≡ 0 → scheduleFits W (drop (2 * k) l) ≡ scheduleFits W l
-  pub some : (wrong ≡ 0 → ⊥) → scheduleFits W l ≡ false
+-- the next entry
+module _ (W : ℕ) (l : List ℕ) (k : ℕ) (room : 2 * k + 2 ≤ length l) where
+  pub entry-wrong : W ≤ getD l (2 * k) 0 → scheduleFits W (drop (2 * k) l) ≡ false
+  entry-wrong h = fits-wrong l (2 * k) (omega arith) (omega arith) W h
 
-pub scan-start : (W : ℕ) (l : List ℕ) → Scan W l 0 0
-scan-start W l = record { none = λ e. refl; some = λ h. absurd (h refl) }
-
-module _ (W : ℕ) (l : List ℕ) (k wrong : ℕ) (room : 2 * k + 2 ≤ length l) (x : Scan W l k wrong) where
-  next-place : 2 * (k + 1) ≡ 2 * k + 2
-  next-place = omega arith
-
-  -- a wrong entry
-  pub scan-wrong : W ≤ getD l (2 * k) 0 → Scan W l (k + 1) 1
-  scan-wrong h = record { none = λ e. absurd (omega arith); some = λ z. found wrong refl }
-    where
-      found : (n : ℕ) → wrong ≡ n → scheduleFits W l ≡ false
-      found zero e = sym (x .none e) ∙ fits-wrong l (2 * k) (omega arith) (omega arith) W h
-      found (suc n) e = x .some (λ z. absurd (omega arith))
-
-  pub scan-right : getD l (2 * k) 0 < W → Scan W l (k + 1) wrong
-  scan-right h =
-      record {
-        none = λ e. rw next-place (fits-next l (2 * k) (omega arith) (omega arith) W h ∙ x .none e);
-        some = x .some;
-      }
-
-pub scan-end : (W : ℕ) (l : List ℕ) (k wrong : ℕ) → length l ≤ 2 * k → Scan W l k wrong → eqb wrong 0 ≡ scheduleFits W l
-scan-end W l k zero h x = sym (fits-done W l (2 * k) h) ∙ x .none refl
-scan-end W l k (suc n) h x = rw (ne-eqb (suc n) 0 (λ e. absurd (omega arith))) (sym (x .some (λ e. absurd (omega arith))))
+  pub entry-right : getD l (2 * k) 0 < W → scheduleFits W (drop (2 * (k + 1)) l) ≡ scheduleFits W (drop (2 * k) l)
+  entry-right h = let n : 2 * (k + 1) ≡ 2 * k + 2 = omega arith in rw n (fits-next l (2 * k) (omega arith) (omega arith) W h)
 
 -- ---- the first fault, by what the checks answer
 

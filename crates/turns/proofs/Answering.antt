@@ -1,25 +1,26 @@
 -- Polls: a batch begins, an asker is refused, and references are shared.
-use mathlib.Core.Path.{_≡_, refl, sym, ap, _∙_, subst}
+use mathlib.Core.Path.{_≡_, refl, sym, ap, _∙_}
 use mathlib.Core.Bool.{Bool, true, false}
 use mathlib.Core.Logic.{_≢_}
 use mathlib.Core.List.{List, [], _∷_}
-use Prim.Native.Nat.{ℕ, zero, suc, _-_, _≤_, _<_, min}
+use Prim.Native.Nat.{ℕ, zero, suc, _+_, _-_, _≤_, _<_, _^_, min}
 use native.Mathlib.Omega.{arith}
 use lib.ListN.{length}
 use lib.Dec.{ltb}
 use Rattle.laws.specs.Choice.{pick}
+use Rattle.laws.specs.Every.{Every}
 use Rattle.graph.specs.Graph.{Graph, target}
 use Rattle.machine.specs.Row.{countMove}
 use Rattle.machine.specs.declared.Counts.{Counts}
 use Rattle.machine.specs.Run.{Run, run, runFrom, carried, keep, half}
 use Rattle.machine.specs.Machine.{State, asking, denied, busy, Cell, empty, from, poll, phase, worker, giver, receiver, answer, shares}
-use Rattle.machine.proofs.Facts.{busy-below, busy-carried, asker-asking, asker-below, asker-other}
+use Rattle.machine.proofs.Facts.{busy-below, busy-carried, busy-carried-limit, since-limit, followed-limit, asker-asking, asker-below, asker-other}
 use Rattle.machine.proofs.Runs.{halves}
 use Rattle.machine.proofs.Step.{phase-batch, share-pays}
 use Rattle.worker.specs.declared.stretch.Top.{Top}
-use Rattle.worker.specs.Registers.{blockAt, putAt, storeAt}
+use Rattle.worker.specs.Registers.{blockAt, putAt, storeAt, Word, word, beginWords, putsAt, Stored}
 use Rattle.worker.specs.declared.registers.Block.{Block}
-use Rattle.worker.proofs.Blocks.{replaced, Stored, put-stored, store-stored}
+use Rattle.worker.proofs.Blocks.{put-stored, puts-stored, store-stored}
 use Rattle.turns.specs.declared.Setup.{Setup}
 use Rattle.turns.specs.declared.Progress.{Progress}
 use Rattle.turns.specs.Counting.{movedOn, sharedOne}
@@ -27,8 +28,19 @@ use Rattle.turns.specs.Polling.{batchedBlock, sharedBlock, givenBlock}
 use Rattle.turns.specs.Held.{memory, settingOf, stretchAt, phaseWord, nextTarget, topOf, BusyIs, Holds, Scene}
 use Rattle.turns.specs.Turned.{turned, Ready, IsPolling, IsAsked, Dividing, Divided}
 use Rattle.turns.proofs.Bounds.{block-room, stretch-room}
-use Rattle.turns.proofs.Each.{all-same, stored-then, hold-one, hold-two}
+use Rattle.turns.proofs.Each.{all-same, hold-one, hold-two}
 use Rattle.turns.proofs.Asking.{turn-as}
+
+-- the words of a batch that begins with this block, and the registers then
+abbrev pub batchWords : Setup → Block → List Word
+batchWords g r = beginWords (min (g .batch) (r .carried)) (r .since + min (g .batch) (r .carried)) (r .carried - min (g .batch) (r .carried))
+
+abbrev pub begun : Setup → List ℕ → ℕ → List ℕ
+begun g regs b = putsAt regs b (batchWords g (blockAt regs b))
+
+-- the same, and the cell empties
+abbrev pub emptied : Setup → List ℕ → ℕ → List ℕ
+emptied g regs b = putsAt regs b (word 2 0 ∷ batchWords g (blockAt regs b))
 
 -- a batch that is not over is a look
 phase-look : (k : ℕ) → 0 < k → 6 ≡ phaseWord (phase k)
@@ -46,41 +58,60 @@ module _ {G : Graph} {g : Setup} {s : State} {marks work regs : List ℕ} {p : P
     pub poll-is : BusyIs G cell n poll rs (blockAt regs b) (stretchAt (g .stretch) b work)
     poll-is = rw e at (h .each b poll-low)
 
+    -- no batch is begun
+    pub poll-carried : blockAt regs b .carried ≡ carried rs
+    poll-carried = omega (arith, poll-is .carrying .number)
+
+    pub poll-since : blockAt regs b .since ≡ n
+    poll-since = omega (arith, poll-is .since)
+
+    -- a batch can be added to since
+    pub batch-fits : blockAt regs b .since + min (g .batch) (blockAt regs b .carried) < 2 ^ 32
+    batch-fits =
+        omega (
+          arith,
+          poll-since,
+          poll-carried,
+          since-limit (c .accepted) (c .sound) b e,
+          followed-limit (c .accepted) (c .sound),
+          busy-carried-limit (c .accepted) (c .sound) b e,
+          c .references-limit,
+        )
+
     -- the block with a batch begun
     batched-is : BusyIs G empty n (phase (min (g .batch) (carried rs))) rs (batchedBlock (blockAt regs b) (min (g .batch) (blockAt regs b .carried)))
         (stretchAt (g .stretch) b work)
     batched-is =
         let t = poll-is in
         let some : 0 < min (g .batch) (carried rs) = omega (arith, c .accepted .some-batch, busy-carried (c .accepted) (c .sound) b e) in
+        let number = poll-carried in
+        let k : min (g .batch) (blockAt regs b .carried) ≡ min (g .batch) (carried rs) = ap (λ (k : ℕ). min (g .batch) k) number in
+        let batch = phase-batch (min (g .batch) (carried rs)) in
         record {
           status = phase-look (min (g .batch) (carried rs)) some;
           cell = refl;
-          since = t .since;
-          batch = ap (λ (k : ℕ). min (g .batch) k) (t .carrying .number) ∙ sym (phase-batch (min (g .batch) (carried rs)));
-          carrying = record { number = t .carrying .number; told = t .carrying .told };
+          since = omega (arith, t .since, k, batch);
+          batch = k ∙ sym batch;
+          carrying = record { number = omega (arith, number, k, batch); told = t .carrying .told };
           target = t .target;
         }
 
-    batched-stored : Stored regs b (batchedBlock (blockAt regs b) (min (g .batch) (blockAt regs b .carried)))
-        (storeAt regs b (batchedBlock (blockAt regs b) (min (g .batch) (blockAt regs b .carried))))
-    batched-stored = store-stored regs b (block-room c h b poll-low .long) _
+    batched-stored : Stored regs b (batchedBlock (blockAt regs b) (min (g .batch) (blockAt regs b .carried))) (emptied g regs b)
+    batched-stored =
+        puts-stored regs b (block-room c h b poll-low .long) (word 2 0 ∷ batchWords g (blockAt regs b))
+        (omega arith, (omega arith, (omega arith, (omega arith, (omega arith, tt)))))
 
-  -- nobody asks: two words of the block change
+  -- nobody asks: four words of the block change
   pub holds-polled : (b v : ℕ) {n : ℕ} {rs : List Run} → worker s b ≡ busy empty n poll rs
       → Holds G g (turned g b v G s)
-      (memory marks work (putAt (putAt regs b 1 (min (g .batch) (blockAt regs b .carried))) b 0 6) (movedOn p 0))
+      (memory marks work (begun g regs b) (movedOn p 0))
   holds-polled b v {n} {rs} e =
-      let k = min (g .batch) (blockAt regs b .carried) in
       let r = block-room c h b (poll-low b e) in
-      let st = put-stored regs b (r .long) 1 k (omega arith) in
-      let st′ =
-      subst (λ (x : Block). Stored (putAt regs b 1 k) b (replaced 0 6 x) (putAt (putAt regs b 1 k) b 0 6)) (st .here)
-      (put-stored (putAt regs b 1 k) b (rw (st .long) (r .long)) 0 6 (omega arith))
-      in
+      let low : Every (λ (w : Word). w .place < 9) (batchWords g (blockAt regs b)) = (omega arith, (omega arith, (omega arith, (omega arith, tt)))) in
       let t = batched-is b e in
       rw (turn-as g b v G s e)
       (hold-one h long b (poll-low b e) e (busy empty n (phase (min (g .batch) (carried rs))) rs) work
-      (stored-then st st′) refl (all-same (g .workers) (g .stretch) b work)
+      (puts-stored regs b (r .long) (batchWords g (blockAt regs b)) low) refl (all-same (g .workers) (g .stretch) b work)
       (record {
         status = t .status;
         cell = poll-is b e .cell;
@@ -116,7 +147,7 @@ module _ {G : Graph} {g : Setup} {s : State} {marks work regs : List ℕ} {p : P
     pub holds-refused : shares (g .cutoff) n (carried rs) ≡ false → (v : ℕ)
         → Holds G g (turned g b v G s)
         (memory marks work
-        (putAt (storeAt regs b (batchedBlock (blockAt regs b) (min (g .batch) (blockAt regs b .carried)))) (blockAt regs b .cell - 1) 0 2)
+        (putAt (emptied g regs b) (blockAt regs b .cell - 1) 0 2)
         (movedOn p 1))
     holds-refused q v =
         let i : blockAt regs b .cell - 1 ≡ a = omega (arith, asker-word) in
@@ -182,6 +213,7 @@ module _ {G : Graph} {g : Setup} {s : State} {marks work regs : List ℕ} {p : P
           let hk = halves rs in
           let m = min (g .batch) (carried (keep k rs)) in
           let some : 0 < m = omega (arith, c .accepted .some-batch, hk, two-carried) in
+          let l : min (g .batch) k ≡ m = ap (λ (i : ℕ). min (g .batch) i) (sym (hk .0)) in
           rw (turn-answers true v q)
           (hold-two h long b (poll-low b e) e (giver (settingOf g) n rs) st a asker-low other asker (receiver rs) work′
           (store-stored _ a (rw (st .long) (block-room c h a asker-low .long)) _)
@@ -190,9 +222,9 @@ module _ {G : Graph} {g : Setup} {s : State} {marks work regs : List ℕ} {p : P
           (record {
             status = phase-look m some;
             cell = refl;
-            since = refl;
-            batch = ap (λ (i : ℕ). min (g .batch) i) (sym (hk .0)) ∙ sym (phase-batch m);
-            carrying = record { number = sym (hk .0); told = d .giver x };
+            since = omega (arith, l, phase-batch m);
+            batch = l ∙ sym (phase-batch m);
+            carrying = record { number = omega (arith, l, phase-batch m, hk); told = d .giver x };
             target = poll-is b e .target ∙ first-stays k (omega (arith, two-carried));
           })
           (refl, record { number = omega (arith, hk); told = d .receiver x })
@@ -204,7 +236,7 @@ module _ {G : Graph} {g : Setup} {s : State} {marks work regs : List ℕ} {p : P
 
       -- the same, as the words tell it
       words : (blockAt regs b .cell - 1 ≡ a) × (blockAt regs b .carried ≡ carried rs)
-      words = (omega (arith, asker-word), poll-is b e .carrying .number)
+      words = (omega (arith, asker-word), poll-carried b e)
 
       pub dividing-words : Dividing (g .stretch) work b (blockAt regs b .cell - 1) (topOf (blockAt regs b)) (half (blockAt regs b .carried))
       dividing-words = rw (words .0, words .1) (dividing (half (carried rs)) refl)
@@ -241,7 +273,7 @@ asked-here {g} {marks} {work} {regs} b t m q x = by (x .here .cell) (x .here .is
           since = x .here .since;
           runs = x .here .runs;
           is = e;
-          answers = rw (is e .since, is e .carrying .number) at q;
+          answers = rw (poll-since (x .scene) (x .holds) b e, poll-carried (x .scene) (x .holds) b e) at q;
         }
 
 abbrev pub asked : {g : Setup} {marks work regs : List ℕ} {p : Progress} (b : ℕ) (t : Bool) → blockAt regs b .cell ≢ 0
@@ -254,11 +286,11 @@ asked b t m q x =
 pub unasked : {g : Setup} {marks work regs : List ℕ} {p : Progress} (b v : ℕ) → blockAt regs b .cell ≡ 0
     → (x : Ready (IsPolling b) g (memory marks work regs p))
     → Holds (x .graph) g (turned g b v (x .graph) (x .state))
-    (memory marks work (putAt (putAt regs b 1 (min (g .batch) (blockAt regs b .carried))) b 0 6) (movedOn p 0))
+    (memory marks work (begun g regs b) (movedOn p 0))
 unasked {g} {marks} {work} {regs} {p} b v z x = by (x .here .cell) (x .here .is)
   where
     by : (cell : Cell) → worker (x .state) b ≡ busy cell (x .here .since) poll (x .here .runs)
         → Holds (x .graph) g (turned g b v (x .graph) (x .state))
-        (memory marks work (putAt (putAt regs b 1 (min (g .batch) (blockAt regs b .carried))) b 0 6) (movedOn p 0))
+        (memory marks work (begun g regs b) (movedOn p 0))
     by empty e = holds-polled (x .scene) (x .holds) b v e
     by (from a) e = absurd (omega (arith, z, poll-is (x .scene) (x .holds) b e .cell))

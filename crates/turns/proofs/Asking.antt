@@ -166,7 +166,7 @@ module _ {G : Graph} {g : Setup} {s : State} {marks work regs : List ℕ} {p : P
     pub given-low : b < g .workers
     given-low = given-below (c .accepted) (c .sound) b e
 
-    given-is : (blockAt regs b .status ≡ 4) × Carrying rs (blockAt regs b) (stretchAt (g .stretch) b work)
+    given-is : (blockAt regs b .status ≡ 4) × Carrying 0 rs (blockAt regs b) (stretchAt (g .stretch) b work)
     given-is = rw e at (h .each b given-low)
 
     -- the first reference is there, and where it leads

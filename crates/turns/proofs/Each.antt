@@ -12,7 +12,7 @@ use Rattle.laws.proofs.Sum.{sum-set}
 use Rattle.graph.specs.Graph.{Graph}
 use Rattle.machine.specs.Machine.{State, Worker, ended, worker}
 use Rattle.worker.specs.declared.registers.Block.{Block}
-use Rattle.worker.proofs.Blocks.{Stored}
+use Rattle.worker.specs.Registers.{Stored}
 use Rattle.turns.specs.declared.Setup.{Setup}
 use Rattle.turns.specs.declared.Progress.{Progress}
 use Rattle.turns.specs.Counting.{carries?, running?}
@@ -24,11 +24,6 @@ SameBut W L b work work′ = (a : ℕ) → a < W → a ≢ b → stretchAt L a w
 
 pub all-same : (W L b : ℕ) (work : List ℕ) → SameBut W L b work work
 all-same W L b work a l h = refl
-
--- two stores in one block are one
-pub stored-then : {regs regs₁ regs₂ : List ℕ} {b : ℕ} {r r′ : Block} → Stored regs b r regs₁ → Stored regs₁ b r′ regs₂ → Stored regs b r′ regs₂
-stored-then p q =
-    record { long = q .long ∙ p .long; here = q .here; others = λ a h. q .others a h ∙ p .others a h }
 
 either-way : (a b : ℕ) {P : Type 0} → (a ≡ b → P) → (a ≢ b → P) → P
 either-way a b f g =

@@ -4,6 +4,7 @@ pub mod Bounds
 pub mod Dividing
 pub mod Each
 pub mod Looking
+pub mod Advance
 pub mod Onward
 pub mod Parts
 pub mod Statuses

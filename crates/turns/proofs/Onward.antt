@@ -1,10 +1,14 @@
 -- Following a reference: the worker goes on, or is left with nothing and refuses an asker in its cell.
 use mathlib.Core.Path.{_≡_, refl, sym, ap, _∙_, subst}
+use mathlib.Core.Bool.{Bool, true, false}
 use mathlib.Core.Logic.{_≢_}
 use mathlib.Core.List.{List, [], _∷_, _++_}
 use Prim.Native.Nat.{ℕ, zero, suc, _+_, _-_, _*_, _≤_, _<_}
 use native.Mathlib.Omega.{arith}
-use lib.ListN.{length, set, take, drop}
+use borrow.Author.Tests.{ltb-false, ne-eqb}
+use lib.ListN.{length, getD, set, take, drop}
+use lib.Dec.{ltb, eqb}
+use Rattle.laws.specs.Choice.{pick}
 use Rattle.laws.specs.Every.{Every}
 use Rattle.laws.specs.Sum.{sum}
 use Rattle.laws.proofs.Every.{every-append}
@@ -13,20 +17,21 @@ use Rattle.machine.specs.Row.{countFollow}
 use Rattle.machine.specs.declared.Counts.{Counts}
 use Rattle.machine.specs.Run.{Run, run, runFrom, carried}
 use Rattle.machine.specs.Machine.{Worker, idle, denied, busy, Cell, empty, from, phase, worker, onward, dismiss, dismissed, onwardRuns, follows}
-use Rattle.machine.proofs.Facts.{busy-below, busy-carried, busy-carried-limit, busy-room, busy-runs-limit, since-limit, followed-limit, first-run-limit, asker-asking, asker-below, asker-other, InTargets}
+use Rattle.machine.proofs.Facts.{busy-below, busy-carried-limit, busy-room, busy-runs-limit, first-run-limit, asker-asking, asker-below, asker-other, InTargets}
 use Rattle.machine.proofs.Runs.{carried-append, carried-from}
 use Rattle.machine.proofs.Step.{phase-batch}
 use Rattle.worker.specs.declared.registers.Block.{Block}
 use Rattle.worker.specs.declared.stretch.Top.{Top}
-use Rattle.worker.specs.Registers.{Room, blockAt, putAt, storeAt}
-use Rattle.worker.specs.Stretch.{TopIs, Told, Nextable, nextTop, nextWords}
-use Rattle.worker.proofs.Blocks.{put-stored, store-stored}
-use Rattle.worker.proofs.Next.{next-told, length-next}
+use Rattle.worker.specs.Registers.{Room, blockAt, putAt, Stored}
+use Rattle.worker.specs.Stretch.{Holds as Words, Told, Nextable, goesOn, nextTop, nextWords}
+use Rattle.worker.proofs.Blocks.{put-stored}
+use Rattle.worker.proofs.Pairs.{pop-first}
+use Rattle.worker.proofs.Next.{some?, next-told, next-goes-on, length-next}
 use Rattle.turns.specs.declared.Setup.{Setup}
 use Rattle.turns.specs.declared.Progress.{Progress}
 use Rattle.turns.specs.declared.follow.Opened.{Opened}
 use Rattle.turns.specs.Counting.{followedOn, emptiedOne}
-use Rattle.turns.specs.Claiming.{nextWord, Advancing, advancedBlock}
+use Rattle.turns.specs.Claiming.{nextWord, advancedBlock, Advanceable, stoppedCount, stoppedAt}
 use Rattle.turns.specs.Held.{memory, stretchAt, cellWord, phaseWord, topOf, BusyIs, Holds, Scene}
 use Rattle.turns.specs.Turned.{turned, Ready, IsFollowing}
 use Rattle.turns.proofs.Bounds.{block-room, stretch-room, stretch-limit, carrying-at}
@@ -46,14 +51,35 @@ gone-on ws b n k cell [] some = absurd (omega arith)
 gone-on ws b n k empty (r ∷ rs) some = (refl, refl)
 gone-on ws b n k (from a) (r ∷ rs) some = (refl, refl)
 
--- a top tells whether there are runs
-some-told : (rs : List Run) (t : Top) → TopIs rs t → t .first < t .end → 0 < length rs
-some-told [] t e l = absurd (omega (arith, ap (λ (x : Top). x .first) e, ap (λ (x : Top). x .end) e))
-some-told (r ∷ rs) t e l = omega arith
+some-runs : (rs : List Run) → some? rs ≡ true → 0 < length rs
+some-runs [] e = let z : _≡_ {A = ℕ} 0 1 = cc in absurd (omega arith)
+some-runs (r ∷ rs) e = omega arith
 
-none-told : (rs : List Run) (t : Top) → TopIs rs t → t .end ≤ t .first → rs ≡ []
-none-told [] t e l = refl
-none-told (run f j ∷ rs) t e l = absurd (omega (arith, ap (λ (x : Top). x .first) e, ap (λ (x : Top). x .end) e))
+no-runs : (rs : List Run) → some? rs ≡ false → rs ≡ []
+no-runs [] e = refl
+no-runs (r ∷ rs) e = let z : _≡_ {A = ℕ} 0 1 = cc in absurd (omega arith)
+
+-- the run that comes up next lies among the targets
+below-first : (G : Graph) (rs : List Run) (s : List ℕ) → Words s (2 * length rs) rs → Every (InTargets G) rs → (u : ℕ) → u ≡ 2 * length rs → 2 ≤ u
+    → getD s (u - 2) 0 < references G
+below-first G [] s h l u e two = absurd (omega (arith, e))
+below-first G (run f j ∷ rs) s h l u e two = rw e (omega (arith, pop-first s (2 * suc (length rs)) f j rs h, l .0))
+
+-- at most one asker is refused
+pub stopped-one : (cell : ℕ) → stoppedCount cell ≤ 1
+stopped-one cell = by (eqb cell 0)
+  where
+    by : (t : Bool) → pick t 0 1 ≤ 1
+    by true = omega arith
+    by false = omega arith
+
+-- what opens is added
+opened-sum : (f g c : ℕ) → pick (ltb f g) (c + (g - f)) c ≡ c + (g - f)
+opened-sum f g c = by (ltb f g) refl
+  where
+    by : (t : Bool) → ltb f g ≡ t → pick t (c + (g - f)) c ≡ c + (g - f)
+    by true q = refl
+    by false q = omega (arith, ltb-false f g q)
 
 from-limit : (G : Graph) (f k : ℕ) → f + k ≤ references G → Every (InTargets G) (runFrom f k)
 from-limit G f zero l = tt
@@ -110,28 +136,18 @@ module _ {g : Setup} {targets marks′ : List ℕ} {o : Opened} {b : ℕ} {marks
       (next-told part (y .first) (y .below) (is .carrying .told .holds) room (o .first) (o .end) (y .more) (y .order))
 
   -- one reference fewer, and what has opened
-  carried-next : carried runs + 1 ≡ block .carried + (o .end - o .first)
+  carried-next : carried runs ≡ block .carried + (o .end - o .first) + y .left
   unfolding carried sum
   carried-next =
       omega (
         arith,
         is .carrying .number,
+        y .batch-is,
         carried-append (runFrom (suc (y .first)) (y .more)) (runFrom (o .first) (o .end - o .first) ++ y .below),
         carried-append (runFrom (o .first) (o .end - o .first)) (y .below),
         carried-from (suc (y .first)) (y .more),
         carried-from (o .first) (o .end - o .first),
       )
-
-  pub advancing : Advancing block (o .end - o .first)
-  advancing =
-      record {
-        since-small = omega (arith, is .since, since-limit (c .accepted) (c .sound) b (y .is), followed-limit (c .accepted) (c .sound), c .references-limit);
-        batch-some = omega (arith, is .batch, y .batch-is);
-        carried-some = omega (arith, is .carrying .number, busy-carried (c .accepted) (c .sound) b (y .is));
-        carried-small =
-            omega (arith, is .carrying .number, busy-carried-limit (c .accepted) (c .sound) b (y .is), c .references-limit);
-        opened-small = omega (arith, y .limit, c .references-limit);
-      }
 
   limits : Every (InTargets (x .graph)) runs
   limits =
@@ -156,8 +172,35 @@ module _ {g : Setup} {targets marks′ : List ℕ} {o : Opened} {b : ℕ} {marks
           let i : block .cell - 1 ≡ a = omega (arith, q) in
           rw i (block-room c (x .holds) a (asker-below (c .accepted) (c .sound) b e))
 
-  pub target-there : top .first < top .end → top .first < references (x .graph)
-  target-there l = first-told (x .graph) runs top (some-told runs top (told .top) l) limits (told .top) .0
+  -- the words let it follow
+  pub advanceable : {r : Block} → r ≡ block → Advanceable targets part regs b r (o .first) (o .end)
+  advanceable e =
+      let l = busy-runs-limit (c .accepted) (c .sound) b (y .is) in
+      let m = ap length (y .targets-are) in
+      let t = is .carrying .told .top in
+      rw e
+      (record {
+        is = refl;
+        room = block-room c (x .holds) b follow-low;
+        next = nextable;
+        batch-some = omega (arith, is .batch, y .batch-is);
+        carried-small =
+            omega (arith, is .carrying .number, busy-carried-limit (c .accepted) (c .sound) b (y .is), y .limit, c .references-limit);
+        goes-on = λ h. omega (arith, h, m, l .0, ap (λ (t : Top). t .first) t, ap (λ (t : Top). t .end) t);
+        opens = λ h. omega (arith, h, m, y .limit);
+        comes-up = λ h.
+            omega (
+              arith,
+              m,
+              below-first (x .graph) (y .below) part (is .carrying .told .holds) (l .1) (block .used) (ap (λ (t : Top). t .used) t) h,
+            );
+      })
+
+  -- whether something is left, as the words tell
+  left-is : goesOn (topOf block) (o .first) (o .end) ≡ some? runs
+  left-is =
+      subst (λ (t : Top). goesOn t (o .first) (o .end) ≡ some? runs) (sym (is .carrying .told .top))
+      (next-goes-on part (y .first) (y .below) (is .carrying .told .holds) room (o .first) (o .end) (y .more) (y .order))
 
   -- the work memory afterwards
   abbrev after : List ℕ
@@ -188,26 +231,33 @@ module _ {g : Setup} {targets marks′ : List ℕ} {o : Opened} {b : ℕ} {marks
   state : (v : ℕ) → turned g b v (x .graph) (x .state) ≡ follows (x .state) b (y .cell) (y .since) (y .left) (y .found) runs
   state v = y .turn-is v ∙ ap (λ (l : List Run). follows (x .state) b (y .cell) (y .since) (y .left) (y .found) (onwardRuns (y .first) (y .more) l (y .below))) (y .opened-is)
 
-  pub holds-onward : top .first < top .end → (v t : ℕ) → t ≡ target (x .graph) (top .first)
-      → Holds (x .graph) g (turned g b v (x .graph) (x .state))
-      (memory marks′ after (storeAt regs b (advancedBlock block (o .end - o .first) top t)) (followedOn p (o .won)))
-  holds-onward l v t q =
-      let some = some-told runs top (told .top) l in
+  -- something is left
+  pub holds-onward : goesOn (topOf block) (o .first) (o .end) ≡ true → {regs′ : List ℕ}
+      → Stored regs b (advancedBlock block (o .first) (o .end) top (getD targets (top .first) 0)) regs′ → (v : ℕ)
+      → Holds (x .graph) g (turned g b v (x .graph) (x .state)) (memory marks′ after regs′ (followedOn p (o .won)))
+  holds-onward l st v =
+      let some = some-runs runs (sym left-is ∙ l) in
       let on = gone-on (x .state .workers) b (suc (y .since)) (y .left) (y .cell) runs some in
       let k : block .batch - 1 ≡ y .left = omega (arith, is .batch, y .batch-is) in
       rw (state v)
       (hold-one (x .holds) (c .sound .workers-length) b follow-low (y .is) (busy (y .cell) (suc (y .since)) (phase (y .left)) runs) after
-      (store-stored regs b (block-room c (x .holds) b follow-low .long) (advancedBlock block (o .end - o .first) top t))
+      st
       after-long
       others
       (rw here
       (record {
         status = rw k (word-phase (y .left));
         cell = is .cell;
-        since = omega (arith, is .since);
+        since = omega (arith, is .since, y .batch-is, phase-batch (y .left));
         batch = k ∙ sym (phase-batch (y .left));
-        carrying = record { number = omega (arith, carried-next, advancing .carried-some); told = told };
-        target = q ∙ first-told (x .graph) runs top some limits (told .top) .1;
+        carrying =
+            record {
+              number = omega (arith, opened-sum (o .first) (o .end) (block .carried), carried-next, phase-batch (y .left));
+              told = told;
+            };
+        target =
+            ap (λ (l : List ℕ). getD l (top .first) 0) (y .targets-are)
+            ∙ first-told (x .graph) runs top some limits (told .top) .1;
       }))
       refl
       refl
@@ -215,56 +265,50 @@ module _ {g : Setup} {targets marks′ : List ℕ} {o : Opened} {b : ℕ} {marks
       (y .marks-are)
       (counts 0 ∙ ap (λ (i : ℕ). countFollow (x .state .counts) (y .found .won) i) (sym (on .1))))
 
-  module _ (l : top .end ≤ top .first) where
-    emptied : (v : ℕ) → turned g b v (x .graph) (x .state) ≡ follows (x .state) b (y .cell) (y .since) (y .left) (y .found) []
-    emptied v = state v ∙ ap (λ (rs : List Run). follows (x .state) b (y .cell) (y .since) (y .left) (y .found) rs) (none-told runs top (told .top) l)
+  -- nothing is left
+  pub holds-stopped : goesOn (topOf block) (o .first) (o .end) ≡ false → (v : ℕ) → {work′ regs′ : List ℕ} {q : Progress} → work′ ≡ after
+      → regs′ ≡ stoppedAt regs b (block .cell) → q ≡ emptiedOne p (o .won) (stoppedCount (block .cell))
+      → Holds (x .graph) g (turned g b v (x .graph) (x .state)) (memory marks′ work′ regs′ q)
+  holds-stopped l v ew er eq = rw (emptied v, ew, er, eq) (by (y .cell) (y .is) (is .cell))
+    where
+      emptied : (v : ℕ) → turned g b v (x .graph) (x .state) ≡ follows (x .state) b (y .cell) (y .since) (y .left) (y .found) []
+      emptied v =
+          state v
+          ∙ ap (λ (rs : List Run). follows (x .state) b (y .cell) (y .since) (y .left) (y .found) rs) (no-runs runs (sym left-is ∙ l))
 
-    pub holds-emptied : block .cell ≡ 0 → (v : ℕ)
-        → Holds (x .graph) g (turned g b v (x .graph) (x .state)) (memory marks′ after (putAt regs b 0 0) (emptiedOne p (o .won) 0))
-    holds-emptied z v = rw (emptied v) (by (y .cell) (is .cell))
-      where
-        by : (cell : Cell) → block .cell ≡ cellWord cell
-            → Holds (x .graph) g (follows (x .state) b cell (y .since) (y .left) (y .found) []) (memory marks′ after (putAt regs b 0 0) (emptiedOne p (o .won) 0))
-        by (from a) q = absurd (omega (arith, q, z))
-        by empty q =
-            hold-one (x .holds) (c .sound .workers-length) b follow-low (y .is) idle after
-            (put-stored regs b (block-room c (x .holds) b follow-low .long) 0 0 (omega arith))
-            after-long
-            others
-            refl
-            (omega (arith, carries-one))
-            refl
-            refl
-            (y .marks-are)
-            (counts 0)
-
-    pub holds-dismissed : block .cell ≢ 0 → (v : ℕ)
-        → Holds (x .graph) g (turned g b v (x .graph) (x .state))
-        (memory marks′ after (putAt (putAt regs b 0 0) (block .cell - 1) 0 2) (emptiedOne p (o .won) 1))
-    holds-dismissed z v = rw (emptied v) (by (y .cell) (y .is) (is .cell))
-      where
-        by : (cell : Cell) → worker (x .state) b ≡ busy cell (y .since) (y .phase) (run (y .first) (y .more) ∷ y .below)
-            → block .cell ≡ cellWord cell
-            → Holds (x .graph) g (follows (x .state) b cell (y .since) (y .left) (y .found) [])
-            (memory marks′ after (putAt (putAt regs b 0 0) (block .cell - 1) 0 2) (emptiedOne p (o .won) 1))
-        by empty e q = absurd (z q)
-        by (from a) e q =
-            let i : block .cell - 1 ≡ a = omega (arith, q) in
-            let la = asker-below (c .accepted) (c .sound) b e in
-            let st = put-stored regs b (block-room c (x .holds) b follow-low .long) 0 0 (omega arith) in
-            rw i
-            (hold-two (x .holds) (c .sound .workers-length) b follow-low e idle st a la
-            (asker-other (c .accepted) (c .sound) b e)
-            (asker-asking (c .accepted) (c .sound) b e)
-            denied
-            after
-            (put-stored (putAt regs b 0 0) a (rw (st .long) (block-room c (x .holds) a la .long)) 0 2 (omega arith))
-            after-long
-            (λ j lj nb na. others j lj nb)
-            refl
-            refl
-            (omega (arith, carries-one))
-            refl
-            refl
-            (y .marks-are)
-            (counts 1))
+      by : (cell : Cell) → worker (x .state) b ≡ busy cell (y .since) (y .phase) (run (y .first) (y .more) ∷ y .below)
+          → block .cell ≡ cellWord cell
+          → Holds (x .graph) g (follows (x .state) b cell (y .since) (y .left) (y .found) [])
+          (memory marks′ after (stoppedAt regs b (block .cell)) (emptiedOne p (o .won) (stoppedCount (block .cell))))
+      by empty e q =
+          rw q
+          (hold-one (x .holds) (c .sound .workers-length) b follow-low (y .is) idle after
+          (put-stored regs b (block-room c (x .holds) b follow-low .long) 0 0 (omega arith))
+          after-long
+          others
+          refl
+          (omega (arith, carries-one))
+          refl
+          refl
+          (y .marks-are)
+          (counts 0))
+      by (from a) e q =
+          let la = asker-below (c .accepted) (c .sound) b e in
+          let st = put-stored regs b (block-room c (x .holds) b follow-low .long) 0 0 (omega arith) in
+          let i : suc a - 1 ≡ a = omega arith in
+          rw (q, ne-eqb (suc a) 0 (λ z. omega (arith, z)), i)
+          (hold-two (x .holds) (c .sound .workers-length) b follow-low e idle st a la
+          (asker-other (c .accepted) (c .sound) b e)
+          (asker-asking (c .accepted) (c .sound) b e)
+          denied
+          after
+          (put-stored (putAt regs b 0 0) a (rw (st .long) (block-room c (x .holds) a la .long)) 0 2 (omega arith))
+          after-long
+          (λ j lj nb na. others j lj nb)
+          refl
+          refl
+          (omega (arith, carries-one))
+          refl
+          refl
+          (y .marks-are)
+          (counts 1))

@@ -1,12 +1,17 @@
 -- What a claim finds and leaves, in words, and the blocks that following and taking up write.
-use Prim.Native.Nat.{ℕ, zero, suc, _+_, _-_, _≤_}
+use Prim.Native.Nat.{ℕ, zero, suc, _+_, _-_, _≤_, _<_, _^_}
+use mathlib.Core.Path.{_≡_}
+use mathlib.Core.Bool.{Bool, true, false}
 use mathlib.Core.List.{List}
-use lib.ListN.{getD, set}
+use lib.ListN.{length, getD, set}
+use lib.Dec.{ltb, eqb}
+use Rattle.laws.specs.Choice.{pick}
 use Rattle.machine.specs.Machine.{claimMark}
-use Rattle.graph.specs.Limits.{most-references}
-use Rattle.worker.specs.Registers.{status-poll, status-look}
+use Rattle.worker.specs.Registers.{status-idle, status-denied, status-poll, status-look, Room, blockAt, putAt, Stored}
+use Rattle.worker.specs.Stretch.{Nextable, goesOn, nextTop, nextWords}
 use Rattle.worker.specs.declared.registers.Block.{Block}
 use Rattle.worker.specs.declared.stretch.Top.{Top}
+use Rattle.turns.specs.Held.{topOf}
 use Rattle.turns.specs.declared.follow.Opened.{Opened}
 
 abbrev pub openedWith : ℕ → ℕ → ℕ → Opened
@@ -37,28 +42,47 @@ abbrev pub nextWord : ℕ → ℕ
 nextWord zero = status-poll
 nextWord (suc k) = status-look
 
--- a busy worker's words let it follow a reference
-pub record Advancing (r : Block) (opened : ℕ) : Type 0 where
-  pub since-small : r .since ≤ most-references
-  pub batch-some : 1 ≤ r .batch
-  pub carried-some : 1 ≤ r .carried
-  pub carried-small : r .carried ≤ most-references
-  pub opened-small : opened ≤ most-references
-
--- the block of a worker that goes on after following
-abbrev pub advancedBlock : Block → ℕ → Top → ℕ → Block
-advancedBlock r opened t target =
+-- the block of a worker that goes on: what is carried beyond the batch grows by what opens
+abbrev pub advancedBlock : Block → ℕ → ℕ → Top → ℕ → Block
+advancedBlock r f g t target =
     record {
       status = nextWord (r .batch - 1);
       cell = r .cell;
-      since = r .since + 1;
+      since = r .since;
       batch = r .batch - 1;
-      carried = r .carried - 1 + opened;
+      carried = pick (ltb f g) (r .carried + (g - f)) (r .carried);
       used = t .used;
       first = t .first;
       end = t .end;
       target = target;
     }
+
+-- a busy worker's block and stretch let it follow a reference, and the next one has a target
+pub record Advanceable (targets s regs : List ℕ) (b : ℕ) (r : Block) (f g : ℕ) : Type 0 where
+  pub is : r ≡ blockAt regs b
+  pub room : Room regs b
+  pub next : Nextable s (topOf r)
+  pub batch-some : 1 ≤ r .batch
+  pub carried-small : r .carried + (g - f) < 2 ^ 32
+  pub goes-on : r .first + 1 < r .end → r .first + 1 < length targets
+  pub opens : f < g → f < length targets
+  pub comes-up : 2 ≤ r .used → getD s (r .used - 2) 0 < length targets
+
+-- what following leaves of them
+pub record Advanced (targets s regs : List ℕ) (b : ℕ) (r : Block) (f g : ℕ) (s′ regs′ : List ℕ) (t : Bool) : Type 0 where
+  pub says : t ≡ goesOn (topOf r) f g
+  pub words : s′ ≡ nextWords s (topOf r) f g
+  pub onward : t ≡ true
+      → Stored regs b (advancedBlock r f g (nextTop s (topOf r) f g) (getD targets (nextTop s (topOf r) f g .first) 0)) regs′
+  pub nothing : t ≡ false → regs′ ≡ regs
+
+-- a worker that is left with nothing, by its cell: the askers that are refused, and the registers
+abbrev pub stoppedCount : ℕ → ℕ
+stoppedCount cell = pick (eqb cell 0) 0 1
+
+abbrev pub stoppedAt : List ℕ → ℕ → ℕ → List ℕ
+stoppedAt regs b cell =
+    pick (eqb cell 0) (putAt regs b 0 status-idle) (putAt (putAt regs b 0 status-idle) (cell - 1) 0 status-denied)
 
 -- the block of a worker that takes up a hand-over
 abbrev pub takenBlock : Block → ℕ → Block

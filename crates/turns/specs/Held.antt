@@ -58,17 +58,18 @@ nextTarget G (run e j ∷ rs) = target G e
 abbrev pub topOf : Block → Top
 topOf r = topWith (r .used) (r .first) (r .end)
 
--- the block and the stretch hold these runs
-pub record Carrying (rs : List Run) (r : Block) (s : List ℕ) : Type 0 where
-  pub number : r .carried ≡ carried rs
+-- the block and the stretch hold these runs; what is carried beyond the batch is counted
+pub record Carrying (batch : ℕ) (rs : List Run) (r : Block) (s : List ℕ) : Type 0 where
+  pub number : r .carried + batch ≡ carried rs
   pub told : Told rs (topOf r) s
 
+-- since is brought forward by the batch
 pub record BusyIs (G : Graph) (c : Cell) (n : ℕ) (p : Phase) (rs : List Run) (r : Block) (s : List ℕ) : Type 0 where
   pub status : r .status ≡ phaseWord p
   pub cell : r .cell ≡ cellWord c
-  pub since : r .since ≡ n
+  pub since : r .since ≡ n + batchOf p
   pub batch : r .batch ≡ batchOf p
-  pub carrying : Carrying rs r s
+  pub carrying : Carrying (batchOf p) rs r s
   pub target : r .target ≡ nextTarget G rs
 
 -- a worker's block and stretch; what a worker does not have, its words do not say
@@ -77,7 +78,7 @@ BlockIs G idle r s = r .status ≡ status-idle
 BlockIs G asking r s = r .status ≡ status-asking
 BlockIs G denied r s = r .status ≡ status-denied
 BlockIs G ended r s = r .status ≡ status-ended
-BlockIs G (given rs) r s = (r .status ≡ status-given) × Carrying rs r s
+BlockIs G (given rs) r s = (r .status ≡ status-given) × Carrying 0 rs r s
 BlockIs G (busy c n p rs) r s = BusyIs G c n p rs r s
 
 -- ---- the state

@@ -1,5 +1,5 @@
 -- The blocks that a poll writes.
-use Prim.Native.Nat.{ℕ}
+use Prim.Native.Nat.{ℕ, _+_, _-_}
 use Rattle.worker.specs.Registers.{status-look, status-given}
 use Rattle.worker.specs.declared.registers.Block.{Block}
 use Rattle.worker.specs.declared.stretch.Top.{Top}
@@ -10,9 +10,9 @@ batchedBlock r k =
     record {
       status = status-look;
       cell = 0;
-      since = r .since;
+      since = r .since + k;
       batch = k;
-      carried = r .carried;
+      carried = r .carried - k;
       used = r .used;
       first = r .first;
       end = r .end;
@@ -25,9 +25,9 @@ sharedBlock r k carried t =
     record {
       status = status-look;
       cell = 0;
-      since = 0;
+      since = k;
       batch = k;
-      carried = carried;
+      carried = carried - k;
       used = t .used;
       first = t .first;
       end = t .end;

@@ -3,15 +3,14 @@ use crate::Progress;
 use crate::Setup;
 use worker::registers;
 use worker::registers::Block;
-use worker::stretch;
-use worker::stretch::Top;
 ghost use mathlib.Core.Path.{_≡_};
+ghost use mathlib.Core.Logic.{_≢_};
 ghost use mathlib.Core.List.{List};
-ghost use Prim.Native.Nat.{ℕ, _+_, _<_};
+ghost use Prim.Native.Nat.{ℕ, _+_, _-_, _<_};
 ghost use lib.ListN.{length};
 ghost use Rattle.machine.specs.Machine.{claimMark};
-ghost use Rattle.worker.specs.Registers.{blockAt};
-ghost use Rattle.turns.specs.Claiming.{openedNone, openedAt, claimedMarks, nextWord, Advancing, advancedBlock, takenBlock};
+ghost use Rattle.worker.specs.Registers.{Room, blockAt};
+ghost use Rattle.turns.specs.Claiming.{openedNone, openedAt, claimedMarks, nextWord, Advanceable, Advanced, stoppedCount, stoppedAt, takenBlock};
 ghost use Rattle.turns.specs.Held.{memory};
 ghost use Rattle.turns.specs.Turned.{Ready, DoesAny, IsGiven, IsLooking, IsClaiming, IsFollowing};
 
@@ -70,25 +69,6 @@ fn phase(batch: u32) -> u32
     }
 }
 
-// The block of a worker that goes on after following, with so many more references opened.
-fn advanced(r: Block, opened: u32, top: Top, target: u32) -> Block
-    requires { ⌜ Advancing r opened ⌝ }
-    ensures { λ q. ⌜ q ≡ advancedBlock r opened top target ⌝ }
-{
-    let batch = r.batch - 1;
-    Block {
-        status: phase(batch),
-        cell: r.cell,
-        since: r.since + 1,
-        batch,
-        carried: r.carried - 1 + opened,
-        used: top.used,
-        first: top.first,
-        end: top.end,
-        target,
-    }
-}
-
 // The block of a worker that takes up a hand-over.
 fn taken(r: Block, target: u32) -> Block
     ensures { λ q. ⌜ q ≡ takenBlock r target ⌝ }
@@ -104,6 +84,69 @@ fn taken(r: Block, target: u32) -> Block
         end: r.end,
         target,
     }
+}
+
+// The runs of worker b, with the block r and the stretch s, after the first reference is followed,
+// where the run from f to g opens, if it has any. Whether something is left; where not, only the
+// stretch may have changed.
+fn advance(
+    targets: &[u32],
+    s: &mut [u32],
+    regs: &mut [u32],
+    b: u32,
+    r: Block,
+    f: u32,
+    g: u32,
+) -> bool
+    requires { ⌜ Advanceable (now targets) (now s) (now regs) b r f g ⌝ }
+    ensures { λ t. ⌜ Advanced (now (targets .entry)) (now (s .entry)) (now (regs .entry)) b r f g (now (s .exit)) (now (regs .exit)) t ⌝ }
+{
+    let batch = r.batch - 1;
+    let rest = r.first + 1;
+    let end = r.end;
+    let used = r.used;
+    if rest < end {
+        if f < g {
+            let at = used as usize;
+            s[at] = f;
+            s[at + 1] = g;
+            registers::put(regs, b, registers::USED, used + 2);
+            registers::put(regs, b, registers::CARRIED, r.carried + (g - f));
+            registers::step(regs, b, phase(batch), batch, rest, targets[rest as usize]);
+            return true;
+        }
+        registers::step(regs, b, phase(batch), batch, rest, targets[rest as usize]);
+        return true;
+    }
+    if f < g {
+        registers::put(regs, b, registers::CARRIED, r.carried + (g - f));
+        registers::put(regs, b, registers::END, g);
+        registers::step(regs, b, phase(batch), batch, f, targets[f as usize]);
+        return true;
+    }
+    if used < 2 {
+        return false;
+    }
+    let at = used as usize - 2;
+    let first = s[at];
+    registers::put(regs, b, registers::USED, used - 2);
+    registers::put(regs, b, registers::END, s[at + 1]);
+    registers::step(regs, b, phase(batch), batch, first, targets[first as usize]);
+    true
+}
+
+// Worker b is left with nothing: it is idle, and an asker in its cell is answered no. How many are.
+fn stop(regs: &mut [u32], b: u32, cell: u32) -> u64
+    requires { ⌜ Room (now regs) b × (cell ≢ 0 → Room (now regs) (cell - 1)) ⌝ }
+    ensures { λ r. ⌜ r ≡ stoppedCount cell ⌝ }
+    ensures { λ _. ⌜ now (regs .exit) ≡ stoppedAt (now (regs .entry)) b cell ⌝ }
+{
+    registers::put(regs, b, registers::STATUS, registers::IDLE);
+    if cell == 0 {
+        return 0;
+    }
+    registers::put(regs, cell - 1, registers::STATUS, registers::DENIED);
+    1
 }
 
 // Worker b, with the block r, follows its first reference, at whose target c was found.
@@ -125,42 +168,25 @@ fn follow(
 {
     let len = setup.stretch;
     let from = b as usize * len;
-    let f = c.first;
-    let g = c.end;
-    let top = stretch::next(
-        &mut work[from..from + len],
-        Top {
-            used: r.used,
-            first: r.first,
-            end: r.end,
-        },
-        f,
-        g,
-    );
-    let first = top.first;
     let counts = p.counts;
-    let end = top.end;
-    if first < end {
-        let target = targets[first as usize];
-        registers::store(regs, b, advanced(r, g - f, top, target));
+    if advance(
+        targets,
+        &mut work[from..from + len],
+        regs,
+        b,
+        r,
+        c.first,
+        c.end,
+    ) {
         return Progress {
             counts: machine::count_follow(counts, c.won, 0),
             carrying: p.carrying,
             running: p.running,
         };
     }
-    registers::put(regs, b, registers::STATUS, registers::IDLE);
-    let cell = r.cell;
-    if cell == 0 {
-        return Progress {
-            counts: machine::count_follow(counts, c.won, 0),
-            carrying: p.carrying - 1,
-            running: p.running,
-        };
-    }
-    registers::put(regs, cell - 1, registers::STATUS, registers::DENIED);
+    let refused = stop(regs, b, r.cell);
     Progress {
-        counts: machine::count_follow(counts, c.won, 1),
+        counts: machine::count_follow(counts, c.won, refused),
         carrying: p.carrying - 1,
         running: p.running,
     }

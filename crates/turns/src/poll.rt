@@ -13,7 +13,7 @@ ghost use Rattle.machine.specs.Machine.{shares as sharing};
 ghost use Rattle.worker.specs.Registers.{blockAt};
 ghost use Rattle.turns.specs.Held.{memory};
 ghost use Rattle.turns.specs.Turned.{Ready, DoesAny, IsPolling, IsAsked, Dividing, Divided};
-ghost use Rattle.turns.specs.Polling.{batchedBlock, sharedBlock, givenBlock};
+ghost use Rattle.turns.specs.Polling.{sharedBlock, givenBlock};
 
 // The runs of the worker that shares and of the asker, after the hand-over.
 struct Parts {
@@ -81,12 +81,13 @@ fn divide(work: &mut [u32], len: usize, b: u32, asker: u32, top: Top, k: u32) ->
 fn shared(r: Block, batch: u32, half: u32, kept: Top) -> Block
     ensures { λ q. ⌜ q ≡ sharedBlock r (min batch half) half kept ⌝ }
 {
+    let k = least(batch, half);
     Block {
         status: registers::LOOK,
         cell: 0,
-        since: 0,
-        batch: least(batch, half),
-        carried: half,
+        since: k,
+        batch: k,
+        carried: half - k,
         used: kept.used,
         first: kept.first,
         end: kept.end,
@@ -145,23 +146,6 @@ fn share(
     }
 }
 
-// The block of a worker whose cell empties and whose batch begins.
-fn batched(r: Block, batch: u32) -> Block
-    ensures { λ q. ⌜ q ≡ batchedBlock r (min batch (r .carried)) ⌝ }
-{
-    Block {
-        status: registers::LOOK,
-        cell: 0,
-        since: r.since,
-        batch: least(batch, r.carried),
-        carried: r.carried,
-        used: r.used,
-        first: r.first,
-        end: r.end,
-        target: r.target,
-    }
-}
-
 // The asker is answered no.
 fn refuse(setup: Setup, regs: &mut [u32], p: Progress, b: u32, r: Block) -> Progress
     requires { ⌜ r ≡ blockAt (now regs) b ⌝ }
@@ -170,7 +154,10 @@ fn refuse(setup: Setup, regs: &mut [u32], p: Progress, b: u32, r: Block) -> Prog
         (memory marks work (now (regs .entry)) p)
         (memory marks work (now (regs .exit)) q)) ⌝ }
 {
-    registers::store(regs, b, batched(r, setup.batch));
+    let carried = r.carried;
+    let batch = least(setup.batch, carried);
+    registers::put(regs, b, registers::CELL, 0);
+    registers::begin(regs, b, batch, r.since + batch, carried - batch);
     registers::put(regs, r.cell - 1, registers::STATUS, registers::DENIED);
     crate::moved(p, 1)
 }
@@ -199,8 +186,9 @@ pub fn poll(setup: Setup, work: &mut [u32], regs: &mut [u32], p: Progress, b: u3
     let r = registers::load(regs, b);
     let cell = r.cell;
     if cell == 0 {
-        registers::put(regs, b, registers::BATCH, least(setup.batch, r.carried));
-        registers::put(regs, b, registers::STATUS, registers::LOOK);
+        let carried = r.carried;
+        let batch = least(setup.batch, carried);
+        registers::begin(regs, b, batch, r.since + batch, carried - batch);
         return crate::moved(p, 0);
     }
     if shares(setup.cutoff, r.since, r.carried) {

@@ -1,8 +1,8 @@
 -- The registers block by block: what a store leaves in the block itself, and that it leaves the others alone.
-use mathlib.Core.Path.{_≡_, refl, sym, ap, _∙_}
+use mathlib.Core.Path.{_≡_, refl, sym, ap, _∙_, subst}
 use mathlib.Core.Bool.{Bool, true, false}
 use mathlib.Core.Logic.{_≢_, _⊎_, inl, inr, ⊎-elim, by-cases}
-use mathlib.Core.List.{List, _++_, append-assoc}
+use mathlib.Core.List.{List, [], _∷_, _++_, append-assoc}
 use Prim.Native.Nat.{ℕ, _+_, _-_, _*_, _≤_, _<_}
 use native.Mathlib.Decide.{decLt}
 use native.Mathlib.Omega.{arith}
@@ -11,9 +11,10 @@ use lib.ListN.{length, getD, take, drop, length-append, length-set, List·getD-a
 use lib.Dec.{eqb}
 use lib.Seq.{sets-eq, length-sets, getD-set-same, getD-set-other, getD-take, getD-drop, length-take-le}
 use Rattle.laws.specs.Choice.{pick}
+use Rattle.laws.specs.Every.{Every}
 use Rattle.laws.proofs.Stores.{getD-past}
 use Rattle.worker.specs.declared.registers.Block.{Block}
-use Rattle.worker.specs.Registers.{blockAt, words, storeAt, putAt}
+use Rattle.worker.specs.Registers.{blockAt, words, storeAt, putAt, Word, putsAt, Stored}
 
 -- the block with one word changed
 abbrev pub replaced : ℕ → ℕ → Block → Block
@@ -29,12 +30,6 @@ replaced i x r =
       end = pick (eqb i 7) x (r .end);
       target = pick (eqb i 8) x (r .target);
     }
-
--- registers in which only worker b's block has changed, to r
-pub record Stored (regs : List ℕ) (b : ℕ) (r : Block) (regs′ : List ℕ) : Type 0 where
-  pub long : length regs′ ≡ length regs
-  pub here : blockAt regs′ b ≡ r
-  pub others : (a : ℕ) → a ≢ b → blockAt regs′ a ≡ blockAt regs a
 
 -- a block that agrees word by word
 block-from : (regs regs′ : List ℕ) (a : ℕ) → ((j : ℕ) → j < 9 → getD regs′ (9 * a + j) 0 ≡ getD regs (9 * a + j) 0)
@@ -111,3 +106,24 @@ module _ (regs : List ℕ) (b : ℕ) (room : 9 * b + 9 ≤ length regs) where
 
         side : (a : ℕ) → a ≢ b → (9 * a < 9 * b) ⊎ (9 * b + 9 ≤ 9 * a)
         side a h = let q = apart a h 0 (omega arith) in ⊎-elim (λ (p : 9 * a + 0 < 9 * b). inl (omega arith)) (λ (p : 9 * b + 9 ≤ 9 * a + 0). inr (omega arith)) q
+
+-- ---- some words
+
+-- two stores in one block are one
+pub stored-then : {regs regs₁ regs₂ : List ℕ} {b : ℕ} {r r′ : Block} → Stored regs b r regs₁ → Stored regs₁ b r′ regs₂ → Stored regs b r′ regs₂
+stored-then p q =
+    record { long = q .long ∙ p .long; here = q .here; others = λ a h. q .others a h ∙ p .others a h }
+
+-- the block with some words changed
+abbrev pub replacedAll : List Word → Block → Block
+replacedAll [] r = r
+replacedAll (w ∷ ws) r = replacedAll ws (replaced (w .place) (w .value) r)
+
+pub puts-stored : (regs : List ℕ) (b : ℕ) → 9 * b + 9 ≤ length regs → (ws : List Word) → Every (λ (w : Word). w .place < 9) ws
+    → Stored regs b (replacedAll ws (blockAt regs b)) (putsAt regs b ws)
+puts-stored regs b room [] low = record { long = refl; here = refl; others = λ a h. refl }
+puts-stored regs b room (w ∷ ws) low =
+    let st = put-stored regs b room (w .place) (w .value) (low .0) in
+    let more = puts-stored (putAt regs b (w .place) (w .value)) b (omega (arith, st .long)) ws (low .1) in
+    let regs₁ = putAt regs b (w .place) (w .value) in
+    stored-then st (subst (λ (r : Block). Stored regs₁ b (replacedAll ws r) (putsAt regs₁ b ws)) (st .here) more)

@@ -1,4 +1,4 @@
--- `next` on words is taking a reference off on runs, by what is left of the run and what opens.
+-- The top and the words after a reference is taken off are those of the runs then, by what is left of the run and what opens.
 use mathlib.Core.Path.{_≡_, refl}
 use mathlib.Core.List.{List, [], _∷_}
 use Prim.Native.Nat.{ℕ, zero, suc, _+_, _-_, _*_, _≤_}
@@ -6,16 +6,21 @@ use native.Mathlib.Omega.{arith}
 use borrow.Author.Tests.{lt-ltb, le-ltb}
 use lib.ListN.{length, set, length-set}
 use lib.Dec.{ltb}
-use mathlib.Core.Bool.{Bool, true, false}
+use mathlib.Core.Bool.{Bool, true, false, not}
 use Rattle.laws.specs.Choice.{pick}
 use Rattle.machine.specs.Run.{Run, run, runFrom}
 use Rattle.machine.specs.Machine.{onwardRuns}
 use Rattle.worker.specs.declared.stretch.Top.{Top}
-use Rattle.worker.specs.Stretch.{Holds, topWith, Told, nextTop, nextWords, popped}
+use Rattle.worker.specs.Stretch.{Holds, topWith, Told, goesOn, nextTop, nextWords, popped}
 use Rattle.worker.proofs.Pairs.{holds-push, holds-pop, pop-first, pop-end}
 
 top-equal : {u u′ f f′ e e′ : ℕ} → u ≡ u′ → f ≡ f′ → e ≡ e′ → topWith u f e ≡ topWith u′ f′ e′
 top-equal p q r = rw (p, q, r)
+
+-- whether there are runs
+abbrev pub some? : List Run → Bool
+some? [] = false
+some? (r ∷ rs) = true
 
 module _ (s : List ℕ) (e : ℕ) (rs : List Run) (h : Holds s (2 * length rs) rs) (room : 2 * length rs + 2 ≤ length s) (f g : ℕ) where
   -- the top before
@@ -48,7 +53,20 @@ module _ (s : List ℕ) (e : ℕ) (rs : List Run) (h : Holds s (2 * length rs) r
             holds = rw n at (holds-pop s u f j rs h);
           })
 
-  -- what `next` leaves
+  -- something is left where there are runs
+  going : (j d : ℕ) → g ≡ f + d → goesOn (before j) f g ≡ some? (onwardRuns e j (runFrom f d) rs)
+  going (suc j) d q = rw (lt-ltb (e + 1) (e + suc (suc j)) (omega arith))
+  going zero (suc d) q = rw (le-ltb (e + 1) (e + 1) (omega arith), lt-ltb f g (omega arith))
+  going zero zero q = rw (le-ltb (e + 1) (e + 1) (omega arith), le-ltb f g (omega arith)) (by rs)
+    where
+      by : (rs : List Run) → not (ltb (2 * length rs) 2) ≡ some? rs
+      by [] = refl
+      by (r ∷ rs) = rw (le-ltb (2 * suc (length rs)) 2 (omega arith))
+
+  pub next-goes-on : (j : ℕ) → f ≤ g → goesOn (before j) f g ≡ some? (onwardRuns e j (runFrom f (g - f)) rs)
+  next-goes-on j l = going j (g - f) (omega arith)
+
+  -- the top and the words
   pub next-told : (j : ℕ) → f ≤ g → Told (onwardRuns e j (runFrom f (g - f)) rs) (nextTop s (before j) f g) (nextWords s (before j) f g)
   next-told j l = told j (g - f) (omega arith)
 

@@ -1,5 +1,7 @@
 -- The registers: a block of nine words for each worker, laid end to end.
 use Prim.Native.Nat.{ℕ, _+_, _*_, _≤_, _<_}
+use mathlib.Core.Path.{_≡_}
+use mathlib.Core.Logic.{_≢_}
 use mathlib.Core.List.{List, [], _∷_}
 use lib.ListN.{length, getD, set}
 use lib.Seq.{sets}
@@ -79,3 +81,31 @@ storeAt regs b r = sets regs (block-words * b) (words r)
 -- one word of it
 abbrev pub putAt : List ℕ → ℕ → ℕ → ℕ → List ℕ
 putAt regs b i x = set regs (block-words * b + i) x
+
+-- ---- some words of it, one after the other
+
+-- a word and what it becomes
+pub record Word : Type 0 where
+  pub place : ℕ
+  pub value : ℕ
+
+abbrev pub word : ℕ → ℕ → Word
+word i x = record { place = i; value = x }
+
+abbrev pub putsAt : List ℕ → ℕ → List Word → List ℕ
+putsAt regs b [] = regs
+putsAt regs b (w ∷ ws) = putsAt (putAt regs b (w .place) (w .value)) b ws
+
+-- the next reference of a run
+abbrev pub stepWords : ℕ → ℕ → ℕ → ℕ → List Word
+stepWords status batch first target = word 0 status ∷ word 1 batch ∷ word 6 first ∷ word 8 target ∷ []
+
+-- a batch begins
+abbrev pub beginWords : ℕ → ℕ → ℕ → List Word
+beginWords batch since carried = word 0 status-look ∷ word 1 batch ∷ word 3 since ∷ word 4 carried ∷ []
+
+-- registers in which only worker b's block has changed, to r
+pub record Stored (regs : List ℕ) (b : ℕ) (r : Block) (regs′ : List ℕ) : Type 0 where
+  pub long : length regs′ ≡ length regs
+  pub here : blockAt regs′ b ≡ r
+  pub others : (a : ℕ) → a ≢ b → blockAt regs′ a ≡ blockAt regs a

@@ -1,6 +1,7 @@
 -- One worker's stretch of the work memory, and what the functions on it promise (SPECIFICATION 4.5).
 use Prim.Native.Nat.{ℕ, suc, _+_, _-_, _*_, _≤_, _<_, _^_}
 use mathlib.Core.Path.{_≡_}
+use mathlib.Core.Bool.{Bool, not, _||_}
 use mathlib.Core.Logic.{_⊎_}
 use mathlib.Core.List.{List, [], _∷_, _++_}
 use lib.ListN.{length, getD, set, take, replicate}
@@ -40,6 +41,10 @@ pub record Nextable (s : List ℕ) (t : Top) : Type 0 where
   pub room : t .used + 2 ≤ length s
   pub small : t .used + 2 < 2 ^ 32
   pub fits : t .first + 1 < 2 ^ 32
+
+-- whether something is left after one reference is taken off, where the run from f to g opens
+abbrev pub goesOn : Top → ℕ → ℕ → Bool
+goesOn t f g = ltb (t .first + 1) (t .end) || ltb f g || not (ltb (t .used) 2)
 
 -- the next run comes up, or there is none
 abbrev pub popped : List ℕ → Top → Top

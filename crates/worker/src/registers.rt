@@ -1,7 +1,7 @@
 // The registers: a block of words for each worker, laid end to end.
 ghost use mathlib.Core.Path.{_≡_};
 ghost use Prim.Native.Nat.{_<_};
-ghost use Rattle.worker.specs.Registers.{Room, blockAt, putAt, storeAt};
+ghost use Rattle.worker.specs.Registers.{Room, blockAt, putAt, stepWords, beginWords, putsAt, storeAt};
 
 // A worker's status. From GIVEN on it carries references, from POLL on it is busy.
 pub const IDLE: u32 = 0;
@@ -29,22 +29,22 @@ pub const BATCH: usize = 1;
 
 pub const CELL: usize = 2;
 
-const SINCE: usize = 3;
+pub const SINCE: usize = 3;
 
-const CARRIED: usize = 4;
+pub const CARRIED: usize = 4;
 
-const USED: usize = 5;
+pub const USED: usize = 5;
 
 const FIRST: usize = 6;
 
-const END: usize = 7;
+pub const END: usize = 7;
 
 const TARGET: usize = 8;
 
 pub const BLOCK: usize = 9;
 
-// The words of a block: status; batch; cell (0 empty, else the asker and 1); since; how many
-// references the runs hold; how many words of the stretch the runs below the first take; the first
+// The words of a block: status; batch; cell (0 empty, else the asker and 1); since as it will be
+// when the batch is done; how many references the runs hold beyond the batch; how many words of the stretch the runs below the first take; the first
 // run, from its next reference to its end; and where that reference leads.
 pub struct Block {
     pub status: u32,
@@ -100,4 +100,28 @@ pub fn put(regs: &mut [u32], b: u32, word: usize, x: u32)
     ensures { λ _. ⌜ now (regs .exit) ≡ putAt (now (regs .entry)) b word x ⌝ }
 {
     regs[BLOCK * (b as usize) + word] = x;
+}
+
+// The words that change when the next reference of a run comes up.
+pub fn step(regs: &mut [u32], b: u32, status: u32, batch: u32, first: u32, target: u32)
+    requires { ⌜ Room (now regs) b ⌝ }
+    ensures { λ _. ⌜ now (regs .exit) ≡ putsAt (now (regs .entry)) b (stepWords status batch first target) ⌝ }
+{
+    let at = BLOCK * (b as usize);
+    regs[at + STATUS] = status;
+    regs[at + BATCH] = batch;
+    regs[at + FIRST] = first;
+    regs[at + TARGET] = target;
+}
+
+// The words that change when a batch begins.
+pub fn begin(regs: &mut [u32], b: u32, batch: u32, since: u32, carried: u32)
+    requires { ⌜ Room (now regs) b ⌝ }
+    ensures { λ _. ⌜ now (regs .exit) ≡ putsAt (now (regs .entry)) b (beginWords batch since carried) ⌝ }
+{
+    let at = BLOCK * (b as usize);
+    regs[at + STATUS] = LOOK;
+    regs[at + BATCH] = batch;
+    regs[at + SINCE] = since;
+    regs[at + CARRIED] = carried;
 }

@@ -4,7 +4,7 @@ ghost use mathlib.Core.Path.{_≡_};
 ghost use Prim.Native.Nat.{_+_, _-_, _≤_};
 ghost use lib.ListN.{length, drop};
 ghost use lib.Seq.{paste};
-ghost use Rattle.worker.specs.Stretch.{Nextable, nextTop, nextWords, Copyable, Cuttable, CutFound, Cleft, KeptAbove, settled};
+ghost use Rattle.worker.specs.Stretch.{Copyable, Cuttable, CutFound, Cleft, KeptAbove, settled};
 
 // The run being followed, from its next reference to its end, and how many words the others take.
 // Where first is the end, there is none.
@@ -12,55 +12,6 @@ pub struct Top {
     pub used: u32,
     pub first: u32,
     pub end: u32,
-}
-
-// Takes one reference off the run being followed. The run from f to g, if it has any, goes directly
-// below what is left; where nothing is left, the next run comes up.
-pub fn next(s: &mut [u32], t: Top, f: u32, g: u32) -> Top
-    requires { ⌜ Nextable (now s) t ⌝ }
-    ensures { λ r. ⌜ r ≡ nextTop (now (s .entry)) t f g ⌝ }
-    ensures { λ _. ⌜ now (s .exit) ≡ nextWords (now (s .entry)) t f g ⌝ }
-{
-    let used = t.used;
-    let rest = t.first + 1;
-    let end = t.end;
-    if rest < end {
-        if f < g {
-            let at = used as usize;
-            s[at] = f;
-            s[at + 1] = g;
-            return Top {
-                used: used + 2,
-                first: rest,
-                end,
-            };
-        }
-        return Top {
-            used,
-            first: rest,
-            end,
-        };
-    }
-    if f < g {
-        return Top {
-            used,
-            first: f,
-            end: g,
-        };
-    }
-    if used < 2 {
-        return Top {
-            used: 0,
-            first: 0,
-            end: 0,
-        };
-    }
-    let at = used as usize - 2;
-    Top {
-        used: used - 2,
-        first: s[at],
-        end: s[at + 1],
-    }
 }
 
 // Where the first k references end: they are the runs above the pair that ends at `place`, and

@@ -1,8 +1,9 @@
--- `graph::is_below` meets its contract: what is left of the numbers decides the answer for all of them.
-use mathlib.Core.Path.{_≡_, sym, _∙_}
+-- `graph::is_below`: what is left of the numbers decides, as long as none passed was too large.
 use Prim.Native.Nat.{_≤_, _-_}
+use mathlib.Core.Logic.{⊎-elim}
 use native.Mathlib.Omega.{arith}
 use lib.ListN.{length, drop}
+use Rattle.laws.proofs.Scan.{Scan, scan-start, scan-right, scan-wrong, scan-end}
 use borrow.Author.Needs.{needs}
 use Rattle.graph.specs.Graph.{allBelow}
 use Rattle.graph.proofs.Scan.{below-step, below-stop, below-end}
@@ -10,27 +11,34 @@ use Rattle.graph.proofs.is_below.Statement.{statement}
 use Rattle.graph.proofs.is_below.Tie as tie
 
 abbrev Inv-loop : tie.InvT-loop
-Inv-loop n numbers i₀ i-end i = (i ≤ length numbers) × (allBelow n (drop i numbers) ≡ allBelow n numbers)
+Inv-loop n numbers wrong₀ i₀ i-end wrong i = (i ≤ length numbers) × Scan (allBelow n (drop i numbers)) (allBelow n numbers) wrong
 
 abbrev μ-loop : tie.MeasureT-loop
-μ-loop n numbers i₀ i-end i = length numbers - i
+μ-loop n numbers wrong₀ i₀ i-end wrong i = length numbers - i
 
-returns : tie.Need-returns Inv-loop μ-loop
-returns c =
-    let turn = c .before .before in
-    sym (below-stop _ _ _ (turn .loop-test .taken) (c .if1 .taken)) ∙ turn .before .loop .inv .1
+loop-holds : tie.Need-loop-holds Inv-loop μ-loop
+loop-holds c = (omega arith, scan-start _)
+
+cast-if1 : tie.Need-cast-if1 Inv-loop μ-loop
+cast-if1 c = omega (arith, c .shared-slice-known .given (c .before .before .loop .i))
 
 loop-again : tie.Need-loop-again Inv-loop μ-loop
 loop-again c =
-    let turn = c .before .before in
-    (search needs, below-step _ _ _ (turn .loop-test .taken) (c .if1 .left) ∙ turn .before .loop .inv .1)
+    let tested = c .before .before in
+    let l = tested .before .loop in
+    let h = tested .loop-test .taken in (
+      omega arith,
+      ⊎-elim
+          (λ w. rw (w .1) (scan-wrong (l .inv .1) (below-stop _ _ _ h (w .0 .taken))))
+          (λ w. rw (w .1) (scan-right (l .inv .1) (below-step _ _ _ h (w .0 .left))))
+          (c .if1 .came),
+    )
 
-returns-2 : tie.Need-returns-2 Inv-loop μ-loop
-returns-2 c = sym (below-end _ _ _ (c .loop-test .left)) ∙ c .before .loop .inv .1
+returns : tie.Need-returns Inv-loop μ-loop
+returns c = scan-end (c .before .loop .inv .1) (below-end _ _ _ (c .loop-test .left))
 
 pub is-below-spec : {M : Type 1} → statement M
 is-below-spec =
     tie.close
-    (tie.spec Inv-loop μ-loop (λ c. search needs) (λ c. search needs) (λ c. search needs)
-    (λ c. omega (arith, c .shared-slice-known .given (c .before .before .loop .i))) returns (λ c. search needs)
-    (λ c. search needs) loop-again returns-2)
+    (tie.spec Inv-loop μ-loop loop-holds (λ c. search needs) (λ c. search needs) cast-if1 (λ c. search needs)
+    (λ c. search needs) loop-again returns)

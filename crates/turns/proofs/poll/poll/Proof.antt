@@ -1,9 +1,10 @@
 -- `poll`: by the cell, and by the answer that its words give.
 use native.Mathlib.Omega.{arith}
-use mathlib.Core.Path.{sym, _∙_}
+use mathlib.Core.Path.{sym, ap, _∙_}
+use Rattle.worker.specs.declared.registers.Block.{Block}
 use mathlib.Core.Bool.{true, false}
 use Rattle.turns.proofs.Bounds.{block-room, roomy}
-use Rattle.turns.proofs.Answering.{poll-low, asked, unasked}
+use Rattle.turns.proofs.Answering.{poll-low, batch-fits, asked, unasked}
 use borrow.Author.Needs.{needs}
 use Rattle.turns.proofs.poll.poll.Statement.{statement}
 use Rattle.turns.proofs.poll.poll.Tie as tie
@@ -18,37 +19,46 @@ load-requires c κs =
     let x = start .pre .1 in
     block-room (x .scene) (x .holds) (start .args .b) (poll-low (x .scene) (x .holds) (start .args .b) (x .here .is))
 
-put-requires : tie.Need-put-requires
-put-requires c κs =
-    let start = c .before .before .before .before .before .before .before in
+add-begin : tie.Need-add-begin
+add-begin c =
+    let at-least = c .before .before in
+    let at-load = at-least .before .before in
+    let start = entry at-load in
     let x = start .pre .1 in
-    (block-room (x .scene) (x .holds) (start .args .b) (poll-low (x .scene) (x .holds) (start .args .b) (x .here .is)), omega arith)
+    let e = at-load .load .ensures in
+    omega (
+      arith,
+      at-least .least .ensures,
+      ap (λ (r : Block). r .since) e,
+      ap (λ (r : Block). r .carried) e,
+      batch-fits (x .scene) (x .holds) (start .args .b) (x .here .is),
+    )
 
-put-requires-2 : tie.Need-put-requires-2
-put-requires-2 c κs =
-    let at-put = c .before .before .before in
-    let start = at-put .before .before .before .before .before .before .before .before in
+sub-begin : tie.Need-sub-begin
+sub-begin c = omega (arith, c .before .before .least .ensures)
+
+begin-requires : tie.Need-begin-requires
+begin-requires c κs =
+    let start = entry (c .before .before .before .before) in
     let x = start .pre .1 in
-    let r = block-room (x .scene) (x .holds) (start .args .b) (poll-low (x .scene) (x .holds) (start .args .b) (x .here .is)) in
-    (record { low = r .low; long = omega (arith, r .long, at-put .put .kept .0) }, omega arith)
+    block-room (x .scene) (x .holds) (start .args .b) (poll-low (x .scene) (x .holds) (start .args .b) (x .here .is))
 
 moved-requires : tie.Need-moved-requires
 moved-requires c κs =
-    let start = c .before .before .before .before .before .before .before .before .before .before .before .before .before .before in
+    let start = entry (c .before .before .before .before .before .before .before) in
     let x = start .pre .1 in
     (roomy (x .scene) (x .holds), omega arith)
 
 returns : tie.Need-returns
 returns c =
-    let at-put2 = c .before .before .before in
-    let at-put = at-put2 .before .before .before .before in
-    let at-least = at-put .before in
-    let at-if1 = at-least .before .before in
+    let at-begin = c .before .before .before in
+    let at-least = at-begin .before .before .before in
+    let at-if1 = at-least .before in
     let at-load = at-if1 .before in
     let start = entry at-load in
     let z = rw (at-load .load .ensures) at (at-if1 .if1 .taken) in
     λ marks v x.
-    rw (at-put2 .put2 .ensures, at-put .put .ensures, at-least .least .ensures, at-load .load .ensures, c .moved .ensures) (unasked (start .args .b) v z x)
+    rw (at-begin .begin .ensures, at-least .least .ensures, at-load .load .ensures, c .moved .ensures) (unasked (start .args .b) v z x)
 
 share-requires : tie.Need-share-requires
 share-requires c κs =
@@ -99,6 +109,6 @@ returns-3 c =
 pub poll-spec : {M : Type 1} → statement M
 poll-spec =
     tie.close
-    (tie.spec load-requires (λ c κs. search needs) put-requires put-requires-2 moved-requires (λ c. search needs)
+    (tie.spec load-requires (λ c κs. search needs) add-begin sub-begin begin-requires moved-requires (λ c. search needs)
     returns (λ c κs. search needs) share-requires (λ c. search needs) (λ c. search needs) returns-2 refuse-requires
     (λ c. search needs) returns-3)

@@ -1,13 +1,14 @@
 -- `shared`: the batch is what `least` gives.
+use native.Mathlib.Omega.{arith}
 use borrow.Author.Needs.{needs}
 use Rattle.turns.proofs.poll.shared.Statement.{statement}
 use Rattle.turns.proofs.poll.shared.Tie as tie
 
-least-requires : tie.Need-least-requires
-least-requires c κs = search needs
+sub-t6 : tie.Need-sub-t6
+sub-t6 c = omega (arith, c .least .ensures)
 
 returns : tie.Need-returns
 returns c = rw (c .least .ensures)
 
 pub shared-spec : {M : Type 1} → statement M
-shared-spec = tie.close (tie.spec least-requires returns)
+shared-spec = tie.close (tie.spec (λ c κs. search needs) sub-t6 returns)
