@@ -1,23 +1,26 @@
 -- The checks record by record: what is left to check, and what the checks answer.
 use mathlib.Core.Path.{_≡_, refl, ap, sym, _∙_}
 use mathlib.Core.List.{List}
-use mathlib.Core.Logic.{by-cases}
+use mathlib.Core.Logic.{by-cases, _⊎_, inl, inr}
 use Prim.Native.Nat.{ℕ, zero, suc, _+_, _*_, _-_, _≤_, _<_}
 use native.Mathlib.Numerals.{add-one}
-use native.Mathlib.Decide.{decLt}
+use native.Mathlib.Decide.{decLt, ℕ-discrete}
 use native.Mathlib.Omega.{arith}
 use borrow.Author.Tests.{lt-ltb, le-ltb}
 use lib.ListN.{length, drop, getD, replicate, length-append, length-drop, length-replicate, getD-replicate, List·getD-append, drop-of-length-le}
 use lib.Seq.{drop-drop, drop-cons, getD-append-add}
+use Rattle.laws.specs.Words.{word, Bytes}
+use Rattle.laws.proofs.Words.{word-two, word-double, bytes-drop}
 use Rattle.refusal.specs.declared.Refusal.{Refusal}
 use Rattle.refusal.specs.Number.{number}
 use Rattle.refusal.specs.Order.{raise, first}
 use Rattle.refusal.proofs.Numbers.{numbered, first-found}
+use Rattle.graph.specs.Limits.{largest-size}
 use Rattle.catalogue.specs.Layout.{header, object, reference}
 use Rattle.catalogue.specs.Reading.{Kind, header-kind, object-kind, reference-kind, unknown, kindOf, lengthOf, nothing, dues, dueAt}
-use Rattle.catalogue.specs.Reading.{kind-field, n-field, m-field, short, contentsFault, recordFault, surplusFault, faults, catalogueFault}
+use Rattle.catalogue.specs.Reading.{kind-field, n-field, m-field, short, contentsFault, recordFault, surplusFault, faults, Clear, catalogueFault}
 use Rattle.catalogue.specs.Answer.{refusal-row, header-values}
-use Rattle.catalogue.proofs.Faults.{good-object-record, good-reference-record}
+use Rattle.catalogue.proofs.Faults.{Framed, good-object-record, good-reference-record, clear-object, clear-reference}
 
 -- the fault of a header does not depend on n
 header-kinds : (k : Kind) (n n′ : ℕ) (b : List ℕ) → contentsFault k header n b ≡ contentsFault k header n′ b
@@ -105,6 +108,77 @@ pub checking-end : {n m : ℕ} {b : List ℕ} {i at : ℕ} → Checking n m b i 
     → surplusFault n (drop at b) ≡ faults n (dues n m) (drop 16 b)
 unfolding faults
 checking-end {n} {m} {b} {i} {at} a h = rw (drop-of-length-le (dues n m) {i = i} (omega (arith, length-dues n m))) at (a .left)
+
+-- ---- the quick look
+
+-- a record of the right form, by the word of its length and its kind
+head-framed : (x : ℕ) (k : Kind) (b : List ℕ) → Bytes b → lengthOf k ≡ 12 → 12 ≤ length b → word 4 b ≡ 12 + 65536 * x → Framed x k b
+head-framed x k b h e l w =
+    let low = word-two 0 b in
+    let both = word-double 2 0 b in
+    record { long = omega arith; length-is = omega (arith, low, both, h 0, h 1); kind-is = omega (arith, low, both, h 0, h 1) }
+
+-- an object, and a reference, by its place
+module _ (n i : ℕ) (b : List ℕ) (h : Bytes b) (l : 16 + 12 * i + 12 ≤ length b) where
+  framed-at : (x : ℕ) (k : Kind) → lengthOf k ≡ 12 → word 4 (drop (16 + 12 * i) b) ≡ 12 + 65536 * x → Framed x k (drop (16 + 12 * i) b)
+  framed-at x k e w = head-framed x k (drop (16 + 12 * i) b) (bytes-drop (16 + 12 * i) b h) e (rw length-drop (omega arith)) w
+
+  pub object-right : i < n → word 4 (drop (16 + 12 * i) b) ≡ 131084 → word 8 (drop (16 + 12 * i + 4) b) ≤ largest-size
+      → recordFault (dueAt n i) n (drop (16 + 12 * i) b) ≡ 0
+  object-right g w s =
+      rw (lt-ltb i n g)
+      (clear-object n (drop (16 + 12 * i) b) (record { frame = framed-at object object-kind refl w; small = rw drop-drop s }))
+
+  pub reference-right : n ≤ i → word 4 (drop (16 + 12 * i) b) ≡ 196620 → word 4 (drop (16 + 12 * i + 4) b) < n
+      → word 4 (drop (16 + 12 * i + 8) b) < n → recordFault (dueAt n i) n (drop (16 + 12 * i) b) ≡ 0
+  reference-right g w f t =
+      rw (le-ltb i n g)
+      (clear-reference n (drop (16 + 12 * i) b)
+      (record {
+        frame = framed-at reference reference-kind refl w;
+        ends = record { from-below = rw drop-drop f; to-below = rw drop-drop t };
+      }))
+
+-- from one number up to another, where i is the next: while the flags, summed, are 0 nothing was wrong
+pub record Looking (n from to : ℕ) (b : List ℕ) (wrong i : ℕ) : Type 0 where
+  pub begun : from ≤ i
+  pub within : i ≤ to
+  pub clear : wrong ≡ 0 → Clear n from i b
+
+pub looking-none : (n from to : ℕ) (b : List ℕ) → from ≤ to → Looking n from to b 0 from
+looking-none n from to b h = record { begun = omega arith; within = h; clear = λ e k g p. absurd (omega arith) }
+
+-- a test that sets a flag, where the flag is not set: the test was passed, and the flag was not set before
+pub passed : {T L : Type 0} {before after : ℕ} → (T × (after ≡ 1)) ⊎ (L × (after ≡ before)) → after ≡ 0 → L × (before ≡ 0)
+passed (inl w) e = absurd (omega (arith, w .1))
+passed (inr w) e = (w .0, sym (w .1) ∙ e)
+
+module _ {n from to : ℕ} {b : List ℕ} {wrong i : ℕ} (a : Looking n from to b wrong i) where
+  pub looking-next : i < to → {after : ℕ} → (after ≡ 0 → (wrong ≡ 0) × (recordFault (dueAt n i) n (drop (16 + 12 * i) b) ≡ 0))
+      → Looking n from to b after (i + 1)
+  looking-next h f =
+      record {
+        begun = omega (arith, a .begun);
+        within = omega arith;
+        clear = λ e k g p.
+            by-cases (ℕ-discrete k i) (λ (q : k ≡ i). rw q (f e .1)) (λ q. a .clear (f e .0) k g (omega (arith, q)));
+      }
+
+  pub looking-end : to ≤ i → wrong ≡ 0 → Clear n from to b
+  looking-end h e k g p = a .clear e k g (omega arith)
+
+-- all of them, and nothing behind them
+clear-checking : (n m : ℕ) (b : List ℕ) → 16 ≤ length b → (i : ℕ) → i ≤ n + m → Clear n 0 i b → Checking n m b i (16 + 12 * i)
+clear-checking n m b l zero h c = checking-none n m b l
+clear-checking n m b l (suc i) h c =
+    let a = clear-checking n m b l i (omega arith) (λ k g p. c k g (omega arith)) in
+    let q : 16 + 12 * i + 12 ≡ 16 + 12 * suc i = omega arith in
+    rw (add-one, q) at (checking-next a (omega arith) (c i (omega arith) (omega arith)))
+
+pub clear-faults : (n m : ℕ) (b : List ℕ) → length b ≡ 16 + 12 * (n + m) → Clear n 0 n b → Clear n n (n + m) b → faults n (dues n m) (drop 16 b) ≡ 0
+clear-faults n m b l o r =
+    let whole : Clear n 0 (n + m) b = λ k g h. by-cases (decLt k n) (λ (p : k < n). o k g p) (λ p. r k (omega (arith, p)) h) in
+    sym (surplus-none n (16 + 12 * (n + m)) b (sym l) ∙ checking-end (clear-checking n m b (omega arith) (n + m) (omega arith) whole) (omega arith))
 
 -- the header first, and then the rest
 pub whole-fault : (f : Refusal) (b : List ℕ) → number f ≡ recordFault header 0 b → number f ≡ catalogueFault b

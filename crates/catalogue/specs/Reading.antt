@@ -1,7 +1,8 @@
 -- SPECIFICATION 1 and 2: what the reader makes of any bytes, and the faults 1 to 6.
 use mathlib.Core.List.{List, [], _∷_, _++_}
+use mathlib.Core.Path.{_≡_}
 use mathlib.Core.Bool.{Bool, true, false, not, _||_}
-use Prim.Native.Nat.{ℕ, zero, suc, _+_, _*_}
+use Prim.Native.Nat.{ℕ, zero, suc, _+_, _*_, _≤_, _<_}
 use lib.ListN.{length, drop, replicate}
 use lib.Dec.{ltb, eqb}
 use Rattle.laws.specs.Choice.{pick}
@@ -126,6 +127,10 @@ dues n m = replicate n object ++ replicate m reference
 -- the kind that is due with so many records between it and the header
 abbrev pub dueAt : ℕ → ℕ → ℕ
 dueAt n i = pick (ltb i n) object reference
+
+-- the records behind the header from one number up to another have no fault
+abbrev pub Clear : ℕ → ℕ → ℕ → List ℕ → Type 0
+Clear n from to b = (i : ℕ) → from ≤ i → i < to → recordFault (dueAt n i) n (drop (header-length + record-length * i) b) ≡ 0
 
 -- one header stands first
 unfoldable pub catalogueFault : List ℕ → ℕ

@@ -1,9 +1,10 @@
 // The checks 1 to 6 of SPECIFICATION 2, record by record.
 ghost use mathlib.Core.Path.{_≡_};
-ghost use Prim.Native.Nat.{_+_, _≤_};
+ghost use mathlib.Core.Bool.{true};
+ghost use Prim.Native.Nat.{_+_, _*_, _≤_};
 ghost use lib.ListN.{length, drop};
 ghost use Rattle.catalogue.specs.Reading.{kindOf, header-kind, object-kind, reference-kind, length-field, dueAt, dues};
-ghost use Rattle.catalogue.specs.Reading.{miscounted, misnamed, oversized, contentsFault, recordFault, surplusFault, faults, catalogueFault};
+ghost use Rattle.catalogue.specs.Reading.{miscounted, misnamed, oversized, contentsFault, recordFault, surplusFault, faults, Clear, catalogueFault};
 ghost use Rattle.refusal.specs.Order.{raise};
 ghost use Rattle.refusal.specs.Number.{numberOf};
 ghost use Rattle.graph.specs.Limits.{most-objects, most-references};
@@ -30,6 +31,11 @@ const REFERENCE: u16 = 3;
 pub const HEADER_LENGTH: usize = 16;
 
 pub const RECORD_LENGTH: usize = 12;
+
+// The length and the kind of an object as one word, and of a reference.
+const OBJECT_HEAD: u32 = 131084;
+
+const REFERENCE_HEAD: u32 = 196620;
 
 // What a header says.
 pub struct Header {
@@ -61,8 +67,87 @@ pub fn catalogue_fault(bytes: &[u8]) -> Verdict
     records_fault(bytes, head.n, head.m)
 }
 
-// The first fault after the header, where n objects and then m references are due.
+// The first fault after the header, where n objects and then m references are due. Most catalogues
+// have none, so a quick look comes first.
 fn records_fault(bytes: &[u8], n: u32, m: u32) -> Verdict
+    requires { ⌜ (16 ≤ length (now bytes)) × ((n ≤ most-objects) × (m ≤ most-references)) ⌝ }
+    ensures { λ r. ⌜ numberOf r ≡ faults n (dues n m) (drop 16 (now (bytes .entry))) ⌝ }
+{
+    if records_right(bytes, n, m) {
+        return Verdict::Fine;
+    }
+    first_fault(bytes, n, m)
+}
+
+// The quick look: true only where there is no fault after the header.
+fn records_right(bytes: &[u8], n: u32, m: u32) -> bool
+    requires { ⌜ (n ≤ most-objects) × (m ≤ most-references) ⌝ }
+    ensures { λ r. ⌜ (r ≡ true → faults n (dues n m) (drop 16 (now (bytes .entry))) ≡ 0) ⌝ }
+{
+    let end = n as usize + m as usize;
+    if bytes.len() != HEADER_LENGTH + RECORD_LENGTH * end {
+        return false;
+    }
+    if !objects_right(bytes, n as usize) {
+        return false;
+    }
+    references_right(bytes, n, end)
+}
+
+// The objects. Every record is looked at, so that the loop is compiled without a jump out of it; each
+// test has its own flag, so that none waits for another.
+fn objects_right(bytes: &[u8], n: usize) -> bool
+    requires { ⌜ 16 + 12 * n ≤ length (now bytes) ⌝ }
+    ensures { λ r. ⌜ (r ≡ true → Clear n 0 n (now (bytes .entry))) ⌝ }
+{
+    let mut misfits: u32 = 0;
+    let mut oversized: u32 = 0;
+    for i in 0..n {
+        let at = HEADER_LENGTH + RECORD_LENGTH * i;
+        if word4(bytes, at) != OBJECT_HEAD {
+            misfits = 1;
+        }
+        if word8(bytes, at + 4) > LARGEST_SIZE {
+            oversized = 1;
+        }
+    }
+    if misfits != 0 {
+        return false;
+    }
+    oversized == 0
+}
+
+// The references, up to the record with the number `end`, in the same way.
+fn references_right(bytes: &[u8], n: u32, end: usize) -> bool
+    requires { ⌜ (n ≤ end) × (16 + 12 * end ≤ length (now bytes)) ⌝ }
+    ensures { λ r. ⌜ (r ≡ true → Clear n n end (now (bytes .entry))) ⌝ }
+{
+    let mut misfits: u32 = 0;
+    let mut from_above: u32 = 0;
+    let mut to_above: u32 = 0;
+    for i in n as usize..end {
+        let at = HEADER_LENGTH + RECORD_LENGTH * i;
+        if word4(bytes, at) != REFERENCE_HEAD {
+            misfits = 1;
+        }
+        if word4(bytes, at + 4) >= n {
+            from_above = 1;
+        }
+        if word4(bytes, at + 8) >= n {
+            to_above = 1;
+        }
+    }
+    if misfits != 0 {
+        return false;
+    }
+    if from_above != 0 {
+        return false;
+    }
+    to_above == 0
+}
+
+// Record by record, to the first one with a fault.
+fn first_fault(bytes: &[u8], n: u32, m: u32) -> Verdict
     requires { ⌜ (16 ≤ length (now bytes)) × ((n ≤ most-objects) × (m ≤ most-references)) ⌝ }
     ensures { λ r. ⌜ numberOf r ≡ faults n (dues n m) (drop 16 (now (bytes .entry))) ⌝ }
 {
