@@ -42,11 +42,14 @@ pub struct Times {
     pub reference: f64,
     /// Proved over reference.
     pub ratio: f64,
+    /// Proved over tuned, where there is a tuned call.
+    pub tuned: Option<f64>,
 }
 
 impl Times {
     fn of<const N: usize>(medians: &Medians<N>) -> Self {
-        Times { proved: medians.times[0], reference: medians.times[1], ratio: medians.over[1] }
+        let tuned = medians.over.get(2).copied();
+        Times { proved: medians.times[0], reference: medians.times[1], ratio: medians.over[1], tuned }
     }
 }
 
@@ -58,8 +61,11 @@ pub fn read(graph: &Graph, repetitions: usize) -> Times {
     let reference = |b: &mut Buffers| {
         black_box(reference::read(&graph.catalogue, &mut b.offsets, &mut b.targets, &mut b.sizes)).expect("a store");
     };
+    let tuned = |b: &mut Buffers| {
+        black_box(tuned::read(&graph.catalogue, &mut b.offsets, &mut b.targets, &mut b.sizes)).expect("a store");
+    };
     let mut buffers = Buffers::new(graph, 0);
-    Times::of(&medians(&mut buffers, repetitions, [&proved, &reference]))
+    Times::of(&medians(&mut buffers, repetitions, [&proved, &reference, &tuned]))
 }
 
 /// The sweep, with the marks of a finished collection.

@@ -45,11 +45,13 @@ pub struct GrowthRow {
 pub fn calls(title: &str, unit: &str, rows: &[CallRow]) -> String {
     let mut text = format!("## {title}\n\n");
     text +=
-        &format!("| Store | {unit}s | proved ns/{unit} | Rust ns/{unit} | proved : Rust |\n|---|--:|--:|--:|--:|\n");
+        &format!("| Store | {unit}s | proved ns/{unit} | Rust ns/{unit} | proved : Rust | proved : tuned |\n|---|--:|--:|--:|--:|--:|\n");
     for row in rows {
         let (proved, reference) = (row.times.proved / row.count as f64, row.times.reference / row.count as f64);
         let ratio = row.times.ratio;
-        writeln!(text, "| {} | {} | {proved:.2} | {reference:.2} | {ratio:.2} |", row.graph, row.count).expect("text");
+        let tuned = row.times.tuned.map_or("".into(), |over| format!("{over:.2}"));
+        writeln!(text, "| {} | {} | {proved:.2} | {reference:.2} | {ratio:.2} | {tuned} |", row.graph, row.count)
+            .expect("text");
     }
     text + "\n"
 }

@@ -1,7 +1,7 @@
 //! What is asked of every case: both sides agree, and what the specification demands holds of the answer.
 
 use crate::case::{Call, Case, Mark};
-use crate::sides::{after, after_tuned, place, After, Proved, Reference, Side, Typed, Untouched};
+use crate::sides::{after, place, After, Proved, Reference, Side, Tuned, Typed, Untouched};
 use kullneyra::Marked;
 
 /// What the proved library answered and left, or what is wrong with it.
@@ -11,9 +11,7 @@ pub fn judge(case: &Case) -> Result<After, String> {
     if case.has_right_result() {
         same(case, &Typed, &wanted).map_err(|what| format!("library by its Rust types against reference: {what}"))?;
     }
-    if let Some(what) = after_tuned(case).and_then(|tuned| difference(&tuned, &wanted)) {
-        return Err(format!("tuned marker against reference: {what}"));
-    }
+    same(case, &Tuned, &wanted).map_err(|what| format!("tuned Rust against reference: {what}"))?;
     demands(case, &got)?;
     Ok(got)
 }

@@ -127,11 +127,7 @@ impl Side for Reference {
         sizes: &mut [u64],
         result: &mut [u32],
     ) -> u32 {
-        if result.len() != 3 {
-            return WRONG_LENGTH;
-        }
-        let answer = reference::read(bytes, offsets, targets, sizes);
-        written(answer.map(|h| [h.n, h.m, h.index]), result, u32::from)
+        read_by(reference::read, bytes, offsets, targets, sizes, result)
     }
 
     fn references(&self, offsets: &[u32], targets: &[u32], object: u32, result: &mut [u64]) -> u32 {
@@ -157,24 +153,61 @@ impl Side for Reference {
     }
 }
 
-/// The marker in plain Rust.
+/// What the proved calls are measured against; where there is no tuned call, the plain one.
+pub struct Tuned;
+
+impl Side for Tuned {
+    fn header(&self, bytes: &[u8], result: &mut [u32]) -> u32 {
+        Reference.header(bytes, result)
+    }
+
+    fn read(
+        &self,
+        bytes: &[u8],
+        offsets: &mut [u32],
+        targets: &mut [u32],
+        sizes: &mut [u64],
+        result: &mut [u32],
+    ) -> u32 {
+        read_by(tuned::read, bytes, offsets, targets, sizes, result)
+    }
+
+    fn references(&self, offsets: &[u32], targets: &[u32], object: u32, result: &mut [u64]) -> u32 {
+        Reference.references(offsets, targets, object, result)
+    }
+
+    fn mark(&self, c: &Mark, marks: &mut [u8], work: &mut [u32], result: &mut [u64]) -> u32 {
+        marked_by(tuned::mark, c, marks, work, result)
+    }
+
+    fn sweep(&self, marks: &[u8], sizes: &[u64], list: &mut [u32], result: &mut [u64]) -> u32 {
+        Reference.sweep(marks, sizes, list, result)
+    }
+}
+
+/// The reader and the marker in plain Rust.
+type Reader = fn(&[u8], &mut [u32], &mut [u32], &mut [u64]) -> Result<reference::Header, u8>;
 type Marker = fn(reference::Call<'_>, &mut [u8], &mut [u32]) -> Result<Outcome, u8>;
+
+fn read_by(
+    reader: Reader,
+    bytes: &[u8],
+    offsets: &mut [u32],
+    targets: &mut [u32],
+    sizes: &mut [u64],
+    result: &mut [u32],
+) -> u32 {
+    if result.len() != 3 {
+        return WRONG_LENGTH;
+    }
+    written(reader(bytes, offsets, targets, sizes).map(|h| [h.n, h.m, h.index]), result, u32::from)
+}
 
 fn marked_by(marker: Marker, c: &Mark, marks: &mut [u8], work: &mut [u32], result: &mut [u64]) -> u32 {
     if result.len() != Outcome::WORDS {
         return WRONG_LENGTH;
     }
     written(marker(c.call(), marks, work).map(Outcome::words), result, u32::from)
-}
-
-/// What the tuned marker answers and leaves, where the case is a marking.
-pub fn after_tuned(case: &Case) -> Option<After> {
-    match &case.call {
-        Call::Mark(mark) => {
-            Some(after_marking(case, mark, |marks, work, result| marked_by(tuned::mark, mark, marks, work, result)))
-        }
-        _ => None,
-    }
 }
 
 /// Answers at once and writes nothing: the buffers as they were beforehand.
@@ -320,7 +353,7 @@ pub fn after(case: &Case, side: &dyn Side) -> After {
             let number = side.references(offsets, targets, *object, result.part());
             After { number, buffers: vec![("result", Whole::Longs(result.0))] }
         }
-        Call::Mark(mark) => after_marking(case, mark, |marks, work, result| side.mark(mark, marks, work, result)),
+        Call::Mark(mark) => after_marking(case, side, mark),
         Call::Sweep { marks, sizes, list } => {
             let (mut list, mut result) = (words(*list, case.fill(1)), longs(case.result, case.fill(0)));
             let number = side.sweep(marks, sizes, list.part(), result.part());
@@ -343,10 +376,10 @@ fn after_read(case: &Case, side: &dyn Side, bytes: &[u8], lengths: [usize; 3]) -
     After { number, buffers }
 }
 
-fn after_marking(case: &Case, mark: &Mark, call: impl Fn(&mut [u8], &mut [u32], &mut [u64]) -> u32) -> After {
+fn after_marking(case: &Case, side: &dyn Side, mark: &Mark) -> After {
     let (mut marks, mut work) = (bytes(mark.marks, case.fill(1)), words(mark.work, case.fill(2)));
     let mut result = longs(case.result, case.fill(0));
-    let number = call(marks.part(), work.part(), result.part());
+    let number = side.mark(mark, marks.part(), work.part(), result.part());
     let buffers =
         vec![("marks", Whole::Bytes(marks.0)), ("work", Whole::Words(work.0)), ("result", Whole::Longs(result.0))];
     After { number, buffers }

@@ -1,6 +1,6 @@
-//! The marker's call in safe Rust, as fast as we can write it: what the proved marker is measured against. It
-//! does the turns of the specification, one for each entry, with the same checks, and leaves the same marks and
-//! work words; `compare` holds it to the plain reference.
+//! The reader and the marker in safe Rust, as fast as we can write them: what the proved calls are measured
+//! against; `compare` holds them to the plain reference. The marker does the turns of the specification, one for each
+//! entry, with the same checks, and leaves the same marks and work words.
 //!
 //! What makes it fast:
 //! - A worker's block has the bounds of the run being followed and the target of its next reference, so a look
@@ -11,6 +11,9 @@
 //! - The words behind the runs are cleared once, at the end, and there are no turns after the last worker has ended.
 
 mod check;
+mod read;
+
+pub use read::read;
 
 use reference::{Call, Outcome};
 
