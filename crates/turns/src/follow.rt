@@ -87,8 +87,8 @@ fn taken(r: Block, target: u32) -> Block
 }
 
 // The runs of worker b, with the block r and the stretch s, after the first reference is followed,
-// where the run from f to g opens, if it has any. Whether something is left; where not, only the
-// stretch may have changed.
+// where the run from f to g opens, if it has any. Whether something is left; where not, nothing has
+// changed.
 fn advance(
     targets: &[u32],
     s: &mut [u32],
