@@ -83,10 +83,11 @@ struct kullneyra_marked {
     uint64_t handed;   /* polls that shared */
     uint64_t refused;  /* askers that were refused */
     uint64_t moved;    /* turns that changed something */
+    uint64_t carrying; /* workers that carry references now */
 };
 
 /* The counts of a marking by name, in the same order: X(live) X(followed) and so on. */
-#define KULLNEYRA_COUNTS(X) X(live) X(followed) X(handed) X(refused) X(moved)
+#define KULLNEYRA_COUNTS(X) X(live) X(followed) X(handed) X(refused) X(moved) X(carrying)
 
 /* sweep: the dead objects. */
 struct kullneyra_swept {

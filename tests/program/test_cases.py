@@ -48,7 +48,7 @@ def header(n, m, index):
 
 def told(state, *counts, dead=()):
     """What the program prints for a collection; `dead` are pairs of number and size."""
-    names = ("live", "followed", "handed", "refused", "moved")
+    names = ("live", "followed", "handed", "refused", "moved", "carrying")
     lines = [state, *(f"{name} {count}" for name, count in zip(names, counts))]
     if state == "finished":
         lines += [f"dead {number} {size}" for number, size in dead]
@@ -56,19 +56,19 @@ def told(state, *counts, dead=()):
     return "\n".join(lines) + "\n"
 
 
-UNTOUCHED = told("unfinished", 1, 0, 0, 0, 0)
+UNTOUCHED = told("unfinished", 1, 0, 0, 0, 0, 1)
 
 DRAWINGS = [
-    ("A", S, order(2, 1, 1, A), told("finished", 4, 5, 1, 0, 18, dead=[(4, 500), (5, 600)])),
-    ("B", S, order(2, 1, 1, A[:5]), told("unfinished", 2, 1, 1, 0, 5)),
-    ("C", S, order(2, 1, 2, A[:5]), told("unfinished", 2, 1, 0, 1, 5)),
-    ("D", S, LONE, told("finished", 4, 5, 0, 0, 12, dead=[(4, 500), (5, 600)])),
-    ("E", S, LONE[:-2], told("unfinished", 4, 5, 0, 0, 11)),
-    ("F", ONE, NO_TURNS, UNTOUCHED),
-    ("G", ONE, order(1, 1, 1, asking_0(0)), told("finished", 1, 0, 0, 0, 1)),
-    ("H", ONE, order(2, 1, 1, asking_0(0, 0)), told("unfinished", 1, 0, 0, 0, 1)),
-    ("I", store([5], [(0, 0)]), order(1, 1, 1, asking_0(0, 0, 0)), told("finished", 1, 1, 0, 0, 3)),
-    ("J", store([5, 6], [(0, 1)] * 2), order(1, 2, 1, asking_0(*[0] * 5)), told("finished", 2, 2, 0, 0, 5)),
+    ("A", S, order(2, 1, 1, A), told("finished", 4, 5, 1, 0, 18, 0, dead=[(4, 500), (5, 600)])),
+    ("B", S, order(2, 1, 1, A[:5]), told("unfinished", 2, 1, 1, 0, 5, 2)),
+    ("C", S, order(2, 1, 2, A[:5]), told("unfinished", 2, 1, 0, 1, 5, 1)),
+    ("D", S, LONE, told("finished", 4, 5, 0, 0, 12, 0, dead=[(4, 500), (5, 600)])),
+    ("E", S, LONE[:-2], told("unfinished", 4, 5, 0, 0, 11, 0)),
+    ("F", ONE, NO_TURNS, told("unfinished", 1, 0, 0, 0, 0, 0)),
+    ("G", ONE, order(1, 1, 1, asking_0(0)), told("finished", 1, 0, 0, 0, 1, 0)),
+    ("H", ONE, order(2, 1, 1, asking_0(0, 0)), told("unfinished", 1, 0, 0, 0, 1, 0)),
+    ("I", store([5], [(0, 0)]), order(1, 1, 1, asking_0(0, 0, 0)), told("finished", 1, 1, 0, 0, 3, 0)),
+    ("J", store([5, 6], [(0, 1)] * 2), order(1, 2, 1, asking_0(*[0] * 5)), told("finished", 2, 2, 0, 0, 5, 0)),
     ("K", b"", NO_TURNS, 1),
     ("L", S, order(2, 1, 1, asking_0(2)), 9),
 ]
@@ -76,14 +76,14 @@ DRAWINGS = [
 SETTINGS = [
     ("W 0", S, order(0, 1, 1), 8),
     ("W 1", S, order(1, 1, 1), UNTOUCHED),
-    ("W 4", S, order(4, 1, 1, asking_0(3)), told("unfinished", 1, 0, 0, 0, 1)),
+    ("W 4", S, order(4, 1, 1, asking_0(3)), told("unfinished", 1, 0, 0, 0, 1, 1)),
     ("W 5", S, order(5, 1, 1), 11),
     ("W 16", S, order(16, 1, 1), 11),
     ("W 17", S, order(17, 1, 1), 8),
     ("D 0", S, order(1, 0, 1), 8),
     ("K 0", S, order(1, 1, 0), 8),
-    ("D 65535", S, order(2, 65535, 1, SHARED), told("unfinished", 4, 3, 1, 0, 11)),
-    ("K 65535", S, order(2, 1, 65535, SHARED), told("unfinished", 4, 3, 0, 1, 11)),
+    ("D 65535", S, order(2, 65535, 1, SHARED), told("unfinished", 4, 3, 1, 0, 11, 2)),
+    ("K 65535", S, order(2, 1, 65535, SHARED), told("unfinished", 4, 3, 0, 1, 11, 1)),
     ("half an entry", S, order(1, 1, 1, asking_0(0)) + b"\0", 9),
     ("an entry for worker 1 of 1", S, order(1, 1, 1, asking_0(1)), 9),
     ("an entry for worker 4 of 4, the last one", S, order(4, 1, 1, asking_0(3, 4)), 9),
@@ -190,18 +190,18 @@ LARGE = [
         "1000 objects",
         store(MOST[:1000], index=999),
         order(1, 1, 1, asking_0(0)),
-        told("finished", 1, 0, 0, 0, 1, dead=[(v, LARGEST) for v in range(999)]),
+        told("finished", 1, 0, 0, 0, 1, 0, dead=[(v, LARGEST) for v in range(999)]),
     ),
     ("1001 objects", store(MOST, index=999), order(1, 1, 1, asking_0(0)), 11),
-    ("4000 references", store([5], [(0, 0)] * 4000), TO_ITSELF, told("finished", 1, 4000, 0, 0, 4002)),
+    ("4000 references", store([5], [(0, 0)] * 4000), TO_ITSELF, told("finished", 1, 4000, 0, 0, 4002, 0)),
     ("4001 references", store([5], [(0, 0)] * 4001), TO_ITSELF, 11),
     (
         "60016 and 65535 bytes",
         FULL,
         ROUNDS[:65535],
-        told("finished", 990, 3960, 10, 2, 5976, dead=[(v, SIZES[v]) for v in range(99, 1000, 100)]),
+        told("finished", 990, 3960, 10, 2, 5976, 0, dead=[(v, SIZES[v]) for v in range(99, 1000, 100)]),
     ),
-    ("60016 and 4005 bytes", FULL, ROUNDS[:4005], told("unfinished", 677, 1028, 3, 0, 1973)),
+    ("60016 and 4005 bytes", FULL, ROUNDS[:4005], told("unfinished", 677, 1028, 3, 0, 1973, 4)),
     ("60017 and 65535 bytes", FULL + b"\0", ROUNDS[:65535], 11),
     ("60016 and 65536 bytes", FULL, ROUNDS[:65536], 9),
     ("60016 and 65537 bytes", FULL, ROUNDS, 11),
@@ -242,7 +242,7 @@ class Cases(test_program.Folder):
 
     def test_largest_size(self):
         dead = [(4, 500), (5, LARGEST)]
-        expected = told("finished", 4, 5, 0, 0, 12, dead=dead)
+        expected = told("finished", 4, 5, 0, 0, 12, 0, dead=dead)
         self.check([("object 5 of the largest size", written(80, "Q", LARGEST), LONE, expected)])
 
     def test_first_of_several(self):

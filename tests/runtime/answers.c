@@ -92,6 +92,7 @@ int main(void) {
              marked);
     expect("mark, unfinished", 0, marked.finished);
     expect("mark, moved before the end", 2, marked.moved);
+    expect("mark, carrying before the end", 0, marked.carrying);
     ACCEPTED("mark",
              kullneyra_mark_into(offsets, 3, targets, 1, 0, 1, 1, 1, turns, 6, marks, 2, work, KULLNEYRA_WORK(2, 1),
                                  &marked),
@@ -102,6 +103,7 @@ int main(void) {
     expect("mark, handed", 0, marked.handed);
     expect("mark, refused", 0, marked.refused);
     expect("mark, moved", 3, marked.moved);
+    expect("mark, carrying", 0, marked.carrying);
 
     REFUSED("sweep, long list", KULLNEYRA_BUFFER, kullneyra_sweep_into(marks, 2, sizes, 2, list, 3, &swept), swept);
     ACCEPTED("sweep", kullneyra_sweep_into(marks, 2, sizes, 2, list, 2, &swept), swept);

@@ -37,6 +37,13 @@ hit-other i j n = other (hit i j) refl
     other zero e = refl
     other (suc k) e = absurd (n (hit-equal i j (omega arith)))
 
+pub hit-swap : (i j : ℕ) → hit i j ≡ hit j i
+unfolding hit
+hit-swap zero zero = refl
+hit-swap zero (suc j) = refl
+hit-swap (suc i) zero = refl
+hit-swap (suc i) (suc j) = hit-swap i j
+
 -- ---- one of two summands counts
 
 pub either-positive : (a b : ℕ) → 0 < a + b → (0 < a) ⊎ (0 < b)

@@ -8,12 +8,12 @@ use lib.ListN.{length}
 use Rattle.laws.specs.Every.{Every}
 use Rattle.laws.specs.Sum.{sum, hit}
 use Rattle.laws.proofs.Every.{every-map}
-use Rattle.laws.proofs.Sum.{sum-one, sum-below, sum-share, inside, hit-same}
+use Rattle.laws.proofs.Sum.{sum-one, sum-below, sum-zero-each, sum-share, inside, hit-same}
 use Rattle.graph.specs.Graph.{Graph, objects, references, target}
 use Rattle.graph.specs.Chain.{set?}
 use Rattle.graph.proofs.OverMarked.{after-limit}
 use Rattle.machine.specs.Run.{Run, run, size, carried}
-use Rattle.machine.specs.Machine.{Setting, State, Worker, idle, asking, denied, ended, given, busy, Cell, from, Phase, worker, runsOf, carriedBy, carriedAll, live}
+use Rattle.machine.specs.Machine.{Setting, State, Worker, idle, asking, denied, ended, given, busy, Cell, from, Phase, worker, runsOf, carriedBy, carries?, carriedAll, live}
 use Rattle.machine.specs.Accepted.{Accepted}
 use Rattle.machine.specs.Sound.{startOf, Within, Carries, batchOf, Working, WorkerSound, holds, waits, sinceOf, Sound}
 use Rattle.machine.proofs.Runs.{length-carried}
@@ -27,14 +27,32 @@ there ended = 0
 there (given rs) = 1
 there (busy c n p rs) = 1
 
+-- a number counts once where it is not 0, and then it does
+set-limit : (x : ℕ) → set? x ≤ 1
+set-limit zero = omega arith
+set-limit (suc k) = omega arith
+
+pub set-some : (x : ℕ) → 0 < x → set? x ≡ 1
+set-some zero h = absurd (omega arith)
+set-some (suc k) h = refl
+
+-- no more than it is, and not at all where it is 0
+set-below : (x : ℕ) → set? x ≤ x
+set-below zero = omega arith
+set-below (suc k) = omega arith
+
+set-none : (x : ℕ) → set? x ≡ 0 → x ≡ 0
+set-none zero h = refl
+set-none (suc k) h = absurd (omega arith)
+
+-- a worker with a run counts as one that carries
+pub run-counts : (r : Run) (rs : List Run) → set? (carried (r ∷ rs)) ≡ 1
+run-counts r rs = set-some (carried (r ∷ rs)) (omega (arith, length-carried (r ∷ rs)))
+
 -- no more marks than objects
 pub live-limit : (ms : List ℕ) → live ms ≤ length ms
 unfolding live
-live-limit ms = omega (arith, sum-below set? (λ (x : ℕ). 1) ms at-most-one, sum-one ms)
-  where
-    at-most-one : (x : ℕ) → set? x ≤ 1
-    at-most-one zero = omega arith
-    at-most-one (suc k) = omega arith
+live-limit ms = omega (arith, sum-below set? (λ (x : ℕ). 1) ms set-limit, sum-one ms)
 
 -- a run lies among the targets
 abbrev pub InTargets : Graph → Run → Type 0
@@ -57,6 +75,32 @@ module _ {G : Graph} {starts : List ℕ} {W : ℕ} {g : Setting} {s : State} (A 
   -- no more marks are set than there are objects
   pub live-below : s .counts .live ≤ objects G
   live-below = omega (arith, S .live-is, live-limit (s .marks), S .marks-length)
+
+  -- no more workers carry references than there are
+  pub carrying-limit : s .counts .carrying ≤ W
+  carrying-limit =
+      omega (
+        arith,
+        S .carrying-is,
+        sum-below carries? (λ (w : Worker). 1) (s .workers) (λ (w : Worker). set-limit (carriedBy w)),
+        sum-one (s .workers),
+        S .workers-length,
+      )
+
+  -- a worker that carries some is counted
+  pub carrying-at : (b : ℕ) → 0 < carriedBy (worker s b) → 0 < s .counts .carrying
+  unfolding carried sum
+  carrying-at b h = omega (arith, S .carrying-is, sum-share carries? ended refl (s .workers) b, set-some (carriedBy (worker s b)) h)
+
+  -- nobody carries exactly when no reference is carried
+  pub carrying-none : s .counts .carrying ≡ 0 → carriedAll s ≡ 0
+  unfolding carried sum
+  carrying-none e =
+      sum-zero-each carriedBy ended (s .workers)
+      (λ (i : ℕ). set-none (carriedBy (worker s i)) (omega (arith, e, S .carrying-is, sum-share carries? ended refl (s .workers) i)))
+
+  pub carried-none : carriedAll s ≡ 0 → s .counts .carrying ≡ 0
+  carried-none e = omega (arith, e, S .carrying-is, sum-below carries? carriedBy (s .workers) (λ (w : Worker). set-below (carriedBy w)))
 
   -- no more references are followed than there are
   pub followed-limit : s .counts .followed ≤ references G

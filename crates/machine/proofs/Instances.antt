@@ -109,7 +109,7 @@ long-enough c marks work e =
 
 -- the row that case A's call reports
 abbrev pub rowA : Row
-rowA = gives true 4 5 1 0 18
+rowA = gives true 4 5 1 0 18 0
 
 abbrev pub callA : Call
 callA = drawing S 2 1 1 turnsA rowA .call

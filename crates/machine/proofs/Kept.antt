@@ -14,7 +14,7 @@ use Rattle.graph.specs.Chain.{Reach, on}
 use Rattle.graph.specs.Leaving.{leavingSum, leavingUnmarked}
 use Rattle.graph.proofs.OverMarked.{over-below, over-total, over-once, over-leaves, over-source}
 use Rattle.machine.specs.Run.{Run}
-use Rattle.machine.specs.Machine.{Setting, State, Entry, Worker, idle, asking, denied, ended, given, busy, worker, runsOf, carriedBy, carriedAll, takes, turn}
+use Rattle.machine.specs.Machine.{Setting, State, Entry, Worker, idle, asking, denied, ended, given, busy, worker, runsOf, carriedBy, carries?, carriedAll, takes, turn}
 use Rattle.machine.specs.Accepted.{Accepted}
 use Rattle.machine.specs.Sound.{Marked, Within, Carries, WorkerSound, holds, waits, stopped, sinceOf, heldSum, carriedTimes, Sound, asks?, turnsOf, upTo, Fresh}
 use Rattle.machine.proofs.Facts.{runs-within}
@@ -121,6 +121,7 @@ module _ {G : Graph} {starts : List ℕ} {W : ℕ} {g : Setting} {s : State} (A 
           marks-limit = T .marking .limit;
           starts-marked = λ (v : ℕ) (h : 0 < sum (hit v) starts). T .marking .keeps v (S .starts-marked v h);
           live-is = omega (arith, S .live-is, T .weighs .lives);
+          carrying-is = omega (arith, S .carrying-is, T .weighs .carrying, sums carries?);
           each-worker = λ (i : ℕ).
               rw (T .workers)
               (put-each (WorkerSound G g (s′ .marks)) (s .workers) (T .changes)

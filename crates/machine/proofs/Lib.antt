@@ -13,3 +13,4 @@ pub mod Events
 pub mod Progress
 pub mod Demand3
 pub mod Instances
+pub mod Lamp

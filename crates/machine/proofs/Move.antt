@@ -8,7 +8,7 @@ use native.Mathlib.Omega.{arith}
 use Rattle.graph.specs.Graph.{Graph, target}
 use Rattle.machine.specs.Run.{Run, run, carried}
 use Rattle.machine.specs.Machine.{Setting, State, Entry, Worker, idle, asking, denied, ended, given, busy, Cell, empty, from, Phase, poll, look, claim, worker, markOf}
-use Rattle.machine.specs.Machine.{carriedAll, asks, idleTurn, shares, answer, claims, lookTurn, claimTurn, busyTurn, workerTurn, turn, lookTakes, busyTakes, takes}
+use Rattle.machine.specs.Machine.{asks, idleTurn, shares, answer, claims, lookTurn, claimTurn, busyTurn, workerTurn, turn, lookTakes, busyTakes, takes}
 use Rattle.machine.specs.Accepted.{Accepted}
 use Rattle.machine.specs.Sound.{Sound}
 use Rattle.machine.specs.Move.{Quiet, gone, waiting, unable, wakes, takes-up, ends, polls, looks, seen, lost, won, Waiting, Move, still, alone, asked, hands, refuses, follow}
@@ -52,7 +52,7 @@ module _ {G : Graph} {starts : List ℕ} {W : ℕ} {g : Setting} {s : State} (A 
   move-asks (busy empty n p rs) b v q r h = asked v r q
   move-asks (busy (from a) n p rs) b v q r h = still h
 
-  move-idle : (k b v : ℕ) → worker s b ≡ idle → carriedAll s ≡ k → Move G g s b [] (idleTurn k s b v)
+  move-idle : (k b v : ℕ) → worker s b ≡ idle → s .counts .carrying ≡ k → Move G g s b [] (idleTurn k s b v)
   move-idle zero b v q h = alone q (ends h)
   move-idle (suc k) b v q h = move-asks (worker s v) b v q refl (rw q (unable (omega arith)))
 
@@ -61,7 +61,7 @@ module _ {G : Graph} {starts : List ℕ} {W : ℕ} {g : Setting} {s : State} (A 
   move-worker asking b v q = still (rw q waiting)
   move-worker denied b v q = alone q wakes
   move-worker (given rs) b v q = alone q takes-up
-  move-worker idle b v q = move-idle (carriedAll s) b v q refl
+  move-worker idle b v q = move-idle (s .counts .carrying) b v q refl
   move-worker (busy c n p rs) b v q = move-busy p rs b c n q
 
   -- a turn of a sound state is one of these

@@ -12,12 +12,12 @@ use Rattle.laws.specs.Sum.{sum, hit}
 use Rattle.laws.proofs.Sum.{sum-zero-each, either-positive, hit-equal}
 use Rattle.graph.specs.Graph.{Graph}
 use Rattle.machine.specs.Run.{carried}
-use Rattle.machine.specs.Machine.{Setting, State, Entry, Worker, ended, worker, carriedBy, carriedAll, allEnded, turn, turns}
+use Rattle.machine.specs.Machine.{Setting, State, Entry, Worker, ended, worker, carriedBy, allEnded, turn, turns}
 use Rattle.machine.specs.Accepted.{Accepted}
 use Rattle.machine.specs.Sound.{holds, waits, Sound}
 use Rattle.machine.specs.Move.{Quiet, gone, waiting, unable}
 use Rattle.machine.specs.Demand3.{entriesOf, AllHave, joined}
-use Rattle.machine.proofs.Facts.{there}
+use Rattle.machine.proofs.Facts.{there, carried-none}
 use Rattle.machine.proofs.Move.{Counted, move, moved-one}
 use Rattle.machine.proofs.Kept.{sound-turn}
 use Rattle.machine.proofs.Start.{sound-turns}
@@ -45,12 +45,12 @@ module _ {s : State} where
   quiet-holds a waiting = refl
   quiet-holds a (unable h) = refl
 
-  quiet-ended : {w : Worker} → Quiet s w → carriedAll s ≡ 0 → waits w ≡ 0 → there w ≡ 0
+  quiet-ended : {w : Worker} → Quiet s w → s .counts .carrying ≡ 0 → waits w ≡ 0 → there w ≡ 0
   quiet-ended gone h k = refl
   quiet-ended waiting h k = absurd (omega arith)
   quiet-ended (unable p) h k = absurd (omega arith)
 
-module _ {G : Graph} {starts : List ℕ} {W : ℕ} {g : Setting} {s : State} (S : Sound G starts W g s)
+module _ {G : Graph} {starts : List ℕ} {W : ℕ} {g : Setting} {s : State} (A : Accepted G starts W g) (S : Sound G starts W g s)
     (quiet-below : (b : ℕ) → b < W → Quiet s (worker s b)) where
   quiet : (b : ℕ) → Quiet s (worker s b)
   quiet b =
@@ -61,7 +61,7 @@ module _ {G : Graph} {starts : List ℕ} {W : ℕ} {g : Setting} {s : State} (S 
   -- then nobody carries anything, nobody is in a cell, so nobody waits
   all-ended : allEnded (s .workers) ≡ true
   all-ended =
-      let none = sum-zero-each carriedBy ended (s .workers) (λ (i : ℕ). quiet-carries (quiet i)) in
+      let none = carried-none A S (sum-zero-each carriedBy ended (s .workers) (λ (i : ℕ). quiet-carries (quiet i))) in
       ended-if (s .workers)
       (λ (b : ℕ).
       let free = sum-zero-each (holds b) ended (s .workers) (λ (i : ℕ). quiet-holds b (quiet i)) in
@@ -127,7 +127,7 @@ module _ {G : Graph} {starts : List ℕ} {W : ℕ} {g : Setting} (A : Accepted G
       → (allEnded (s .workers) ≡ true) ⊎ (moved s < moved (turns G g s xs))
   stretch-moves {s} S xs each =
       ⊎-elim
-      (λ (q : (b : ℕ) → 0 < entriesOf b xs → Quiet s (worker s b)). inl (all-ended S (λ (b : ℕ) (h : b < W). q b (each b (omega arith)))))
+      (λ (q : (b : ℕ) → 0 < entriesOf b xs → Quiet s (worker s b)). inl (all-ended A S (λ (b : ℕ) (h : b < W). q b (each b (omega arith)))))
       (λ (q : moved s < moved (turns G g s xs)). inr q)
       (quiet-or-moved S xs)
 

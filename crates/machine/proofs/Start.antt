@@ -13,8 +13,8 @@ use Rattle.graph.specs.Chain.{marksAt, reached}
 use Rattle.graph.specs.Leaving.{leavingSum}
 use Rattle.graph.proofs.OverMarked.{over-set-again, over-none, over-total, over-once, over-leaves}
 use Rattle.graph.proofs.Reached.{rounds-grows, reached-chain, starts-marked}
-use Rattle.machine.specs.Run.{Run, leaving}
-use Rattle.machine.specs.Machine.{Setting, State, Entry, Worker, idle, ended, busy, empty, poll, live, newRun, startRuns, withRuns, unmarked, start, turns, trail}
+use Rattle.machine.specs.Run.{Run, carried, leaving}
+use Rattle.machine.specs.Machine.{Setting, State, Entry, Worker, idle, ended, busy, empty, poll, carries?, live, newRun, startRuns, withRuns, unmarked, start, turns, trail}
 use Rattle.machine.specs.Accepted.{Accepted}
 use Rattle.machine.specs.Sound.{Marked, Within, Whole, Carries, WorkerSound, holds, waits, stopped, sinceOf, runsSum, heldSum, carriedTimes, Sound, asks?, Fresh}
 use Rattle.machine.specs.Demand2.{outcome}
@@ -127,6 +127,11 @@ module _ {G : Graph} {starts : List ℕ} {W : ℕ} {g : Setting} (A : Accepted G
       let all = sum-start (heldSum f) (runsSum f) (startRuns G starts (unmarked G)) (W - 1) refl refl (λ (rs : List Run). refl) in
       omega (arith, all, begun-start .sums f, over-none (leavingSum G f) 0 (objects G))
 
+  -- the first worker alone may carry
+  carrying-start : start G starts W .counts .carrying ≡ sum carries? (start G starts W .workers)
+  unfolding start carried sum
+  carrying-start = omega (arith, sum-none carries? (W - 1) idle refl)
+
   -- the start is sound
   pub sound-start : Sound G starts W g (start G starts W)
   unfolding start
@@ -149,6 +154,7 @@ module _ {G : Graph} {starts : List ℕ} {W : ℕ} {g : Setting} (A : Accepted G
         starts-marked = λ (v : ℕ) (h : 0 < sum (hit v) starts).
             starts-marked starts (unmarked G) v h (rw length-replicate (A .starts-below v h));
         live-is = refl;
+        carrying-is = carrying-start;
         each-worker =
             each-start (WorkerSound G g ms) rs (W - 1)
             (λ (h : 0 < length rs). record { carries = carries h; batch-limit = omega arith; batch-carried = omega arith })

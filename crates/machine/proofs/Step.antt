@@ -22,13 +22,13 @@ use Rattle.graph.proofs.Formed.{both-true}
 use Rattle.graph.proofs.OverMarked.{over-below}
 use Rattle.machine.specs.Run.{Run, run, carried, runFrom, keep, half}
 use Rattle.machine.specs.Machine.{Setting, State, Worker, idle, asking, denied, ended, busy, Cell, empty, from, Phase, poll, look, claim, phase, worker, markOf, claimMark}
-use Rattle.machine.specs.Machine.{runsOf, carriedBy, carriedAll, live, shares, giver, receiver, Claimed, claimLost, claimWon, onwardRuns, follows}
+use Rattle.machine.specs.Machine.{runsOf, carriedBy, carries?, carriedAll, live, shares, giver, receiver, Claimed, claimLost, claimWon, onwardRuns, follows}
 use Rattle.machine.specs.Accepted.{Accepted}
 use Rattle.machine.specs.Sound.{Marked, Within, Whole, WholeInside, Carries, batchOf, Working, WorkerSound, holds, waits, stopped, sinceOf, runsSum, heldSum, Sound, asks?}
 use Rattle.machine.specs.Sound.{phaseTurns, turnsOf, upTo}
 use Rattle.machine.specs.Events.{owed?, refused?, replies}
 use Rattle.machine.specs.Move.{wakes, takes-up, ends, polls, looks, asked, hands, refuses, Taken, seen, lost, won, Waiting, Move, still, alone, follow}
-use Rattle.machine.proofs.Facts.{there, given-carries, busy-below, busy-working, busy-carried, busy-carried-all, first-target}
+use Rattle.machine.proofs.Facts.{there, given-carries, busy-below, busy-working, busy-carried, busy-carried-all, carrying-none, carrying-at, first-target, set-some, run-counts}
 use Rattle.machine.proofs.Runs.{cuts, runs-append, runs-from, runs-cut, carried-is, carried-length, halves, length-from, length-cut, within-part}
 use Rattle.machine.proofs.Runs.{within-cut, within-more, leaving-runs, whole-append, inside-from, inside-keep, inside-rest}
 use Rattle.machine.proofs.Marks.{claim-mark-set, claim-mark-limit, marked-keeps, marked-from, marked-there, over-more, live-more}
@@ -56,6 +56,7 @@ pub record Weighs (g : Setting) (s s′ : State) (k : ℕ) (cs : List Change) : 
   pub handed-is : s′ .counts .handed ≡ s .counts .handed + replied owed? cs
   pub refused-is : s′ .counts .refused ≡ s .counts .refused + replied refused? cs
   pub lives : s′ .counts .live + live (s .marks) ≡ s .counts .live + live (s′ .marks)
+  pub carrying : s′ .counts .carrying + before carries? cs ≡ s .counts .carrying + after carries? cs
   -- who enters a cell waits from then on, and who leaves it has a reply
   pub cells : (i : ℕ) → after (holds i) cs + beforeAt waits i cs ≡ before (holds i) cs + afterAt waits i cs
   pub since : after sinceOf cs ≤ before sinceOf cs + k
@@ -287,6 +288,10 @@ module _ {G : Graph} {starts : List ℕ} {W : ℕ} {g : Setting} {s : State} (A 
           busy-carried-all A S b q,
         )
 
+    -- it was counted among those that carry
+    counted : {c : Cell} → worker s b ≡ busy c n p (run e j ∷ rs) → (carries? (busy c n p (run e j ∷ rs)) ≡ 1) × (0 < s .counts .carrying)
+    counted q = (set-some (carried (run e j ∷ rs)) (busy-carried A S b q), carrying-at A S b (rw q (busy-carried A S b q)))
+
     working : (c : Cell) (r : Run) (rs′ : List Run) → worker s b ≡ busy c n p (run e j ∷ rs) → Left G s e j rs (o .marks) (r ∷ rs′)
         → Working G g (o .marks) (phase k) (r ∷ rs′)
     working c r rs′ q l =
@@ -303,22 +308,22 @@ module _ {G : Graph} {starts : List ℕ} {W : ℕ} {g : Setting} {s : State} (A 
     step-left empty [] q w l =
         step-one b idle q (omega arith) refl tt
         (λ (f : ℕ → ℕ). omega (arith, l .held f))
-        (omega (arith, t .lives, phase-turns-limit p, lowers [] q l))
+        (omega (arith, t .lives, phase-turns-limit p, lowers [] q l, counted q))
         (t .marking)
     step-left (from a) [] q w l =
         step-two b a idle denied q w (omega arith) refl refl tt tt
         (λ (f : ℕ → ℕ). omega (arith, l .held f))
-        (omega (arith, t .lives, phase-turns-limit p, lowers [] q l))
+        (omega (arith, t .lives, phase-turns-limit p, lowers [] q l, counted q))
         (t .marking)
     step-left empty (r ∷ rs′) q w l =
         step-one b (busy empty (suc n) (phase k) (r ∷ rs′)) q (omega arith) refl (working empty r rs′ q l)
         (λ (f : ℕ → ℕ). omega (arith, l .held f))
-        (omega (arith, t .lives, phase-turns-limit p, lowers (r ∷ rs′) q l))
+        (omega (arith, t .lives, phase-turns-limit p, lowers (r ∷ rs′) q l, counted q, run-counts r rs′))
         (t .marking)
     step-left (from a) (r ∷ rs′) q w l =
         step-one b (busy (from a) (suc n) (phase k) (r ∷ rs′)) q (omega arith) refl (working (from a) r rs′ q l)
         (λ (f : ℕ → ℕ). omega (arith, l .held f))
-        (omega (arith, t .lives, phase-turns-limit p, lowers (r ∷ rs′) q l))
+        (omega (arith, t .lives, phase-turns-limit p, lowers (r ∷ rs′) q l, counted q, run-counts r rs′))
         (t .marking)
 
   -- every move is such a step
@@ -339,7 +344,7 @@ module _ {G : Graph} {starts : List ℕ} {W : ℕ} {g : Setting} {s : State} (A 
   step {b} (alone q (takes-up {rs})) =
       let w : Working G g (s .marks) poll rs = record { carries = given-carries A S b q; batch-limit = omega arith; batch-carried = omega arith } in
       step-one b (busy empty 0 poll rs) q (omega arith) refl w (λ (f : ℕ → ℕ). omega arith) (omega arith) none-taken
-  step {b} (alone q (ends h)) = step-one b ended q (omega arith) refl tt (λ (f : ℕ → ℕ). omega arith) (omega arith) none-taken
+  step {b} (alone q (ends h)) = step-one b ended q (omega arith) refl tt (λ (f : ℕ → ℕ). omega arith) (omega (arith, carrying-none A S h)) none-taken
   step {b} (alone q (polls {n} {rs})) =
       let k = min (g .batch) (carried rs) in
       let three = phase-turns k (omega (arith, A .some-batch, busy-carried A S b q)) in
@@ -371,11 +376,14 @@ module _ {G : Graph} {starts : List ℕ} {W : ℕ} {g : Setting} {s : State} (A 
       let pays = share-pays K n (carried rs) (A .some-cutoff) h in
       let both = halves rs in
       let three = phase-turns k (omega (arith, A .some-batch, both, pays)) in
+      let counted : (carries? (busy (from a) n poll rs) ≡ 1) × (carries? (giver g n rs) ≡ 1) × (carries? (receiver rs) ≡ 1) =
+      (set-some (carried rs) (busy-carried A S b q), set-some (carriedBy (giver g n rs)) (omega (arith, both, pays)), set-some (carriedBy (receiver rs)) (omega (arith, both, pays)))
+      in
       step-two b a (giver g n rs) (receiver rs) q r (omega arith) refl refl
       (begins (part t (omega (arith, both, pays)) (l .0) (w .0) (inside-keep G c (t .whole-inside))))
       (part t (omega (arith, both, pays)) (l .1) (w .1) (inside-rest G c (t .whole-inside)))
       (λ (f : ℕ → ℕ). omega (arith, runs-cut f c))
-      (omega (arith, pays, both, three, ap (λ (m : ℕ). min (2 * m) K) (both .0), ap (λ (m : ℕ). min (2 * m) K) (both .1)))
+      (omega (arith, pays, both, three, counted, ap (λ (m : ℕ). min (2 * m) K) (both .0), ap (λ (m : ℕ). min (2 * m) K) (both .1)))
       none-taken
   step {b} (follow {c} {n} {k} {e} {j} {p} {rs} {o} q r w) =
       let t = opens b q r in

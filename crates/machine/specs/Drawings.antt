@@ -40,10 +40,10 @@ unfoldable pub turnsA : List ℕ
 unfolding naming0
 turnsA = naming0 (0 ∷ 1 ∷ 0 ∷ 0 ∷ 0 ∷ 1 ∷ 1 ∷ 0 ∷ 1 ∷ 0 ∷ 0 ∷ 0 ∷ 1 ∷ 0 ∷ 1 ∷ 1 ∷ 0 ∷ 1 ∷ [])
 
--- no refusal; finished or not, live, followed, handed, refused, moved
-abbrev pub gives : Bool → ℕ → ℕ → ℕ → ℕ → ℕ → Row
-gives f l fo h r m =
-    record { number = 0; finished = f; counts = record { live = l; followed = fo; handed = h; refused = r; moved = m } }
+-- no refusal; finished or not, live, followed, handed, refused, moved, carrying
+abbrev pub gives : Bool → ℕ → ℕ → ℕ → ℕ → ℕ → ℕ → Row
+gives f l fo h r m c =
+    record { number = 0; finished = f; counts = record { live = l; followed = fo; handed = h; refused = r; moved = m; carrying = c } }
 
 -- the graph with W, D, K and a schedule; each has its index at 0
 abbrev pub drawing : Graph → ℕ → ℕ → ℕ → List ℕ → Row → Drawing
@@ -74,16 +74,16 @@ checks-in-order = refl
 unfoldable pub drawings : List Drawing
 unfolding turnsA naming0
 drawings =
-    drawing S 2 1 1 turnsA (gives true 4 5 1 0 18)
-    ∷ drawing S 2 1 1 (naming0 (0 ∷ 1 ∷ 0 ∷ 0 ∷ 0 ∷ [])) (gives false 2 1 1 0 5)
-    ∷ drawing S 2 1 2 (naming0 (0 ∷ 1 ∷ 0 ∷ 0 ∷ 0 ∷ [])) (gives false 2 1 0 1 5)
-    ∷ drawing S 1 2 1 (naming0 (0 ∷ 0 ∷ 0 ∷ 0 ∷ 0 ∷ 0 ∷ 0 ∷ 0 ∷ 0 ∷ 0 ∷ 0 ∷ 0 ∷ [])) (gives true 4 5 0 0 12)
-    ∷ drawing S 1 2 1 (naming0 (0 ∷ 0 ∷ 0 ∷ 0 ∷ 0 ∷ 0 ∷ 0 ∷ 0 ∷ 0 ∷ 0 ∷ 0 ∷ [])) (gives false 4 5 0 0 11)
-    ∷ drawing alone 1 1 1 [] (gives false 1 0 0 0 0)
-    ∷ drawing alone 1 1 1 (naming0 (0 ∷ [])) (gives true 1 0 0 0 1)
-    ∷ drawing alone 2 1 1 (naming0 (0 ∷ 0 ∷ [])) (gives false 1 0 0 0 1)
-    ∷ drawing itself 1 1 1 (naming0 (0 ∷ 0 ∷ 0 ∷ [])) (gives true 1 1 0 0 3)
-    ∷ drawing twice 1 2 1 (naming0 (0 ∷ 0 ∷ 0 ∷ 0 ∷ 0 ∷ [])) (gives true 2 2 0 0 5)
+    drawing S 2 1 1 turnsA (gives true 4 5 1 0 18 0)
+    ∷ drawing S 2 1 1 (naming0 (0 ∷ 1 ∷ 0 ∷ 0 ∷ 0 ∷ [])) (gives false 2 1 1 0 5 2)
+    ∷ drawing S 2 1 2 (naming0 (0 ∷ 1 ∷ 0 ∷ 0 ∷ 0 ∷ [])) (gives false 2 1 0 1 5 1)
+    ∷ drawing S 1 2 1 (naming0 (0 ∷ 0 ∷ 0 ∷ 0 ∷ 0 ∷ 0 ∷ 0 ∷ 0 ∷ 0 ∷ 0 ∷ 0 ∷ 0 ∷ [])) (gives true 4 5 0 0 12 0)
+    ∷ drawing S 1 2 1 (naming0 (0 ∷ 0 ∷ 0 ∷ 0 ∷ 0 ∷ 0 ∷ 0 ∷ 0 ∷ 0 ∷ 0 ∷ 0 ∷ [])) (gives false 4 5 0 0 11 0)
+    ∷ drawing alone 1 1 1 [] (gives false 1 0 0 0 0 0)
+    ∷ drawing alone 1 1 1 (naming0 (0 ∷ [])) (gives true 1 0 0 0 1 0)
+    ∷ drawing alone 2 1 1 (naming0 (0 ∷ 0 ∷ [])) (gives false 1 0 0 0 1 0)
+    ∷ drawing itself 1 1 1 (naming0 (0 ∷ 0 ∷ 0 ∷ [])) (gives true 1 1 0 0 3 0)
+    ∷ drawing twice 1 2 1 (naming0 (0 ∷ 0 ∷ 0 ∷ 0 ∷ 0 ∷ [])) (gives true 2 2 0 0 5 0)
     ∷ drawing S 2 1 1 (naming0 (2 ∷ [])) (refusedRow 9)
     ∷ []
 

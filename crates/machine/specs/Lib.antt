@@ -4,6 +4,7 @@ pub mod Demand2
 pub mod Demand3
 pub mod Drawings
 pub mod Events
+pub mod Lamp
 pub mod Limits
 pub mod Machine
 pub mod Move

@@ -64,6 +64,10 @@ runsOf (busy c n p rs) = rs
 abbrev pub carriedBy : Worker → ℕ
 carriedBy w = carried (runsOf w)
 
+-- 1 for a worker that carries references
+abbrev pub carries? : Worker → ℕ
+carries? w = set? (carriedBy w)
+
 -- how many references all workers carry
 abbrev pub carriedAll : State → ℕ
 carriedAll s = sum carriedBy (s .workers)
@@ -102,12 +106,13 @@ withRuns (r ∷ rs) = busy empty 0 poll (r ∷ rs)
 abbrev pub unmarked : Graph → List ℕ
 unmarked G = replicate (objects G) 0
 
+-- worker 0 is the only one that may carry references
 unfoldable pub start : Graph → List ℕ → ℕ → State
 start G starts W =
     record {
       marks = marksAt starts (unmarked G);
       workers = withRuns (startRuns G starts (unmarked G)) ∷ replicate (W - 1) idle;
-      counts = freshCounts (live (marksAt starts (unmarked G)));
+      counts = freshCounts (live (marksAt starts (unmarked G))) (carries? (withRuns (startRuns G starts (unmarked G))));
     }
 
 -- ---- One turn. A turn that changes something goes through `moves` or `follows`, which count it.
@@ -136,7 +141,7 @@ asks (given rs) s b v = s
 asks (busy empty n p rs) s b v = moves s (set (set (s .workers) v (busy (from b) n p rs)) b asking) 0 0
 asks (busy (from a) n p rs) s b v = s
 
--- an idle worker ends if nobody carries anything; the first argument is how many references all carry
+-- an idle worker ends if nobody carries anything; the first argument is how many workers carry references
 abbrev pub idleTurn : ℕ → State → ℕ → ℕ → State
 idleTurn zero s b v = becomes s b ended
 idleTurn (suc k) s b v = asks (worker s v) s b v
@@ -177,6 +182,11 @@ dismiss empty rs ws = ws
 dismiss (from a) [] ws = set ws a denied
 dismiss (from a) (r ∷ rs) ws = ws
 
+-- 1 for a worker left with nothing
+abbrev pub emptied : List Run → ℕ
+emptied [] = 1
+emptied (r ∷ rs) = 0
+
 -- how many askers that refuses
 abbrev pub dismissed : Cell → List Run → ℕ
 dismissed empty rs = 0
@@ -213,7 +223,7 @@ follows s b c n k o rs =
     record {
       marks = o .marks;
       workers = dismiss c rs (set (s .workers) b (onward c (suc n) k rs));
-      counts = countFollow (s .counts) (o .won) (dismissed c rs);
+      counts = countFollow (s .counts) (o .won) (dismissed c rs) (emptied rs);
     }
 
 -- A look at the first reference, of `run e j`: where the target is marked, the reference is followed; where not, the
@@ -241,7 +251,7 @@ workerTurn ended G g s b v = s
 workerTurn asking G g s b v = s
 workerTurn denied G g s b v = becomes s b idle
 workerTurn (given rs) G g s b v = becomes s b (busy empty 0 poll rs)
-workerTurn idle G g s b v = idleTurn (carriedAll s) s b v
+workerTurn idle G g s b v = idleTurn (s .counts .carrying) s b v
 workerTurn (busy c n p rs) G g s b v = busyTurn p rs G g s b c n
 
 unfoldable pub turn : Graph → Setting → State → Entry → State

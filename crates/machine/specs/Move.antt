@@ -7,7 +7,7 @@ use lib.ListN.{set}
 use Rattle.graph.specs.Graph.{Graph, target}
 use Rattle.machine.specs.Run.{Run, run, carried}
 use Rattle.machine.specs.Machine.{Setting, State, Worker, idle, asking, denied, ended, given, busy, Cell, empty, from, Phase, poll, look, claim}
-use Rattle.machine.specs.Machine.{phase, worker, markOf, carriedAll, moves, becomes, shares, answer, Claimed, claimLost, claimWon}
+use Rattle.machine.specs.Machine.{phase, worker, markOf, moves, becomes, shares, answer, Claimed, claimLost, claimWon}
 use Rattle.machine.specs.Machine.{onwardRuns, follows}
 
 -- A worker whose turn changes nothing.
@@ -17,7 +17,7 @@ pub data Quiet (s : State) : Worker → Type 0 where
   -- it waits for a reply
   waiting : Quiet s asking
   -- it is idle while somebody carries something, and cannot ask whom it names
-  unable : 0 < carriedAll s → Quiet s idle
+  unable : 0 < s .counts .carrying → Quiet s idle
 
 -- A worker changes, from the first to the second, and nothing else does.
 pub data Alone (G : Graph) (g : Setting) (s : State) : Worker → Worker → Type 0 where
@@ -26,7 +26,7 @@ pub data Alone (G : Graph) (g : Setting) (s : State) : Worker → Worker → Typ
   -- an asker takes its hand-over up
   takes-up : {rs : List Run} → Alone G g s (given rs) (busy empty 0 poll rs)
   -- an idle worker ends where nobody carries anything
-  ends : carriedAll s ≡ 0 → Alone G g s idle ended
+  ends : s .counts .carrying ≡ 0 → Alone G g s idle ended
   -- a poll that finds the cell empty begins a batch
   polls : {n : ℕ} {rs : List Run}
       → Alone G g s (busy empty n poll rs) (busy empty n (phase (min (g .batch) (carried rs))) rs)

@@ -31,47 +31,47 @@ fan = record { offsets = 0 ∷ 3 ∷ 5 ∷ 9 ∷ 11 ∷ 11 ∷ []; targets = 1 �
 -- worker 0 of the fan opens three runs, is asked by 1, and shares in the middle one
 unfoldable pub cutInTheMiddle : Drawing
 unfolding naming0
-cutInTheMiddle = drawing fan 2 3 7 (naming0 (0 ∷ 0 ∷ 0 ∷ 0 ∷ 0 ∷ 0 ∷ 0 ∷ 1 ∷ 0 ∷ [])) (gives false 4 3 1 0 9)
+cutInTheMiddle = drawing fan 2 3 7 (naming0 (0 ∷ 0 ∷ 0 ∷ 0 ∷ 0 ∷ 0 ∷ 0 ∷ 1 ∷ 0 ∷ [])) (gives false 4 3 1 0 9 2)
 
 unfoldable pub rules : List Rule
 unfolding cutInTheMiddle naming0
 rules =
     -- the start: worker 0 is busy with the index's run, the other is idle; since and batch are 0, the cell is empty
-    rule (drawing (repeated 4) 2 2 2 [] (gives false 1 0 0 0 0))
+    rule (drawing (repeated 4) 2 2 2 [] (gives false 1 0 0 0 0 1))
     (busy empty 0 poll (run 0 3 ∷ []) ∷ idle ∷ [])
     -- no asker at the poll: batch is what is carried, D being more; an asker without a reply waits; an idle worker that
     -- names a worker whose cell is taken, an asking one, itself, an idle one or none asks nobody
-    ∷ rule (drawing (repeated 2) 4 9 1 (0 ∷ 0 ∷ 1 ∷ 0 ∷ 1 ∷ 0 ∷ 2 ∷ 0 ∷ 2 ∷ 1 ∷ 2 ∷ 2 ∷ 2 ∷ 3 ∷ 2 ∷ 4 ∷ []) (gives false 1 0 0 0 2))
+    ∷ rule (drawing (repeated 2) 4 9 1 (0 ∷ 0 ∷ 1 ∷ 0 ∷ 1 ∷ 0 ∷ 2 ∷ 0 ∷ 2 ∷ 1 ∷ 2 ∷ 2 ∷ 2 ∷ 3 ∷ 2 ∷ 4 ∷ []) (gives false 1 0 0 0 2 1))
     (busy (from 1) 0 (look 1) (run 0 1 ∷ []) ∷ asking ∷ idle ∷ idle ∷ [])
     -- an asker is answered at a poll only; a look at an unmarked target leaves since and batch, and a claim is next
-    ∷ rule (drawing fan 2 3 1 (naming0 (0 ∷ 1 ∷ 0 ∷ 0 ∷ 0 ∷ [])) (gives false 2 1 0 0 5))
+    ∷ rule (drawing fan 2 3 1 (naming0 (0 ∷ 1 ∷ 0 ∷ 0 ∷ 0 ∷ [])) (gives false 2 1 0 0 5 1))
     (busy (from 1) 1 (claim 1) (run 1 1 ∷ run 3 1 ∷ []) ∷ asking ∷ [])
     -- carried is K and since is below it: a refusal; batch is what is carried, D being more
-    ∷ rule (drawing (repeated 5) 2 9 5 (naming0 (1 ∷ 0 ∷ [])) (gives false 1 0 0 1 2))
+    ∷ rule (drawing (repeated 5) 2 9 5 (naming0 (1 ∷ 0 ∷ [])) (gives false 1 0 0 1 2 1))
     (busy empty 0 (look 4) (run 0 4 ∷ []) ∷ denied ∷ [])
     -- carried is K + 1, and odd: it keeps three of five, from which batch comes, and the asker takes up two with batch 0
-    ∷ rule (drawing (repeated 5) 2 9 4 (naming0 (1 ∷ 0 ∷ 1 ∷ [])) (gives false 1 0 1 0 3))
+    ∷ rule (drawing (repeated 5) 2 9 4 (naming0 (1 ∷ 0 ∷ 1 ∷ [])) (gives false 1 0 1 0 3 2))
     (busy empty 0 (look 2) (run 0 2 ∷ []) ∷ busy empty 0 poll (run 3 1 ∷ []) ∷ [])
     -- since is K, over a poll without an asker, and carried is 2: shared, and since is 0 again
-    ∷ rule (drawing (repeated 4) 2 1 2 (naming0 (0 ∷ 0 ∷ 0 ∷ 0 ∷ 0 ∷ 1 ∷ 0 ∷ [])) (gives false 2 2 1 0 7))
+    ∷ rule (drawing (repeated 4) 2 1 2 (naming0 (0 ∷ 0 ∷ 0 ∷ 0 ∷ 0 ∷ 1 ∷ 0 ∷ [])) (gives false 2 2 1 0 7 2))
     (busy empty 0 (look 0) (run 2 0 ∷ []) ∷ given (run 3 0 ∷ []) ∷ [])
     -- since is K - 1: a refusal, which leaves since as it was and makes the asker idle in its turn
-    ∷ rule (drawing (repeated 4) 2 2 3 (naming0 (0 ∷ 0 ∷ 0 ∷ 0 ∷ 1 ∷ 0 ∷ 1 ∷ [])) (gives false 2 2 0 1 7))
+    ∷ rule (drawing (repeated 4) 2 2 3 (naming0 (0 ∷ 0 ∷ 0 ∷ 0 ∷ 1 ∷ 0 ∷ 1 ∷ [])) (gives false 2 2 0 1 7 1))
     (busy empty 2 (look 1) (run 2 1 ∷ []) ∷ idle ∷ [])
     -- since is K and carried is 1: a refusal
-    ∷ rule (drawing (repeated 2) 2 1 1 (naming0 (0 ∷ 0 ∷ 0 ∷ 1 ∷ 0 ∷ [])) (gives false 2 1 0 1 5))
+    ∷ rule (drawing (repeated 2) 2 1 1 (naming0 (0 ∷ 0 ∷ 0 ∷ 1 ∷ 0 ∷ [])) (gives false 2 1 0 1 5 1))
     (busy empty 1 (look 0) (run 1 0 ∷ []) ∷ denied ∷ [])
     -- three runs, the latest claim's first: the middle one is cut, and the asker's runs keep their order
     ∷ rule cutInTheMiddle
     (busy empty 0 (look 2) (run 9 1 ∷ run 5 1 ∷ []) ∷ given (run 7 1 ∷ run 3 1 ∷ []) ∷ [])
     -- a lost claim lowers batch and raises since like any other
-    ∷ rule (drawing (repeated 4) 2 2 1 (naming0 (1 ∷ 0 ∷ 1 ∷ 1 ∷ 1 ∷ 0 ∷ 0 ∷ 1 ∷ [])) (gives false 2 2 1 0 8))
+    ∷ rule (drawing (repeated 4) 2 2 1 (naming0 (1 ∷ 0 ∷ 1 ∷ 1 ∷ 1 ∷ 0 ∷ 0 ∷ 1 ∷ [])) (gives false 2 2 1 0 8 2))
     (busy empty 1 (look 0) (run 1 0 ∷ []) ∷ busy empty 1 (look 0) (run 3 0 ∷ []) ∷ [])
     -- a worker left with nothing is idle in that turn, and refuses the asker in its cell
-    ∷ rule (drawing itself 2 1 1 (naming0 (0 ∷ 1 ∷ 0 ∷ [])) (gives false 1 1 0 1 3))
+    ∷ rule (drawing itself 2 1 1 (naming0 (0 ∷ 1 ∷ 0 ∷ [])) (gives false 1 1 0 1 3 0))
     (idle ∷ denied ∷ [])
     -- a hand-over that is not taken up is carried: the idle worker does not end
-    ∷ rule (drawing (repeated 2) 2 1 1 (naming0 (1 ∷ 0 ∷ 0 ∷ 0 ∷ 0 ∷ [])) (gives false 2 1 1 0 4))
+    ∷ rule (drawing (repeated 2) 2 1 1 (naming0 (1 ∷ 0 ∷ 0 ∷ 0 ∷ 0 ∷ [])) (gives false 2 1 1 0 4 1))
     (idle ∷ given (run 1 0 ∷ []) ∷ [])
     ∷ []
 

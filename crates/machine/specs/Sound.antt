@@ -12,7 +12,7 @@ use Rattle.graph.specs.Chain.{Reach, overMarked}
 use Rattle.graph.specs.Leaving.{leavingSum, leavingUnmarked}
 use Rattle.machine.specs.Run.{Run, run, size, carried}
 use Rattle.machine.specs.Machine.{Setting, State, Worker, idle, asking, denied, ended, given, busy, Cell, empty, from, Phase, poll, look, claim}
-use Rattle.machine.specs.Machine.{worker, runsOf, carriedBy, carriedAll, live}
+use Rattle.machine.specs.Machine.{worker, runsOf, carriedBy, carries?, carriedAll, live}
 
 -- object v is marked
 abbrev pub Marked : List ℕ → ℕ → Type 0
@@ -148,6 +148,8 @@ pub record Sound (G : Graph) (starts : List ℕ) (W : ℕ) (g : Setting) (s : St
   pub starts-marked : (v : ℕ) → 0 < sum (hit v) starts → Marked (s .marks) v
   -- live is the number of marks set
   pub live-is : s .counts .live ≡ live (s .marks)
+  -- carrying is the number of workers that carry references
+  pub carrying-is : s .counts .carrying ≡ sum carries? (s .workers)
   -- each worker's runs and batch; it carries references exactly when busy or owed a hand-over
   pub each-worker : (b : ℕ) → WorkerSound G g (s .marks) (worker s b)
   -- no reference is carried twice

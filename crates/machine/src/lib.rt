@@ -10,22 +10,23 @@ pub const MOST_WORKERS: u32 = 16;
 
 pub const MOST_SETTING: u32 = 65535;
 
-// The counts of a collection: marks set, references followed, polls that shared, asks refused, and
-// turns that changed something.
+// The counts of a collection: marks set, references followed, polls that shared, asks refused, turns
+// that changed something, and workers that carry references now.
 pub struct Counts {
     pub live: u64,
     pub followed: u64,
     pub handed: u64,
     pub refused: u64,
     pub moved: u64,
+    pub carrying: u64,
 }
 
 // How many counts there are.
-pub const COUNTS: usize = 5;
+pub const COUNTS: usize = 6;
 
-// The counts before the first turn, with so many marks set.
-pub fn fresh(live: u64) -> Counts
-    ensures { λ r. ⌜ r ≡ freshCounts live ⌝ }
+// The counts before the first turn, with so many marks set and workers that carry references.
+pub fn fresh(live: u64, carrying: u64) -> Counts
+    ensures { λ r. ⌜ r ≡ freshCounts live carrying ⌝ }
 {
     Counts {
         live,
@@ -33,10 +34,12 @@ pub fn fresh(live: u64) -> Counts
         handed: 0,
         refused: 0,
         moved: 0,
+        carrying,
     }
 }
 
-// The counts after a turn that follows nothing, with so many more handed and refused.
+// The counts after a turn that follows nothing, with so many more handed and refused. An asker carries
+// from its hand-over on.
 pub fn count_move(c: Counts, handed: u64, refused: u64) -> Counts
     requires { ⌜ Roomy c × (handed ≤ 1) × (refused ≤ 1) ⌝ }
     ensures { λ r. ⌜ r ≡ countMove c handed refused ⌝ }
@@ -47,13 +50,15 @@ pub fn count_move(c: Counts, handed: u64, refused: u64) -> Counts
         handed: c.handed + handed,
         refused: c.refused + refused,
         moved: c.moved + 1,
+        carrying: c.carrying + handed,
     }
 }
 
-// The counts after a turn that follows a reference, with so many more live and refused.
-pub fn count_follow(c: Counts, live: u64, refused: u64) -> Counts
-    requires { ⌜ Roomy c × (live ≤ 1) × (refused ≤ 1) ⌝ }
-    ensures { λ r. ⌜ r ≡ countFollow c live refused ⌝ }
+// The counts after a turn that follows a reference, with so many more live and refused, and so many
+// workers left with nothing.
+pub fn count_follow(c: Counts, live: u64, refused: u64, emptied: u64) -> Counts
+    requires { ⌜ Roomy c × (live ≤ 1) × (refused ≤ 1) × (emptied ≤ c .carrying) ⌝ }
+    ensures { λ r. ⌜ r ≡ countFollow c live refused emptied ⌝ }
 {
     Counts {
         live: c.live + live,
@@ -61,6 +66,7 @@ pub fn count_follow(c: Counts, live: u64, refused: u64) -> Counts
         handed: c.handed,
         refused: c.refused + refused,
         moved: c.moved + 1,
+        carrying: c.carrying - emptied,
     }
 }
 
@@ -74,4 +80,5 @@ pub fn put_counts(c: Counts, words: &mut [u64])
     words[2] = c.handed;
     words[3] = c.refused;
     words[4] = c.moved;
+    words[5] = c.carrying;
 }

@@ -12,14 +12,15 @@ use Rattle.graph.specs.Chain.{marksAt}
 use Rattle.graph.proofs.OverMarked.{after-limit}
 use Rattle.machine.specs.Row.{freshCounts}
 use Rattle.machine.specs.Run.{Run, run, runFrom, carried, leaving, pairs}
-use Rattle.machine.specs.Machine.{State, Worker, idle, ended, busy, empty, poll, live, newRun, startRuns, withRuns, unmarked, start}
+use Rattle.machine.specs.Machine.{State, Worker, idle, ended, busy, empty, poll, carries?, live, newRun, startRuns, withRuns, unmarked, start}
+use Rattle.machine.proofs.Facts.{run-counts}
 use Rattle.machine.proofs.Marks.{live-more}
 use Rattle.worker.specs.declared.registers.Block.{Block}
 use Rattle.worker.specs.Registers.{Room, storeAt, Stored}
 use Rattle.worker.specs.Stretch.{topWith}
 use Rattle.worker.proofs.Blocks.{store-stored}
 use Rattle.turns.specs.declared.Setup.{Setup}
-use Rattle.turns.specs.Counting.{carries?, running?, progressWith}
+use Rattle.turns.specs.Counting.{running?, progressWith}
 use Rattle.turns.specs.Held.{memory, BlockIs, Holds}
 use Rattle.turns.proofs.Each.{all-same, hold-one}
 use Rattle.marker.specs.Stages.{Startable, begin}
@@ -59,33 +60,44 @@ module _ {offsets targets : List ℕ} {index : ℕ} {g : Setup} {marks regs : Li
   unfolding start marksAt
   begin-marks ms e = ap (λ (l : List ℕ). set l index 1) (e ∙ ap (λ (k : ℕ). replicate {A = ℕ} k 0) (x .marks-long))
 
-  begin-counts : begin offsets targets index g .counts ≡ freshCounts 1
+  -- worker 0 begins with the index's run
+  begin-runs : (rs : List Run) → leaving (graph offsets targets) index ≡ rs
+      → startRuns (graph offsets targets) (index ∷ []) (unmarked (graph offsets targets)) ≡ rs
+  unfolding startRuns
+  begin-runs rs e =
+      ap (λ (k : ℕ). newRun k (leaving (graph offsets targets) index) ++ []) unmarked-index ∙ append-nil (leaving (graph offsets targets) index) ∙ e
+
+  begin-live : live (begin offsets targets index g .marks) ≡ 1
   unfolding start marksAt
-  begin-counts =
-      ap freshCounts
-      (live-more (unmarked (graph offsets targets)) index 1 (omega arith) unmarked-index
-      ∙ ap suc (none-live (objects (graph offsets targets))))
+  begin-live =
+      live-more (unmarked (graph offsets targets)) index 1 (omega arith) unmarked-index
+      ∙ ap suc (none-live (objects (graph offsets targets)))
+
+  -- the counts, where worker 0 begins with the runs rs
+  begin-counts : (rs : List Run) → leaving (graph offsets targets) index ≡ rs
+      → begin offsets targets index g .counts ≡ freshCounts 1 (carries? (withRuns rs))
+  unfolding start startRuns
+  begin-counts rs e =
+      ap (λ (l : ℕ). freshCounts l (carries? (withRuns (startRuns (graph offsets targets) (index ∷ []) (unmarked (graph offsets targets)))))) begin-live
+      ∙ ap (λ (l : List Run). freshCounts 1 (carries? (withRuns l))) (begin-runs rs e)
 
   begin-workers : (rs : List Run) → leaving (graph offsets targets) index ≡ rs
       → begin offsets targets index g .workers ≡ withRuns rs ∷ replicate (g .workers - 1) idle
-  unfolding start startRuns
-  begin-workers rs e =
-      ap (λ (l : List Run). withRuns l ∷ replicate (g .workers - 1) idle)
-      (ap (λ (k : ℕ). newRun k (leaving (graph offsets targets) index) ++ []) unmarked-index ∙ append-nil (leaving (graph offsets targets) index) ∙ e)
+  unfolding start
+  begin-workers rs e = ap (λ (l : List Run). withRuns l ∷ replicate (g .workers - 1) idle) (begin-runs rs e)
 
   some-workers : suc (g .workers - 1) ≡ g .workers
   some-workers = omega (arith, x .accepted .some-worker)
 
   -- every worker is idle
-  idle-holds : (s : State) → {marks′ : List ℕ} → marks′ ≡ s .marks → s .workers ≡ idle ∷ replicate (g .workers - 1) idle → s .counts ≡ freshCounts 1
+  idle-holds : (s : State) → {marks′ : List ℕ} → marks′ ≡ s .marks → s .workers ≡ idle ∷ replicate (g .workers - 1) idle → s .counts ≡ freshCounts 1 0
       → (work : List ℕ) → length work ≡ g .workers * g .stretch
-      → Holds (graph offsets targets) g s (memory marks′ work regs (progressWith (freshCounts 1) 0 (g .workers)))
+      → Holds (graph offsets targets) g s (memory marks′ work regs (progressWith (freshCounts 1 0) (g .workers)))
   unfolding sum
   idle-holds s ma ws co work long =
       record {
         marks-are = ma;
         counts-are = sym co;
-        carrying-is = rw ws (omega (arith, sum-none carries? (g .workers - 1) idle refl));
         running-is = rw ws (omega (arith, idle-running (g .workers - 1), some-workers));
         regs-long = ap length (x .regs-are) ∙ length-replicate {A = ℕ} (9 * g .workers) 0;
         work-long = long;
@@ -98,11 +110,12 @@ module _ {offsets targets : List ℕ} {index : ℕ} {g : Setup} {marks regs : Li
   -- the index has no references
   pub begin-none : getD offsets (index + 1) 0 ≤ getD offsets index 0 → (ms : List ℕ) → ms ≡ replicate (length marks) 0
       → (work : List ℕ) → length work ≡ g .workers * g .stretch
-      → Holds (graph offsets targets) g (begin offsets targets index g) (memory (set ms index 1) work regs (progressWith (freshCounts 1) 0 (g .workers)))
+      → Holds (graph offsets targets) g (begin offsets targets index g) (memory (set ms index 1) work regs (progressWith (freshCounts 1 0) (g .workers)))
+  unfolding carried sum
   begin-none h ms e =
       let z : degree (graph offsets targets) index ≡ 0 = omega (arith, after-word) in
-      idle-holds (begin offsets targets index g) (begin-marks ms e)
-      (begin-workers [] (ap (λ (k : ℕ). runFrom (first (graph offsets targets) index) k) z)) begin-counts
+      let none = ap (λ (k : ℕ). runFrom (first (graph offsets targets) index) k) z in
+      idle-holds (begin offsets targets index g) (begin-marks ms e) (begin-workers [] none) (begin-counts [] none)
 
   pub first-room : Room regs 0
   first-room =
@@ -144,11 +157,12 @@ module _ {offsets targets : List ℕ} {index : ℕ} {g : Setup} {marks regs : Li
 
     pub begin-some : (regs′ : List ℕ) → regs′ ≡ storeAt regs 0 (firstBlock f e (getD targets f 0))
         → (ms : List ℕ) → ms ≡ replicate (length marks) 0 → (work : List ℕ) → length work ≡ g .workers * g .stretch
-        → Holds (graph offsets targets) g (begin offsets targets index g) (memory (set ms index 1) work regs′ (progressWith (freshCounts 1) 1 (g .workers)))
+        → Holds (graph offsets targets) g (begin offsets targets index g) (memory (set ms index 1) work regs′ (progressWith (freshCounts 1 1) (g .workers)))
     begin-some regs′ er ms em work long =
-        let s₀ : State = record { marks = []; workers = idle ∷ replicate (g .workers - 1) idle; counts = freshCounts 1 } in
+        let s₀ : State = record { marks = []; workers = idle ∷ replicate (g .workers - 1) idle; counts = freshCounts 1 0 } in
         let st : Stored regs 0 (firstBlock f e (getD targets f 0)) regs′ =
         rw er (store-stored regs 0 (first-room .long) (firstBlock f e (getD targets f 0))) in
         hold-one (idle-holds s₀ refl refl refl work long) (ap suc (length-replicate (g .workers - 1) idle) ∙ some-workers) 0
         (omega (arith, x .accepted .some-worker)) refl w work st refl (all-same (g .workers) (g .stretch) 0 work) (first-is _)
-        refl refl {s′ = begin offsets targets index g} (begin-workers (run f (e - f - 1) ∷ []) first-runs) (begin-marks ms em) (sym begin-counts)
+        refl {s′ = begin offsets targets index g} (begin-workers (run f (e - f - 1) ∷ []) first-runs) (begin-marks ms em)
+        (sym (begin-counts (run f (e - f - 1) ∷ []) first-runs ∙ ap (λ (k : ℕ). freshCounts 1 k) (run-counts (run f (e - f - 1)) [])))

@@ -10,6 +10,7 @@ use Rattle.machine.specs.Machine.{entries}
 use Rattle.machine.specs.Row.{Row, refusedRow}
 use Rattle.machine.specs.Demand2.{Demand2}
 use Rattle.machine.specs.Demand3.{Demand3}
+use Rattle.machine.specs.Lamp.{Lamp}
 use Rattle.machine.specs.Call.{Call, graphOf, settingOf, startsOf, fault, marking, marksAfter, workAfter}
 use Rattle.marker.specs.declared.Marked.{Marked}
 use Rattle.marker.specs.declared.Marked.the-variants.{Finished, Unfinished, Refused}
@@ -38,7 +39,7 @@ pub record Finds (v : Verdict) (c : Call) (marks work : ℕ) : Type 0 where
   pub number-is : numberOf v ≡ fault c marks work
 
 -- the call's promise, for all inputs: the answer, every mark and every work word; and, where the call has no fault,
--- demands 2 and 3 of the answer and the marks
+-- demands 2 and 3 of the answer and the marks, and what its count of workers that carry says
 pub record Answered (c : Call) (marks work : List ℕ) (r : Marked) (marks′ work′ : List ℕ) : Type 0 where
   pub row-is : row r ≡ marking c marks work
   pub marks-are : marks′ ≡ marksAfter c marks work
@@ -47,3 +48,5 @@ pub record Answered (c : Call) (marks work : List ℕ) (r : Marked) (marks′ wo
       → Demand2 (graphOf c) (startsOf c) (c .workers) (settingOf c) (entries (c .schedule)) (row r) marks′
   pub demand3 : fault c (length marks) (length work) ≡ 0
       → Demand3 (graphOf c) (startsOf c) (c .workers) (settingOf c) (entries (c .schedule)) (row r)
+  pub lamp : fault c (length marks) (length work) ≡ 0
+      → Lamp (graphOf c) (startsOf c) (c .workers) (settingOf c) (entries (c .schedule)) (row r)

@@ -168,11 +168,9 @@ fn start(
     marks[v] = 1;
     let first = offsets[v];
     let end = offsets[v + 1];
-    let counts = machine::fresh(1);
     if end <= first {
         return Progress {
-            counts,
-            carrying: 0,
+            counts: machine::fresh(1, 0),
             running: setup.workers,
         };
     }
@@ -192,8 +190,7 @@ fn start(
         },
     );
     Progress {
-        counts,
-        carrying: 1,
+        counts: machine::fresh(1, 1),
         running: setup.workers,
     }
 }

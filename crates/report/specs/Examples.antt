@@ -37,8 +37,8 @@ pub listings :
     ∷ readWhole bytesOfS (ordering (naming0 (2 ∷ [])))
     ∷ readWhole [] (ordering turnsA)
     ∷ [])
-    ≡ codes "finished\nlive 4\nfollowed 5\nhanded 1\nrefused 0\nmoved 18\ndead 4 500\ndead 5 600\nfreed 1100\n"
-    ∷ codes "unfinished\nlive 2\nfollowed 1\nhanded 1\nrefused 0\nmoved 5\n"
+    ≡ codes "finished\nlive 4\nfollowed 5\nhanded 1\nrefused 0\nmoved 18\ncarrying 0\ndead 4 500\ndead 5 600\nfreed 1100\n"
+    ∷ codes "unfinished\nlive 2\nfollowed 1\nhanded 1\nrefused 0\nmoved 5\ncarrying 2\n"
     ∷ codes "refusal 9\n"
     ∷ codes "refusal 1\n"
     ∷ []

@@ -20,15 +20,22 @@ abbrev pub stateLine : Bool → List ℕ
 stateLine true = line (codes "finished")
 stateLine false = line (codes "unfinished")
 
--- the lines of every collection: a count is a line
-unfoldable pub countLines : Bool → Counts → List ℕ
-countLines finished c =
-    stateLine finished
-    ++ valued "live" (c .live)
-    ++ valued "followed" (c .followed)
-    ++ valued "handed" (c .handed)
+-- whether the collection has finished, what is marked and what was followed
+unfoldable pub foundLines : Bool → Counts → List ℕ
+foundLines finished c = stateLine finished ++ valued "live" (c .live) ++ valued "followed" (c .followed)
+
+-- what the workers did, and how many carry references now
+unfoldable pub workerLines : Counts → List ℕ
+workerLines c =
+    valued "handed" (c .handed)
     ++ valued "refused" (c .refused)
     ++ valued "moved" (c .moved)
+    ++ valued "carrying" (c .carrying)
+
+-- the lines of every collection: a count is a line
+unfoldable pub countLines : Bool → Counts → List ℕ
+unfolding foundLines workerLines
+countLines finished c = foundLines finished c ++ workerLines c
 
 -- a dead object and its size
 abbrev pub deadLine : ℕ → ℕ → List ℕ

@@ -5,7 +5,7 @@ ghost use Prim.Native.Nat.{_+_, _≤_};
 ghost use lib.ListN.{length};
 ghost use Rattle.text.specs.Text.{PutIn};
 ghost use Rattle.report.specs.Limits.{counts-room, dead-room};
-ghost use Rattle.report.specs.Lines.{refusalLine, stateLine, countLines, deadLine, deadLines, freedLine};
+ghost use Rattle.report.specs.Lines.{refusalLine, stateLine, foundLines, workerLines, countLines, deadLine, deadLines, freedLine};
 ghost use Rattle.report.specs.Ready.{Below};
 
 // The line of a refusal.
@@ -27,17 +27,34 @@ fn put_state(out: &mut [u8], at: usize, finished: bool) -> usize
     text::put(out, at, b"unfinished\n")
 }
 
+// Whether the collection has finished, what is marked and what was followed.
+fn put_found(out: &mut [u8], at: usize, finished: bool, counts: Counts) -> usize
+    requires { ⌜ at + 67 ≤ length (now out) ⌝ }
+    ensures { λ r. ⌜ PutIn 67 (now (out .entry)) at (foundLines finished counts) (now (out .exit)) r ⌝ }
+{
+    let mut end = put_state(out, at, finished);
+    end = text::put_line(out, end, b"live", counts.live);
+    text::put_line(out, end, b"followed", counts.followed)
+}
+
+// What the workers did, and how many carry references now.
+fn put_workers(out: &mut [u8], at: usize, counts: Counts) -> usize
+    requires { ⌜ at + 114 ≤ length (now out) ⌝ }
+    ensures { λ r. ⌜ PutIn 114 (now (out .entry)) at (workerLines counts) (now (out .exit)) r ⌝ }
+{
+    let mut end = text::put_line(out, at, b"handed", counts.handed);
+    end = text::put_line(out, end, b"refused", counts.refused);
+    end = text::put_line(out, end, b"moved", counts.moved);
+    text::put_line(out, end, b"carrying", counts.carrying)
+}
+
 // The lines of every collection.
 pub fn put_counts(out: &mut [u8], at: usize, finished: bool, counts: Counts) -> usize
     requires { ⌜ at + counts-room ≤ length (now out) ⌝ }
     ensures { λ r. ⌜ PutIn counts-room (now (out .entry)) at (countLines finished counts) (now (out .exit)) r ⌝ }
 {
-    let mut end = put_state(out, at, finished);
-    end = text::put_line(out, end, b"live", counts.live);
-    end = text::put_line(out, end, b"followed", counts.followed);
-    end = text::put_line(out, end, b"handed", counts.handed);
-    end = text::put_line(out, end, b"refused", counts.refused);
-    text::put_line(out, end, b"moved", counts.moved)
+    let end = put_found(out, at, finished, counts);
+    put_workers(out, end, counts)
 }
 
 // One dead line.

@@ -23,7 +23,7 @@ use Rattle.worker.specs.declared.registers.Block.{Block}
 use Rattle.worker.proofs.Blocks.{put-stored, puts-stored, store-stored}
 use Rattle.turns.specs.declared.Setup.{Setup}
 use Rattle.turns.specs.declared.Progress.{Progress}
-use Rattle.turns.specs.Counting.{movedOn, sharedOne}
+use Rattle.turns.specs.Counting.{movedOn}
 use Rattle.turns.specs.Polling.{batchedBlock, sharedBlock, givenBlock}
 use Rattle.turns.specs.Held.{memory, settingOf, stretchAt, phaseWord, nextTarget, topOf, BusyIs, Holds, Scene}
 use Rattle.turns.specs.Turned.{turned, Ready, IsPolling, IsAsked, Dividing, Divided}
@@ -104,7 +104,7 @@ module _ {G : Graph} {g : Setup} {s : State} {marks work regs : List ℕ} {p : P
   -- nobody asks: four words of the block change
   pub holds-polled : (b v : ℕ) {n : ℕ} {rs : List Run} → worker s b ≡ busy empty n poll rs
       → Holds G g (turned g b v G s)
-      (memory marks work (begun g regs b) (movedOn p 0))
+      (memory marks work (begun g regs b) (movedOn p 0 0))
   holds-polled b v {n} {rs} e =
       let r = block-room c h b (poll-low b e) in
       let low : Every (λ (w : Word). w .place < 9) (batchWords g (blockAt regs b)) = (omega arith, (omega arith, (omega arith, (omega arith, tt)))) in
@@ -120,7 +120,6 @@ module _ {G : Graph} {g : Setup} {s : State} {marks work regs : List ℕ} {p : P
         carrying = record { number = t .carrying .number; told = t .carrying .told };
         target = t .target;
       })
-      refl
       refl
       refl
       (h .marks-are)
@@ -148,7 +147,7 @@ module _ {G : Graph} {g : Setup} {s : State} {marks work regs : List ℕ} {p : P
         → Holds G g (turned g b v G s)
         (memory marks work
         (putAt (emptied g regs b) (blockAt regs b .cell - 1) 0 2)
-        (movedOn p 1))
+        (movedOn p 0 1))
     holds-refused q v =
         let i : blockAt regs b .cell - 1 ≡ a = omega (arith, asker-word) in
         let st = batched-stored b e in
@@ -158,7 +157,6 @@ module _ {G : Graph} {g : Setup} {s : State} {marks work regs : List ℕ} {p : P
         refl
         (λ i l k m. refl)
         (batched-is b e)
-        refl
         refl
         refl
         refl
@@ -205,7 +203,7 @@ module _ {G : Graph} {g : Setup} {s : State} {marks work regs : List ℕ} {p : P
           (memory marks work′
           (storeAt (storeAt regs b (sharedBlock (blockAt regs b) (min (g .batch) (half (carried rs))) (half (carried rs)) kept)) a
           (givenBlock gave (carried rs - half (carried rs))))
-          (sharedOne p))
+          (movedOn p 1 0))
       holds-shared-runs v work′ kept gave d =
           let k = half (carried rs) in
           let x = dividing k refl in
@@ -228,7 +226,6 @@ module _ {G : Graph} {g : Setup} {s : State} {marks work regs : List ℕ} {p : P
             target = poll-is b e .target ∙ first-stays k (omega (arith, two-carried));
           })
           (refl, record { number = omega (arith, hk); told = d .receiver x })
-          (omega arith)
           refl
           refl
           (h .marks-are)
@@ -249,7 +246,7 @@ module _ {G : Graph} {g : Setup} {s : State} {marks work regs : List ℕ} {p : P
           (storeAt regs b (sharedBlock (blockAt regs b) (min (g .batch) (half (blockAt regs b .carried))) (half (blockAt regs b .carried)) kept))
           (blockAt regs b .cell - 1)
           (givenBlock gave (blockAt regs b .carried - half (blockAt regs b .carried))))
-          (sharedOne p))
+          (movedOn p 1 0))
       holds-shared v work′ kept gave d =
           rw (words .0, words .1) (holds-shared-runs v work′ kept gave (rw (words .0, words .1) at d))
 
@@ -286,11 +283,11 @@ asked b t m q x =
 pub unasked : {g : Setup} {marks work regs : List ℕ} {p : Progress} (b v : ℕ) → blockAt regs b .cell ≡ 0
     → (x : Ready (IsPolling b) g (memory marks work regs p))
     → Holds (x .graph) g (turned g b v (x .graph) (x .state))
-    (memory marks work (begun g regs b) (movedOn p 0))
+    (memory marks work (begun g regs b) (movedOn p 0 0))
 unasked {g} {marks} {work} {regs} {p} b v z x = by (x .here .cell) (x .here .is)
   where
     by : (cell : Cell) → worker (x .state) b ≡ busy cell (x .here .since) poll (x .here .runs)
         → Holds (x .graph) g (turned g b v (x .graph) (x .state))
-        (memory marks work (begun g regs b) (movedOn p 0))
+        (memory marks work (begun g regs b) (movedOn p 0 0))
     by empty e = holds-polled (x .scene) (x .holds) b v e
     by (from a) e = absurd (omega (arith, z, poll-is (x .scene) (x .holds) b e .cell))

@@ -10,19 +10,19 @@ use Rattle.graph.specs.Graph.{Graph, references, target}
 use Rattle.machine.specs.Row.{countMove}
 use Rattle.machine.specs.declared.Counts.{Counts}
 use Rattle.machine.specs.Run.{Run, run}
-use Rattle.machine.specs.Machine.{State, Worker, idle, asking, denied, ended, given, busy, empty, from, Phase, poll, look, claim, worker, carriedAll, turn, asks, idleTurn, workerTurn}
-use Rattle.machine.proofs.Facts.{below-workers, busy-below, given-below, given-carries, given-runs-limit, InTargets}
+use Rattle.machine.specs.Machine.{State, Worker, idle, asking, denied, ended, given, busy, empty, from, Phase, poll, look, claim, worker, runsOf, turn, becomes, asks, idleTurn, workerTurn}
+use Rattle.machine.proofs.Facts.{below-workers, busy-below, busy-some, given-below, given-carries, given-runs-limit, InTargets}
 use Rattle.worker.specs.declared.stretch.Top.{Top}
 use Rattle.worker.specs.Stretch.{TopIs}
 use Rattle.worker.specs.Registers.{blockAt, putAt, storeAt}
 use Rattle.worker.proofs.Blocks.{put-stored, store-stored}
 use Rattle.turns.specs.declared.Setup.{Setup}
 use Rattle.turns.specs.declared.Progress.{Progress}
-use Rattle.turns.specs.Counting.{carries?, movedOn, endedOne}
+use Rattle.turns.specs.Counting.{movedOn, endedOne}
 use Rattle.turns.specs.Claiming.{takenBlock}
 use Rattle.turns.specs.Held.{memory, settingOf, stretchAt, phaseWord, nextTarget, topOf, Carrying, BusyIs, BlockIs, Holds, Scene}
 use Rattle.turns.specs.Turned.{turned}
-use Rattle.turns.proofs.Bounds.{block-room, carrying-none, carrying-some, running-at}
+use Rattle.turns.proofs.Bounds.{block-room, running-at}
 use Rattle.turns.proofs.Each.{SameBut, all-same, hold-one, hold-two}
 
 -- the state after worker b's turn, by what b is
@@ -48,11 +48,11 @@ module _ {G : Graph} {g : Setup} {s : State} {marks work regs : List ℕ} {p : P
   stays b = all-same (g .workers) (g .stretch) b work
 
   -- a refused asker wakes
-  pub holds-woken : (b v : ℕ) → worker s b ≡ denied → Holds G g (turned g b v G s) (memory marks work (putAt regs b 0 0) (movedOn p 0))
+  pub holds-woken : (b v : ℕ) → worker s b ≡ denied → Holds G g (turned g b v G s) (memory marks work (putAt regs b 0 0) (movedOn p 0 0))
   holds-woken b v e =
       let low = below-workers (c .accepted) (c .sound) b (rw e (omega arith)) in
       rw (turn-as g b v G s e)
-      (hold-one h long b low e idle work (put-stored regs b (block-room c h b low .long) 0 0 (omega arith)) refl (stays b) refl refl refl refl
+      (hold-one h long b low e idle work (put-stored regs b (block-room c h b low .long) 0 0 (omega arith)) refl (stays b) refl refl refl
       (h .marks-are)
       (ap (λ (x : Counts). countMove x 0 0) (h .counts-are)))
 
@@ -63,25 +63,30 @@ module _ {G : Graph} {g : Setup} {s : State} {marks work regs : List ℕ} {p : P
     pub idle-running : 1 ≤ p .running
     idle-running = rw e at (running-at c h b)
 
-    -- an idle worker ends
-    pub holds-ended : p .carrying ≡ 0 → Holds G g (turned g b v G s) (memory marks work (putAt regs b 0 3) (endedOne p))
+    -- it ends
+    ends-as : p .counts .carrying ≡ 0 → turned g b v G s ≡ becomes s b ended
+    ends-as z =
+        turn-as g b v G s e
+        ∙ ap (λ (k : ℕ). idleTurn k s b v) (sym (ap (λ (x : Counts). x .carrying) (h .counts-are)) ∙ z)
+
+    pub holds-ended : p .counts .carrying ≡ 0 → Holds G g (turned g b v G s) (memory marks work (putAt regs b 0 3) (endedOne p))
     holds-ended z =
-        rw (turn-as g b v G s e, carrying-none c h z)
-        (hold-one h long b idle-low e ended work (put-stored regs b (block-room c h b idle-low .long) 0 3 (omega arith)) refl (stays b) refl refl
+        rw (ends-as z)
+        (hold-one h long b idle-low e ended work (put-stored regs b (block-room c h b idle-low .long) 0 3 (omega arith)) refl (stays b) refl
         (omega (arith, rw e at (running-at c h b))) refl
         (h .marks-are)
         (ap (λ (x : Counts). countMove x 0 0) (h .counts-are)))
 
     -- it asks, by what the named worker is
-    asks-as : p .carrying ≢ 0 → turned g b v G s ≡ asks (worker s v) s b v
-    asks-as n = turn-as g b v G s e ∙ by (carriedAll s) (carrying-some c h n)
+    asks-as : p .counts .carrying ≢ 0 → turned g b v G s ≡ asks (worker s v) s b v
+    asks-as n = turn-as g b v G s e ∙ by (s .counts .carrying) (λ z. n (ap (λ (x : Counts). x .carrying) (h .counts-are) ∙ z))
       where
         by : (k : ℕ) → k ≢ 0 → idleTurn k s b v ≡ asks (worker s v) s b v
         by zero q = absurd (q refl)
         by (suc k) q = refl
 
     -- nobody is asked where the named worker is not busy with an empty cell
-    pub holds-still : p .carrying ≢ 0 → ((n : ℕ) (q : Phase) (rs : List Run) → worker s v ≡ busy empty n q rs → ⊥)
+    pub holds-still : p .counts .carrying ≢ 0 → ((n : ℕ) (q : Phase) (rs : List Run) → worker s v ≡ busy empty n q rs → ⊥)
         → Holds G g (turned g b v G s) (memory marks work regs p)
     holds-still n none = rw (asks-as n ∙ still (worker s v) refl) h
       where
@@ -95,13 +100,15 @@ module _ {G : Graph} {g : Setup} {s : State} {marks work regs : List ℕ} {p : P
         still (busy (from a) n r rs) q = refl
 
     -- it is asked
-    pub holds-asked : p .carrying ≢ 0 → v < g .workers → (n : ℕ) (q : Phase) (rs : List Run) → worker s v ≡ busy empty n q rs
-        → Holds G g (turned g b v G s) (memory marks work (putAt (putAt regs v 2 (b + 1)) b 0 1) (movedOn p 0))
+    pub holds-asked : p .counts .carrying ≢ 0 → v < g .workers → (n : ℕ) (q : Phase) (rs : List Run) → worker s v ≡ busy empty n q rs
+        → Holds G g (turned g b v G s) (memory marks work (putAt (putAt regs v 2 (b + 1)) b 0 1) (movedOn p 0 0))
     holds-asked m lv n q rs f =
         let r = block-room c h v lv in
         let st = put-stored regs v (r .long) 2 (b + 1) (omega arith) in
         let is : BusyIs G empty n q rs (blockAt regs v) (stretchAt (g .stretch) v work) = rw f at (h .each v lv) in
-        let other : b ≢ v = λ z. omega (arith, ap carries? (sym e ∙ ap (λ (i : ℕ). worker s i) z ∙ f)) in
+        let other : b ≢ v = λ z.
+        omega (arith, ap (λ (w : Worker). length (runsOf w)) (sym e ∙ ap (λ (i : ℕ). worker s i) z ∙ f), busy-some (c .accepted) (c .sound) v f)
+        in
         rw (asks-as m, f)
         (hold-two h long v lv f (busy (from b) n q rs) st b idle-low other e asking work
         (put-stored (putAt regs v 2 (b + 1)) b (rw (st .long) (block-room c h b idle-low .long)) 0 1 (omega arith))
@@ -115,7 +122,6 @@ module _ {G : Graph} {g : Setup} {s : State} {marks work regs : List ℕ} {p : P
           carrying = record { number = is .carrying .number; told = is .carrying .told };
           target = is .target;
         })
-        refl
         refl
         refl
         refl
@@ -176,7 +182,7 @@ module _ {G : Graph} {g : Setup} {s : State} {marks work regs : List ℕ} {p : P
         (given-runs-limit (c .accepted) (c .sound) b e) (given-is .1 .told .top)
 
     pub holds-taken : (v t : ℕ) → t ≡ target G (blockAt regs b .first)
-        → Holds G g (turned g b v G s) (memory marks work (storeAt regs b (takenBlock (blockAt regs b) t)) (movedOn p 0))
+        → Holds G g (turned g b v G s) (memory marks work (storeAt regs b (takenBlock (blockAt regs b) t)) (movedOn p 0 0))
     holds-taken v t q =
         rw (turn-as g b v G s e)
         (hold-one h long b given-low e (busy empty 0 poll rs) work
@@ -189,7 +195,6 @@ module _ {G : Graph} {g : Setup} {s : State} {marks work regs : List ℕ} {p : P
           carrying = record { number = given-is .1 .number; told = given-is .1 .told };
           target = q ∙ first-given .1;
         })
-        refl
         refl
         refl
         (h .marks-are)

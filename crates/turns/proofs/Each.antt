@@ -15,7 +15,7 @@ use Rattle.worker.specs.declared.registers.Block.{Block}
 use Rattle.worker.specs.Registers.{Stored}
 use Rattle.turns.specs.declared.Setup.{Setup}
 use Rattle.turns.specs.declared.Progress.{Progress}
-use Rattle.turns.specs.Counting.{carries?, running?}
+use Rattle.turns.specs.Counting.{running?}
 use Rattle.turns.specs.Held.{memory, stretchAt, BlockIs, Each, Holds}
 
 -- every stretch but b's is as it was
@@ -45,13 +45,12 @@ module _ {G : Graph} {g : Setup} {s : State} {marks work regs : List ℕ} {p : P
     (long : length (s .workers) ≡ g .workers) (b : ℕ) (low : b < g .workers) {x : Worker} (is : worker s b ≡ x) where
   pub hold-one : (w : Worker) {r : Block} {marks′ regs′ : List ℕ} (work′ : List ℕ) {p′ : Progress} → Stored regs b r regs′ → length work′ ≡ length work
       → SameBut (g .workers) (g .stretch) b work work′ → BlockIs G w r (stretchAt (g .stretch) b work′)
-      → p′ .carrying + carries? x ≡ p .carrying + carries? w → p′ .running + running? x ≡ p .running + running? w
+      → p′ .running + running? x ≡ p .running + running? w
       → {s′ : State} → s′ .workers ≡ set (s .workers) b w → marks′ ≡ s′ .marks → p′ .counts ≡ s′ .counts → Holds G g s′ (memory marks′ work′ regs′ p′)
-  hold-one w {r} {marks′} {regs′} work′ {p′} st wl same bl ca ru {s′} ws ma co =
+  hold-one w {r} {marks′} {regs′} work′ {p′} st wl same bl ru {s′} ws ma co =
       record {
         marks-are = ma;
         counts-are = co;
-        carrying-is = rw ws (omega (arith, ca, h .carrying-is, sum-set carries? ended (s .workers) b x w is (omega (arith, long))));
         running-is = rw ws (omega (arith, ru, h .running-is, sum-set running? ended (s .workers) b x w is (omega (arith, long))));
         regs-long = st .long ∙ h .regs-long;
         work-long = wl ∙ h .work-long;
@@ -64,15 +63,13 @@ module _ {G : Graph} {g : Setup} {s : State} {marks work regs : List ℕ} {p : P
       → length work′ ≡ length work
       → ((i : ℕ) → i < g .workers → i ≢ b → i ≢ a → stretchAt (g .stretch) i work′ ≡ stretchAt (g .stretch) i work)
       → BlockIs G w r (stretchAt (g .stretch) b work′) → BlockIs G z q (stretchAt (g .stretch) a work′)
-      → p′ .carrying + carries? x + carries? y ≡ p .carrying + carries? w + carries? z
       → p′ .running + running? x + running? y ≡ p .running + running? w + running? z
       → {s′ : State} → s′ .workers ≡ set (set (s .workers) b w) a z → marks′ ≡ s′ .marks → p′ .counts ≡ s′ .counts → Holds G g s′ (memory marks′ work′ regs′ p′)
-  hold-two w {r} {regs₁} st a la other {y} iy z {q} {marks′} {regs′} work′ {p′} st′ wl same bl bl′ ca ru {s′} ws ma co =
+  hold-two w {r} {regs₁} st a la other {y} iy z {q} {marks′} {regs′} work′ {p′} st′ wl same bl bl′ ru {s′} ws ma co =
       record {
         marks-are = ma;
         counts-are = co;
-        carrying-is = rw ws (omega (arith, ca, h .carrying-is, sums carries?, sums′ carries?));
-        running-is = rw ws (omega (arith, ru, h .running-is, sums running?, sums′ running?));
+        running-is = rw ws (omega (arith, ru, h .running-is, sums, sums′));
         regs-long = st′ .long ∙ st .long ∙ h .regs-long;
         work-long = wl ∙ h .work-long;
         each = rw ws each′;
@@ -84,11 +81,11 @@ module _ {G : Graph} {g : Setup} {s : State} {marks work regs : List ℕ} {p : P
       long₁ : length ws₁ ≡ g .workers
       long₁ = simp length-set long
 
-      sums : (f : Worker → ℕ) → sum f ws₁ + f x ≡ sum f (s .workers) + f w
-      sums f = sum-set f ended (s .workers) b x w is (omega (arith, long))
+      sums : sum running? ws₁ + running? x ≡ sum running? (s .workers) + running? w
+      sums = sum-set running? ended (s .workers) b x w is (omega (arith, long))
 
-      sums′ : (f : Worker → ℕ) → sum f (set ws₁ a z) + f y ≡ sum f ws₁ + f z
-      sums′ f = sum-set f ended ws₁ a y z (getD-set-other (s .workers) b a w ended other ∙ iy) (omega (arith, long₁))
+      sums′ : sum running? (set ws₁ a z) + running? y ≡ sum running? ws₁ + running? z
+      sums′ = sum-set running? ended ws₁ a y z (getD-set-other (s .workers) b a w ended other ∙ iy) (omega (arith, long₁))
 
       each′ : Each G (g .workers) (g .stretch) (set ws₁ a z) regs′ work′
       each′ i li =

@@ -114,7 +114,7 @@ module _ {g : Setup} {targets : List ℕ} {b : ℕ} {marks work regs : List ℕ}
 
   -- an unmarked one: the next turn is a claim
   pub holds-claims : getD marks (blockAt regs b .target) 0 ≡ 0 → (v : ℕ)
-      → Holds (x .graph) g (turned g b v (x .graph) (x .state)) (memory marks work (putAt regs b 0 7) (movedOn p 0))
+      → Holds (x .graph) g (turned g b v (x .graph) (x .state)) (memory marks work (putAt regs b 0 7) (movedOn p 0 0))
   holds-claims z v =
       rw (look-as v, z)
       (hold-one (x .holds) (x .scene .sound .workers-length) b look-low is
@@ -130,7 +130,6 @@ module _ {g : Setup} {targets : List ℕ} {b : ℕ} {marks work regs : List ℕ}
         carrying = record { number = held .carrying .number; told = held .carrying .told };
         target = held .target;
       })
-      refl
       refl
       refl
       (x .holds .marks-are)

@@ -16,8 +16,8 @@ use Rattle.graph.specs.Graph.{Graph, references, target}
 use Rattle.machine.specs.Row.{countFollow}
 use Rattle.machine.specs.declared.Counts.{Counts}
 use Rattle.machine.specs.Run.{Run, run, runFrom, carried}
-use Rattle.machine.specs.Machine.{Worker, idle, denied, busy, Cell, empty, from, phase, worker, onward, dismiss, dismissed, onwardRuns, follows}
-use Rattle.machine.proofs.Facts.{busy-below, busy-carried-limit, busy-room, busy-runs-limit, first-run-limit, asker-asking, asker-below, asker-other, InTargets}
+use Rattle.machine.specs.Machine.{Worker, idle, denied, busy, Cell, empty, from, phase, worker, onward, dismiss, dismissed, emptied, onwardRuns, follows}
+use Rattle.machine.proofs.Facts.{busy-below, busy-carried, busy-carried-limit, busy-room, busy-runs-limit, first-run-limit, asker-asking, asker-below, asker-other, InTargets, carrying-at}
 use Rattle.machine.proofs.Runs.{carried-append, carried-from}
 use Rattle.machine.proofs.Step.{phase-batch}
 use Rattle.worker.specs.declared.registers.Block.{Block}
@@ -30,11 +30,11 @@ use Rattle.worker.proofs.Next.{some?, next-told, next-goes-on, length-next}
 use Rattle.turns.specs.declared.Setup.{Setup}
 use Rattle.turns.specs.declared.Progress.{Progress}
 use Rattle.turns.specs.declared.follow.Opened.{Opened}
-use Rattle.turns.specs.Counting.{followedOn, emptiedOne}
+use Rattle.turns.specs.Counting.{followedOn}
 use Rattle.turns.specs.Claiming.{nextWord, advancedBlock, Advanceable, stoppedCount, stoppedAt}
 use Rattle.turns.specs.Held.{memory, stretchAt, cellWord, phaseWord, topOf, BusyIs, Holds, Scene}
 use Rattle.turns.specs.Turned.{turned, Ready, IsFollowing}
-use Rattle.turns.proofs.Bounds.{block-room, stretch-room, stretch-limit, carrying-at}
+use Rattle.turns.proofs.Bounds.{block-room, stretch-room, stretch-limit}
 use Rattle.turns.proofs.Parts.{length-stretch, length-back, back-here, back-other}
 use Rattle.turns.proofs.Each.{SameBut, hold-one, hold-two}
 use Rattle.turns.proofs.Asking.{first-told}
@@ -46,10 +46,11 @@ word-phase (suc k) = refl
 
 -- a worker that goes on, and one that is left with nothing
 gone-on : (ws : List Worker) (b n k : ℕ) (cell : Cell) (rs : List Run) → 0 < length rs
-    → (dismiss cell rs (set ws b (onward cell n k rs)) ≡ set ws b (busy cell n (phase k) rs)) × (dismissed cell rs ≡ 0)
+    → (dismiss cell rs (set ws b (onward cell n k rs)) ≡ set ws b (busy cell n (phase k) rs))
+    × ((c : Counts) (w : ℕ) → countFollow c w (dismissed cell rs) (emptied rs) ≡ countFollow c w 0 0)
 gone-on ws b n k cell [] some = absurd (omega arith)
-gone-on ws b n k empty (r ∷ rs) some = (refl, refl)
-gone-on ws b n k (from a) (r ∷ rs) some = (refl, refl)
+gone-on ws b n k empty (r ∷ rs) some = (refl, λ c w. refl)
+gone-on ws b n k (from a) (r ∷ rs) some = (refl, λ c w. refl)
 
 some-runs : (rs : List Run) → some? rs ≡ true → 0 < length rs
 some-runs [] e = let z : _≡_ {A = ℕ} 0 1 = cc in absurd (omega arith)
@@ -158,8 +159,10 @@ module _ {g : Setup} {targets marks′ : List ℕ} {o : Opened} {b : ℕ} {marks
       (from-limit (x .graph) (o .first) (o .end - o .first) (omega (arith, y .order, y .limit)))
       (l .1))
 
-  pub carries-one : 1 ≤ p .carrying
-  carries-one = rw (y .is) at (carrying-at c (x .holds) b)
+  -- it counts as carrying
+  pub carries-one : 1 ≤ p .counts .carrying
+  carries-one =
+      rw (x .holds .counts-are) (carrying-at (c .accepted) (c .sound) b (rw (y .is) (busy-carried (c .accepted) (c .sound) b (y .is))))
 
   -- an asker in the cell has a block
   pub asker-room : block .cell ≢ 0 → Room regs (block .cell - 1)
@@ -223,10 +226,10 @@ module _ {g : Setup} {targets marks′ : List ℕ} {o : Opened} {b : ℕ} {marks
   others a l n =
       rw whole at (back-other (g .stretch) b work words (stretch-room c (x .holds) b follow-low) words-long (b * g .stretch + g .stretch) refl a n)
 
-  counts : (k : ℕ) → countFollow (p .counts) (o .won) k ≡ countFollow (x .state .counts) (y .found .won) k
-  counts k =
-      ap (λ (n : Counts). countFollow n (o .won) k) (x .holds .counts-are)
-      ∙ ap (λ (i : ℕ). countFollow (x .state .counts) i k) (y .won-is)
+  counts : (k m : ℕ) → countFollow (p .counts) (o .won) k m ≡ countFollow (x .state .counts) (y .found .won) k m
+  counts k m =
+      ap (λ (n : Counts). countFollow n (o .won) k m) (x .holds .counts-are)
+      ∙ ap (λ (i : ℕ). countFollow (x .state .counts) i k m) (y .won-is)
 
   state : (v : ℕ) → turned g b v (x .graph) (x .state) ≡ follows (x .state) b (y .cell) (y .since) (y .left) (y .found) runs
   state v = y .turn-is v ∙ ap (λ (l : List Run). follows (x .state) b (y .cell) (y .since) (y .left) (y .found) (onwardRuns (y .first) (y .more) l (y .below))) (y .opened-is)
@@ -234,7 +237,7 @@ module _ {g : Setup} {targets marks′ : List ℕ} {o : Opened} {b : ℕ} {marks
   -- something is left
   pub holds-onward : goesOn (topOf block) (o .first) (o .end) ≡ true → {regs′ : List ℕ}
       → Stored regs b (advancedBlock block (o .first) (o .end) top (getD targets (top .first) 0)) regs′ → (v : ℕ)
-      → Holds (x .graph) g (turned g b v (x .graph) (x .state)) (memory marks′ after regs′ (followedOn p (o .won)))
+      → Holds (x .graph) g (turned g b v (x .graph) (x .state)) (memory marks′ after regs′ (followedOn p (o .won) 0 0))
   holds-onward l st v =
       let some = some-runs runs (sym left-is ∙ l) in
       let on = gone-on (x .state .workers) b (suc (y .since)) (y .left) (y .cell) runs some in
@@ -260,14 +263,13 @@ module _ {g : Setup} {targets marks′ : List ℕ} {o : Opened} {b : ℕ} {marks
             ∙ first-told (x .graph) runs top some limits (told .top) .1;
       }))
       refl
-      refl
       (on .0)
       (y .marks-are)
-      (counts 0 ∙ ap (λ (i : ℕ). countFollow (x .state .counts) (y .found .won) i) (sym (on .1))))
+      (counts 0 0 ∙ sym (on .1 (x .state .counts) (y .found .won))))
 
   -- nothing is left
   pub holds-stopped : goesOn (topOf block) (o .first) (o .end) ≡ false → (v : ℕ) → {work′ regs′ : List ℕ} {q : Progress} → work′ ≡ after
-      → regs′ ≡ stoppedAt regs b (block .cell) → q ≡ emptiedOne p (o .won) (stoppedCount (block .cell))
+      → regs′ ≡ stoppedAt regs b (block .cell) → q ≡ followedOn p (o .won) (stoppedCount (block .cell)) 1
       → Holds (x .graph) g (turned g b v (x .graph) (x .state)) (memory marks′ work′ regs′ q)
   holds-stopped l v ew er eq = rw (emptied v, ew, er, eq) (by (y .cell) (y .is) (is .cell))
     where
@@ -279,7 +281,7 @@ module _ {g : Setup} {targets marks′ : List ℕ} {o : Opened} {b : ℕ} {marks
       by : (cell : Cell) → worker (x .state) b ≡ busy cell (y .since) (y .phase) (run (y .first) (y .more) ∷ y .below)
           → block .cell ≡ cellWord cell
           → Holds (x .graph) g (follows (x .state) b cell (y .since) (y .left) (y .found) [])
-          (memory marks′ after (stoppedAt regs b (block .cell)) (emptiedOne p (o .won) (stoppedCount (block .cell))))
+          (memory marks′ after (stoppedAt regs b (block .cell)) (followedOn p (o .won) (stoppedCount (block .cell)) 1))
       by empty e q =
           rw q
           (hold-one (x .holds) (c .sound .workers-length) b follow-low (y .is) idle after
@@ -287,11 +289,10 @@ module _ {g : Setup} {targets marks′ : List ℕ} {o : Opened} {b : ℕ} {marks
           after-long
           others
           refl
-          (omega (arith, carries-one))
           refl
           refl
           (y .marks-are)
-          (counts 0))
+          (counts 0 1))
       by (from a) e q =
           let la = asker-below (c .accepted) (c .sound) b e in
           let st = put-stored regs b (block-room c (x .holds) b follow-low .long) 0 0 (omega arith) in
@@ -307,8 +308,7 @@ module _ {g : Setup} {targets marks′ : List ℕ} {o : Opened} {b : ℕ} {marks
           (λ j lj nb na. others j lj nb)
           refl
           refl
-          (omega (arith, carries-one))
           refl
           refl
           (y .marks-are)
-          (counts 1))
+          (counts 1 1))

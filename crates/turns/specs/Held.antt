@@ -16,7 +16,7 @@ use Rattle.worker.specs.Registers.{blockAt, block-words, status-idle, status-as
 use Rattle.worker.specs.Stretch.{topWith, Told}
 use Rattle.turns.specs.declared.Setup.{Setup}
 use Rattle.turns.specs.declared.Progress.{Progress}
-use Rattle.turns.specs.Counting.{carries?, running?}
+use Rattle.turns.specs.Counting.{running?}
 
 -- what is lent and changed by turns, and what is kept by value
 pub record Memory : Type 0 where
@@ -91,7 +91,6 @@ Each G W L ws regs work = (b : ℕ) → b < W → BlockIs G (getD ws b ended) (b
 pub record Holds (G : Graph) (g : Setup) (s : State) (μ : Memory) : Type 0 where
   pub marks-are : μ .marks ≡ s .marks
   pub counts-are : μ .progress .counts ≡ s .counts
-  pub carrying-is : μ .progress .carrying ≡ sum carries? (s .workers)
   pub running-is : μ .progress .running ≡ sum running? (s .workers)
   pub regs-long : length (μ .regs) ≡ block-words * g .workers
   pub work-long : length (μ .work) ≡ g .workers * g .stretch

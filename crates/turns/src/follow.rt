@@ -179,15 +179,13 @@ fn follow(
         c.end,
     ) {
         return Progress {
-            counts: machine::count_follow(counts, c.won, 0),
-            carrying: p.carrying,
+            counts: machine::count_follow(counts, c.won, 0, 0),
             running: p.running,
         };
     }
     let refused = stop(regs, b, r.cell);
     Progress {
-        counts: machine::count_follow(counts, c.won, refused),
-        carrying: p.carrying - 1,
+        counts: machine::count_follow(counts, c.won, refused, 1),
         running: p.running,
     }
 }
@@ -214,7 +212,7 @@ pub fn look(
         return follow(targets, setup, work, regs, p, b, r, lost());
     }
     registers::put(regs, b, registers::STATUS, registers::CLAIM);
-    crate::moved(p, 0)
+    crate::moved(p, 0, 0)
 }
 
 // A claim; the reference is followed, whether the claim is won or lost.
@@ -248,5 +246,5 @@ pub fn take_up(targets: &[u32], setup: Setup, regs: &mut [u32], p: Progress, b: 
     let r = registers::load(regs, b);
     let first = r.first as usize;
     registers::store(regs, b, taken(r, targets[first]));
-    crate::moved(p, 0)
+    crate::moved(p, 0, 0)
 }

@@ -15,13 +15,12 @@ pub fn idle_turn(setup: Setup, regs: &mut [u32], p: Progress, b: u32, v: u32) ->
         (memory marks work (now (regs .entry)) p)
         (memory marks work (now (regs .exit)) r)) ⌝ }
 {
-    let carrying = p.carrying;
+    let counts = p.counts;
+    let carrying = counts.carrying;
     if carrying == 0 {
         registers::put(regs, b, registers::STATUS, registers::ENDED);
-        let counts = p.counts;
         return Progress {
             counts: machine::count_move(counts, 0, 0),
-            carrying,
             running: p.running - 1,
         };
     }
@@ -40,5 +39,5 @@ pub fn idle_turn(setup: Setup, regs: &mut [u32], p: Progress, b: u32, v: u32) ->
     }
     registers::put(regs, v, registers::CELL, b + 1);
     registers::put(regs, b, registers::STATUS, registers::ASKING);
-    crate::moved(p, 0)
+    crate::moved(p, 0, 0)
 }

@@ -20,23 +20,20 @@ pub struct Setup {
     pub stretch: usize,
 }
 
-// How far a collection is: its counts, how many workers carry references, and how many have not
-// ended.
+// How far a collection is: its counts, and how many workers have not ended.
 pub struct Progress {
     pub counts: Counts,
-    pub carrying: u32,
     pub running: u32,
 }
 
-// After a turn that follows nothing and leaves as many workers carrying and running.
-fn moved(p: Progress, refused: u64) -> Progress
-    requires { ⌜ Roomy (p .counts) × (refused ≤ 1) ⌝ }
-    ensures { λ r. ⌜ r ≡ movedOn p refused ⌝ }
+// After a turn that follows nothing and leaves as many workers running.
+fn moved(p: Progress, handed: u64, refused: u64) -> Progress
+    requires { ⌜ Roomy (p .counts) × (handed ≤ 1) × (refused ≤ 1) ⌝ }
+    ensures { λ r. ⌜ r ≡ movedOn p handed refused ⌝ }
 {
     let counts = p.counts;
     Progress {
-        counts: machine::count_move(counts, 0, refused),
-        carrying: p.carrying,
+        counts: machine::count_move(counts, handed, refused),
         running: p.running,
     }
 }
@@ -64,7 +61,7 @@ pub fn turn(
         registers::IDLE => idle::idle_turn(setup, regs, p, b, v),
         registers::DENIED => {
             registers::put(regs, b, registers::STATUS, registers::IDLE);
-            moved(p, 0)
+            moved(p, 0, 0)
         }
         registers::GIVEN => follow::take_up(targets, setup, regs, p, b),
         registers::POLL => poll::poll(setup, work, regs, p, b),

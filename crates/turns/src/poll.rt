@@ -138,12 +138,7 @@ fn share(
     let parts = divide(work, setup.stretch, b, asker, top, half);
     registers::store(regs, b, shared(r, setup.batch, half, parts.kept));
     registers::store(regs, asker, given(parts.given, carried - half));
-    let counts = p.counts;
-    Progress {
-        counts: machine::count_move(counts, 1, 0),
-        carrying: p.carrying + 1,
-        running: p.running,
-    }
+    crate::moved(p, 1, 0)
 }
 
 // The asker is answered no.
@@ -159,7 +154,7 @@ fn refuse(setup: Setup, regs: &mut [u32], p: Progress, b: u32, r: Block) -> Prog
     registers::put(regs, b, registers::CELL, 0);
     registers::begin(regs, b, batch, r.since + batch, carried - batch);
     registers::put(regs, r.cell - 1, registers::STATUS, registers::DENIED);
-    crate::moved(p, 1)
+    crate::moved(p, 0, 1)
 }
 
 // Whether a poll shares: where more than K are carried, or where since is at least K and at least 2
@@ -189,7 +184,7 @@ pub fn poll(setup: Setup, work: &mut [u32], regs: &mut [u32], p: Progress, b: u3
         let carried = r.carried;
         let batch = least(setup.batch, carried);
         registers::begin(regs, b, batch, r.since + batch, carried - batch);
-        return crate::moved(p, 0);
+        return crate::moved(p, 0, 0);
     }
     if shares(setup.cutoff, r.since, r.carried) {
         return share(setup, work, regs, p, b, r);

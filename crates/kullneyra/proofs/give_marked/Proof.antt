@@ -25,7 +25,7 @@ returns-3 c =
     let at-answer3 = c .before .before in
     let start = at-answer3 .before .before .before in
     let v = at-answer3 .answer3 .given in
-    (rw (v .1) (c .number-of .ensures), rw (v .1) (kept (v .0 .0) (resultWords 0 (freshCounts 0)) (start .args .result .now)))
+    (rw (v .1) (c .number-of .ensures), rw (v .1) (kept (v .0 .0) (resultWords 0 (freshCounts 0 0)) (start .args .result .now)))
 
 pub give-marked-spec : {M : Type 1} → statement M
 give-marked-spec =

@@ -10,6 +10,9 @@ use Rattle.machine.proofs.put_counts.Tie as tie
 slice-write-words-5 : tie.Need-slice-write-words-5
 slice-write-words-5 c = simp length-set (omega arith)
 
+slice-write-words-6 : tie.Need-slice-write-words-6
+slice-write-words-6 c = simp length-set (omega arith)
+
 returns : tie.Need-returns
 returns c = let a = c .args in
     sets-all (countWords (a .c)) (a .words .now) (c .pre)
@@ -18,4 +21,4 @@ pub put-counts-spec : {M : Type 1} → statement M
 put-counts-spec =
     tie.close
     (tie.spec (λ c. search needs) (λ c. search needs) (λ c. search needs) (λ c. search needs) slice-write-words-5
-    (λ c. search needs) returns)
+    slice-write-words-6 (λ c. search needs) returns)

@@ -37,7 +37,7 @@ moved-requires : tie.Need-moved-requires
 moved-requires c κs =
     let start = c .before .before .before .before .before .before .before .before .before .before .before .before in
     let x = start .pre in
-    (roomy (x .scene) (x .holds), omega arith)
+    (roomy (x .scene) (x .holds), omega arith, omega arith)
 
 take-up-requires : tie.Need-take-up-requires
 take-up-requires c κs =

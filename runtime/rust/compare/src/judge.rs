@@ -107,10 +107,13 @@ fn leaving_unmarked(call: &Mark, marks: &[u64]) -> u64 {
 fn run_demands(call: &Mark, got: &After) -> Result<(), String> {
     let (marks, work, result) = (got.lent(0), got.lent(1), got.lent(2));
     let (found, leaving) = reached(&call.offsets, &call.targets, call.index);
-    let Marked { finished, live, followed, handed, moved, .. } = got.marked();
+    let Marked { finished, live, followed, handed, moved, carrying, .. } = got.marked();
     let most = leaving as u64;
     let bound = 7 * most + u64::from(call.workers);
-    let total = carried(&work, 2 * marks.len() + 4).map(|c| followed + c + leaving_unmarked(call, &marks));
+    let stretch = 2 * marks.len() + 4;
+    // The stretch of a worker that carries references begins with a run, whose end is above 0.
+    let loaded = work.chunks_exact(stretch).filter(|words| words[1] > 0).count() as u64;
+    let total = carried(&work, stretch).map(|c| followed + c + leaving_unmarked(call, &marks));
     let mut checks = vec![
         ("marks are 0 or 1", marks.iter().all(|&mark| mark < 2)),
         ("live is the number of marks", live == marks.iter().sum::<u64>()),
@@ -121,6 +124,7 @@ fn run_demands(call: &Mark, got: &After) -> Result<(), String> {
         ("followed is at most R", followed <= most),
         ("handed times K is at most 3R", handed * u64::from(call.cutoff) <= 3 * most),
         ("moved is at most 7R + W", moved <= bound),
+        ("carrying is the number of workers with runs", carrying == loaded),
         ("finished is 0 or 1", result[0] < 2),
     ];
     if finished {

@@ -215,21 +215,23 @@ pub struct Marked {
     pub refused: u64,
     /// Turns that changed something.
     pub moved: u64,
+    /// Workers that carry references now; 0 where nothing is left to follow.
+    pub carrying: u64,
 }
 
 impl Marked {
     /// How many result words [`raw::mark`] has.
-    pub const WORDS: usize = 6;
+    pub const WORDS: usize = 7;
 
     /// These result words by name.
-    pub fn from_words([finished, live, followed, handed, refused, moved]: [u64; Self::WORDS]) -> Self {
-        Marked { finished: finished == 1, live, followed, handed, refused, moved }
+    pub fn from_words([finished, live, followed, handed, refused, moved, carrying]: [u64; Self::WORDS]) -> Self {
+        Marked { finished: finished == 1, live, followed, handed, refused, moved, carrying }
     }
 
     /// The result words.
     pub fn words(self) -> [u64; Self::WORDS] {
-        let Marked { finished, live, followed, handed, refused, moved } = self;
-        [u64::from(finished), live, followed, handed, refused, moved]
+        let Marked { finished, live, followed, handed, refused, moved, carrying } = self;
+        [u64::from(finished), live, followed, handed, refused, moved, carrying]
     }
 }
 

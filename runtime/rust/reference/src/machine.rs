@@ -22,15 +22,17 @@ pub struct Outcome {
     pub handed: u64,
     pub refused: u64,
     pub moved: u64,
+    pub carrying: u64,
 }
 
 impl Outcome {
     /// How many result words the C function has.
-    pub const WORDS: usize = 6;
+    pub const WORDS: usize = 7;
 
     /// The result words of the C function.
     pub fn words(self) -> [u64; Self::WORDS] {
-        [u64::from(self.finished), self.live, self.followed, self.handed, self.refused, self.moved]
+        let Outcome { finished, live, followed, handed, refused, moved, carrying } = self;
+        [u64::from(finished), live, followed, handed, refused, moved, carrying]
     }
 }
 
@@ -67,7 +69,6 @@ struct Machine<'a> {
     cutoff: u32,
     marks: &'a mut [u8],
     workers: Vec<Worker>,
-    carried: u64,
     followed: u64,
     handed: u64,
     refused: u64,
@@ -75,6 +76,11 @@ struct Machine<'a> {
 }
 
 impl Machine<'_> {
+    /// How many workers carry references: counted over them each time.
+    fn carrying(&self) -> u64 {
+        self.workers.iter().filter(|one| one.carried > 0).count() as u64
+    }
+
     /// One turn of worker b, naming another; whether it changed something.
     fn turn(&mut self, b: usize, named: usize) -> bool {
         match self.workers[b].status {
@@ -97,7 +103,7 @@ impl Machine<'_> {
     }
 
     fn idle(&mut self, b: usize, named: usize) -> bool {
-        if self.carried == 0 {
+        if self.carrying() == 0 {
             self.workers[b].status = Status::Ended;
             return true;
         }
@@ -177,13 +183,11 @@ impl Machine<'_> {
         let me = &mut self.workers[b];
         let (first, end) = me.runs.pop().unwrap();
         me.carried -= 1;
-        self.carried -= 1;
         if let Some(v) = claimed {
             let (from, to) = (self.offsets[v], self.offsets[v + 1]);
             if from < to {
                 me.runs.push((from, to));
                 me.carried += to - from;
-                self.carried += (to - from) as u64;
             }
         }
         if first + 1 < end {
@@ -260,7 +264,6 @@ pub fn mark(call: Call<'_>, marks: &mut [u8], work: &mut [u32]) -> Result<Outcom
         cutoff,
         marks,
         workers: all,
-        carried: (to - from) as u64,
         followed: 0,
         handed: 0,
         refused: 0,
@@ -286,6 +289,7 @@ pub fn mark(call: Call<'_>, marks: &mut [u8], work: &mut [u32]) -> Result<Outcom
         handed: machine.handed,
         refused: machine.refused,
         moved: machine.moved,
+        carrying: machine.carrying(),
     })
 }
 
@@ -336,15 +340,15 @@ mod tests {
     #[test]
     fn drawings() {
         let a = [0, 1, 0, 0, 0, 1, 1, 0, 1, 0, 0, 0, 1, 0, 1, 1, 0, 1];
-        assert_eq!(run(&OFFSETS, &TARGETS, 2, 1, 1, &a), [1, 4, 5, 1, 0, 18]);
-        assert_eq!(run(&OFFSETS, &TARGETS, 2, 1, 1, &a[..5]), [0, 2, 1, 1, 0, 5]);
-        assert_eq!(run(&OFFSETS, &TARGETS, 2, 1, 2, &a[..5]), [0, 2, 1, 0, 1, 5]);
-        assert_eq!(run(&OFFSETS, &TARGETS, 1, 2, 1, &[0; 12]), [1, 4, 5, 0, 0, 12]);
-        assert_eq!(run(&OFFSETS, &TARGETS, 1, 2, 1, &[0; 11]), [0, 4, 5, 0, 0, 11]);
-        assert_eq!(run(&[0, 0], &[], 1, 1, 1, &[]), [0, 1, 0, 0, 0, 0]);
-        assert_eq!(run(&[0, 0], &[], 1, 1, 1, &[0]), [1, 1, 0, 0, 0, 1]);
-        assert_eq!(run(&[0, 0], &[], 2, 1, 1, &[0, 0]), [0, 1, 0, 0, 0, 1]);
-        assert_eq!(run(&[0, 1], &[0], 1, 1, 1, &[0; 3]), [1, 1, 1, 0, 0, 3]);
-        assert_eq!(run(&[0, 2, 2], &[1, 1], 1, 2, 1, &[0; 5]), [1, 2, 2, 0, 0, 5]);
+        assert_eq!(run(&OFFSETS, &TARGETS, 2, 1, 1, &a), [1, 4, 5, 1, 0, 18, 0]);
+        assert_eq!(run(&OFFSETS, &TARGETS, 2, 1, 1, &a[..5]), [0, 2, 1, 1, 0, 5, 2]);
+        assert_eq!(run(&OFFSETS, &TARGETS, 2, 1, 2, &a[..5]), [0, 2, 1, 0, 1, 5, 1]);
+        assert_eq!(run(&OFFSETS, &TARGETS, 1, 2, 1, &[0; 12]), [1, 4, 5, 0, 0, 12, 0]);
+        assert_eq!(run(&OFFSETS, &TARGETS, 1, 2, 1, &[0; 11]), [0, 4, 5, 0, 0, 11, 0]);
+        assert_eq!(run(&[0, 0], &[], 1, 1, 1, &[]), [0, 1, 0, 0, 0, 0, 0]);
+        assert_eq!(run(&[0, 0], &[], 1, 1, 1, &[0]), [1, 1, 0, 0, 0, 1, 0]);
+        assert_eq!(run(&[0, 0], &[], 2, 1, 1, &[0, 0]), [0, 1, 0, 0, 0, 1, 0]);
+        assert_eq!(run(&[0, 1], &[0], 1, 1, 1, &[0; 3]), [1, 1, 1, 0, 0, 3, 0]);
+        assert_eq!(run(&[0, 2, 2], &[1, 1], 1, 2, 1, &[0; 5]), [1, 2, 2, 0, 0, 5, 0]);
     }
 }

@@ -47,6 +47,7 @@ fn collection(store: &[u8], order: &[u8]) -> Result<String, u8> {
         ("handed", outcome.handed),
         ("refused", outcome.refused),
         ("moved", outcome.moved),
+        ("carrying", outcome.carrying),
     ];
     for (name, count) in counts {
         writeln!(text, "{name} {count}").expect("text");

@@ -345,6 +345,7 @@ pub fn mark(call: Call<'_>, marks: &mut [u8], work: &mut [u32]) -> Result<Outcom
     let mut machine = Machine { offsets, targets, batch, cutoff, marks, work, workers: blocks, counts };
     let moved = machine.turns(schedule);
     let carried = machine.settle(stretch);
-    let Counts { opened, live, handed, refused, awake, .. } = machine.counts;
-    Ok(Outcome { finished: awake == 0, live, followed: opened - carried, handed, refused, moved })
+    let Counts { opened, live, handed, refused, carrying, awake } = machine.counts;
+    let carrying = u64::from(carrying);
+    Ok(Outcome { finished: awake == 0, live, followed: opened - carried, handed, refused, moved, carrying })
 }

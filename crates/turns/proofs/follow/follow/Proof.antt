@@ -48,7 +48,7 @@ count-follow-requires : tie.Need-count-follow-requires
 count-follow-requires c κs =
     let start = entry (c .before .before .before .before .before) in
     let x = start .pre .1 .1 .1 in
-    (roomy (x .scene) (x .holds), x .here .won-limit, omega arith)
+    (roomy (x .scene) (x .holds), x .here .won-limit, omega arith, omega arith)
 
 returns : tie.Need-returns
 returns c =
@@ -76,17 +76,11 @@ count-follow-requires-2 c κs =
     let at-stop = c .before .before in
     let start = entry (at-stop .before .before .before .before .before .before .before) in
     let x = start .pre .1 .1 .1 in
-    (roomy (x .scene) (x .holds), x .here .won-limit, omega (arith, at-stop .stop .ensures .0, stopped-one (start .args .r .cell)))
-
-sub-t26 : tie.Need-sub-t26
-sub-t26 c =
-    let start = entry (c .before .before .before .before .before .before .before .before .before .before .before) in
-    carries-one (start .pre .1 .1 .1)
+    (roomy (x .scene) (x .holds), x .here .won-limit, omega (arith, at-stop .stop .ensures .0, stopped-one (start .args .r .cell)), omega (arith, carries-one x))
 
 returns-2 : tie.Need-returns-2
 returns-2 c =
-    let at-count-follow2 = c .before in
-    let at-stop = at-count-follow2 .before .before .before in
+    let at-stop = c .before .before .before in
     let at-if1 = at-stop .before .before in
     let at-advance = at-if1 .before .before .before .before .before in
     let start = entry at-advance in
@@ -97,11 +91,11 @@ returns-2 c =
     let regs = rw (d .nothing t, start .pre .0) at (at-stop .stop .ensures .1) in
     let refused = rw (start .pre .0) at (at-stop .stop .ensures .0) in
     λ marks marks′ v x.
-    holds-stopped x (sym (d .says) ∙ t) v (rw (d .words, m)) regs (rw (at-count-follow2 .count-follow2 .ensures, refused))
+    holds-stopped x (sym (d .says) ∙ t) v (rw (d .words, m)) regs (rw (c .count-follow2 .ensures, refused))
 
 pub follow-spec : {M : Type 1} → statement M
 follow-spec =
     tie.close
     (tie.spec mul-from add-advance mul-advance (λ c. search needs) (λ c. search needs) part-advance-end advance-requires
-    count-follow-requires (λ c. search needs) (λ c. search needs) returns stop-requires count-follow-requires-2 sub-t26
+    count-follow-requires (λ c. search needs) (λ c. search needs) returns stop-requires count-follow-requires-2
     (λ c. search needs) (λ c. search needs) returns-2)

@@ -46,7 +46,7 @@ moved-requires : tie.Need-moved-requires
 moved-requires c κs =
     let start = c .before .before .before .before .before .before .before .before .before .before .before .before .before in
     let x = start .pre in
-    (roomy (x .scene) (x .holds), omega arith)
+    (roomy (x .scene) (x .holds), omega arith, omega arith)
 
 returns-2 : tie.Need-returns-2
 returns-2 c =

@@ -30,7 +30,7 @@ moved-requires : tie.Need-moved-requires
 moved-requires c κs =
     let start = c .before .before .before .before .before .before .before .before .before .before .before in
     let x = start .pre .1 .1 in
-    (roomy (x .scene) (x .holds), omega arith)
+    (roomy (x .scene) (x .holds), omega arith, omega arith)
 
 returns : tie.Need-returns
 returns c =

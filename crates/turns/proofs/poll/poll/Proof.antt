@@ -47,7 +47,7 @@ moved-requires : tie.Need-moved-requires
 moved-requires c κs =
     let start = entry (c .before .before .before .before .before .before .before) in
     let x = start .pre .1 in
-    (roomy (x .scene) (x .holds), omega arith)
+    (roomy (x .scene) (x .holds), omega arith, omega arith)
 
 returns : tie.Need-returns
 returns c =

@@ -5,7 +5,7 @@ use mathlib.Core.Path.{ap}
 use Rattle.worker.specs.declared.registers.Block.{Block}
 use Rattle.machine.specs.Run.{carried}
 use Rattle.machine.proofs.Facts.{busy-carried-limit}
-use Rattle.turns.proofs.Bounds.{block-room, roomy, carrying-limit}
+use Rattle.turns.proofs.Bounds.{block-room, roomy}
 use borrow.Author.Needs.{needs}
 use Rattle.turns.proofs.poll.share.Statement.{statement}
 use Rattle.turns.proofs.poll.share.Tie as tie
@@ -35,38 +35,38 @@ divide-requires c κs =
     let x = start .pre .1 .1 in
     rw (start .pre .0) (dividing-words (x .scene) (x .holds) (start .args .b) (x .here .is) (x .here .answers))
 
+-- back from the blocks that are written to the work memory that is divided, and from there to the entry
+abbrev divided : tie.After-store → tie.After-divide
+divided c = c .before .before .before .before .before
+
+abbrev entry : tie.After-divide → tie.Start
+entry c = c .before .before .before .before .before
+
 store-requires : tie.Need-store-requires
 store-requires c κs =
-    let start = c .before .before .before .before .before .before .before .before .before in
+    let start = entry (c .before .before .before .before) in
     let x = start .pre .1 .1 in
     block-room (x .scene) (x .holds) (start .args .b) (poll-low (x .scene) (x .holds) (start .args .b) (x .here .is))
 
 store-requires-2 : tie.Need-store-requires-2
 store-requires-2 c κs =
     let at-store = c .before .before .before .before in
-    let start = at-store .before .before .before .before .before .before .before .before .before .before in
+    let start = entry (divided at-store) in
     let x = start .pre .1 .1 in
     let i = asker-word (x .scene) (x .holds) (start .args .b) (x .here .is) in
     let r = block-room (x .scene) (x .holds) (x .here .asker) (asker-low (x .scene) (x .holds) (start .args .b) (x .here .is)) in
     let e = ap (λ (r : Block). r .cell) (start .pre .0) in
     record { low = omega (arith, e, i, r .low); long = omega (arith, e, i, r .long, at-store .store .kept .0) }
 
-count-move-requires : tie.Need-count-move-requires
-count-move-requires c κs =
-    let start = c .before .before .before .before .before .before .before .before .before .before .before .before .before .before .before .before .before .before in
+moved-requires : tie.Need-moved-requires
+moved-requires c κs =
+    let start = entry (divided (c .before .before .before .before .before .before .before)) in
     let x = start .pre .1 .1 in
     (roomy (x .scene) (x .holds), omega arith, omega arith)
 
-add-t13 : tie.Need-add-t13
-add-t13 c =
-    let start = c .before .before .before .before .before .before .before .before .before .before .before .before .before .before .before .before .before .before .before .before in
-    let x = start .pre .1 .1 in
-    omega (arith, carrying-limit (x .scene) (x .holds))
-
 returns : tie.Need-returns
 returns c =
-    let at-count-move = c .before in
-    let at-store2 = at-count-move .before .before .before .before in
+    let at-store2 = c .before .before .before in
     let at-given = at-store2 .before in
     let at-store = at-given .before .before .before .before in
     let at-shared = at-store .before in
@@ -74,12 +74,11 @@ returns c =
     let start = at-divide .before .before .before .before .before in
     let d = rw (start .pre .0) at (at-divide .divide .ensures) in
     λ marks v x.
-    rw (at-store2 .store2 .ensures, at-store .store .ensures, at-shared .shared .ensures, at-given .given .ensures, at-count-move .count-move .ensures, start .pre .0)
+    rw (at-store2 .store2 .ensures, at-store .store .ensures, at-shared .shared .ensures, at-given .given .ensures, c .moved .ensures, start .pre .0)
     (holds-shared (x .scene) (x .holds) (start .args .b) (x .here .is) (x .here .answers) v _ _ _ d)
 
 pub share-spec : {M : Type 1} → statement M
 share-spec =
     tie.close
     (tie.spec sub-asker add-half divide-requires (λ c κs. search needs) store-requires (λ c. search needs)
-    (λ c κs. search needs) store-requires-2 count-move-requires add-t13 (λ c. search needs) (λ c. search needs)
-    returns)
+    (λ c κs. search needs) store-requires-2 moved-requires (λ c. search needs) (λ c. search needs) returns)
