@@ -171,7 +171,7 @@ fn start(
     if end <= first {
         return Progress {
             counts: machine::fresh(1, 0),
-            running: setup.workers,
+            running: setup.workers as u64,
         };
     }
     registers::store(
@@ -191,7 +191,7 @@ fn start(
     );
     Progress {
         counts: machine::fresh(1, 1),
-        running: setup.workers,
+        running: setup.workers as u64,
     }
 }
 

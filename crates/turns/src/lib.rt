@@ -20,10 +20,11 @@ pub struct Setup {
     pub stretch: usize,
 }
 
-// How far a collection is: its counts, and how many workers have not ended.
+// How far a collection is: its counts, and how many workers have not ended. A word of another width
+// than the registers': the compiler joins the writing of the two where they are of one.
 pub struct Progress {
     pub counts: Counts,
-    pub running: u32,
+    pub running: u64,
 }
 
 // After a turn that follows nothing and leaves as many workers running.

@@ -30,8 +30,9 @@ shared-slice-read-end c =
 
 returns : tie.Need-returns
 returns c =
-    let at-clear-marks = cleared (c .before .before) in
-    rw (c .fresh .ensures) (begin-none (entry at-clear-marks .pre) (c .before .if1 .taken) _ (at-clear-marks .clear-marks .ensures))
+    let at-fresh = c .before in
+    let at-clear-marks = cleared (at-fresh .before .before) in
+    rw (at-fresh .fresh .ensures) (begin-none (entry at-clear-marks .pre) (at-fresh .before .if1 .taken) _ (at-clear-marks .clear-marks .ensures))
 
 cast-t14 : tie.Need-cast-t14
 cast-t14 c =
@@ -43,8 +44,8 @@ mul-t17 c =
     let at-if1 = c .before in
     omega (arith, first-inside (entry (cleared (at-if1 .before)) .pre) (at-if1 .if1 .left))
 
-shared-slice-read-t24 : tie.Need-shared-slice-read-t24
-shared-slice-read-t24 c =
+shared-slice-read-t25 : tie.Need-shared-slice-read-t25
+shared-slice-read-t25 c =
     let at-if1 = c .before .before in
     first-inside (entry (cleared (at-if1 .before)) .pre) (at-if1 .if1 .left)
 
@@ -53,16 +54,17 @@ store-requires c κs = first-room (entry (cleared (c .before .before .before)) .
 
 returns-2 : tie.Need-returns-2
 returns-2 c =
-    let at-store = c .before .before .before in
+    let at-fresh = c .before in
+    let at-store = at-fresh .before .before .before in
     let at-if1 = at-store .before .before .before in
     let at-clear-marks = cleared (at-if1 .before) in
-    rw (c .fresh2 .ensures)
+    rw (at-fresh .fresh2 .ensures)
     (begin-some (entry at-clear-marks .pre) _ _ refl refl (at-if1 .if1 .left) _ (at-store .store .ensures) _ (at-clear-marks .clear-marks .ensures))
 
 pub start-spec : {M : Type 1} → statement M
 start-spec =
     tie.close
     (tie.spec (λ c κs. search needs) slice-write-marks (λ c. search needs) shared-slice-read-first
-    (λ c. search needs) (λ c. search needs) shared-slice-read-end (λ c κs. search needs) (λ c. search needs) returns
-    (λ c. search needs) cast-t14 mul-t17 shared-slice-read-t24 store-requires (λ c κs. search needs) (λ c. search needs)
-    (λ c. search needs) returns-2)
+    (λ c. search needs) (λ c. search needs) shared-slice-read-end (λ c κs. search needs) (λ c. search needs)
+    (λ c. search needs) returns (λ c. search needs) cast-t14 mul-t17 shared-slice-read-t25 store-requires
+    (λ c κs. search needs) (λ c. search needs) (λ c. search needs) (λ c. search needs) returns-2)
