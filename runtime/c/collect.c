@@ -59,7 +59,7 @@ int main(void) {
     uint8_t marks[KULLNEYRA_MARKS(N)];
     uint32_t work[KULLNEYRA_WORK(N, W)];
     struct kullneyra_marked marked;
-    answer = kullneyra_mark_into(offsets, KULLNEYRA_OFFSETS(N), targets, KULLNEYRA_TARGETS(M), head.index, W, 1, 1,
+    answer = kullneyra_mark_into(offsets, KULLNEYRA_OFFSETS(N), targets, KULLNEYRA_TARGETS(M), &head.index, 1, W, 1, 1,
                                  schedule, sizeof schedule, marks, KULLNEYRA_MARKS(N), work, KULLNEYRA_WORK(N, W),
                                  &marked);
     if (answer != KULLNEYRA_OK) {

@@ -35,7 +35,7 @@ extern "C" {
 #define KULLNEYRA_KIND 2     /* unknown kind of record, or a length that its kind does not have */
 #define KULLNEYRA_PLACE 3    /* a record that is not due at its place, or one too many */
 #define KULLNEYRA_COUNT 4    /* number of objects or of references out of range */
-#define KULLNEYRA_OBJECT 5   /* index, from or to is no object's number */
+#define KULLNEYRA_OBJECT 5   /* index, from, to or a start is no object's number */
 #define KULLNEYRA_SIZE 6     /* a size above KULLNEYRA_LARGEST_SIZE */
 #define KULLNEYRA_BUFFER 7   /* a lent buffer is not as long as it must be */
 #define KULLNEYRA_SETTING 8  /* workers, batch or cutoff out of range */
@@ -43,11 +43,13 @@ extern "C" {
 #define KULLNEYRA_GRAPH 10   /* offsets and targets that are no graph */
 #define KULLNEYRA_LARGE 11   /* only printed by the program: a file, or a number in it, too large for it */
 #define KULLNEYRA_FILE 12    /* only printed by the program: a file that cannot be read */
+#define KULLNEYRA_STARTS 13  /* no start, or more than KULLNEYRA_MOST_STARTS */
 
-/* Limits. Objects, workers, batch and cutoff are 1 at least; references and sizes may be 0. */
+/* Limits. Objects, starts, workers, batch and cutoff are 1 at least; references and sizes may be 0. */
 #define KULLNEYRA_MOST_OBJECTS 65536
 #define KULLNEYRA_MOST_REFERENCES 1048576
 #define KULLNEYRA_LARGEST_SIZE UINT64_C(1099511627776)
+#define KULLNEYRA_MOST_STARTS 257
 #define KULLNEYRA_MOST_WORKERS 16
 #define KULLNEYRA_MOST_SETTING 65535 /* batch and cutoff */
 
@@ -114,12 +116,13 @@ uint32_t kullneyra_read(const uint8_t *bytes, size_t bytes_len, uint32_t *offset
 uint32_t kullneyra_references(const uint32_t *offsets, size_t offsets_len, const uint32_t *targets,
                               size_t targets_len, uint32_t object, uint64_t *result, size_t result_len);
 
-/* Marks what the index reaches, by the turns of the schedule: two bytes for each, the worker and whom
- * it asks. Only when the collection is finished are the objects with mark 0 unreachable. */
+/* Marks what the starts reach, by the turns of the schedule: two bytes for each, the worker and whom it
+ * asks. The starts are the index and then the leases; a repeated one adds nothing. Only when the
+ * collection is finished are the objects with mark 0 unreachable. */
 uint32_t kullneyra_mark(const uint32_t *offsets, size_t offsets_len, const uint32_t *targets, size_t targets_len,
-                        uint32_t index, uint32_t workers, uint32_t batch, uint32_t cutoff,
-                        const uint8_t *schedule, size_t schedule_len, uint8_t *marks, size_t marks_len,
-                        uint32_t *work, size_t work_len, uint64_t *result, size_t result_len);
+                        const uint32_t *starts, size_t starts_len, uint32_t workers, uint32_t batch,
+                        uint32_t cutoff, const uint8_t *schedule, size_t schedule_len, uint8_t *marks,
+                        size_t marks_len, uint32_t *work, size_t work_len, uint64_t *result, size_t result_len);
 
 /* Lists the objects whose mark is 0, upwards, then zeros; answers how many they are and what their sizes add up to. */
 uint32_t kullneyra_sweep(const uint8_t *marks, size_t marks_len, const uint64_t *sizes, size_t sizes_len,
@@ -156,14 +159,15 @@ static inline uint32_t kullneyra_references_into(const uint32_t *offsets, size_t
 }
 
 static inline uint32_t kullneyra_mark_into(const uint32_t *offsets, size_t offsets_len, const uint32_t *targets,
-                                           size_t targets_len, uint32_t index, uint32_t workers, uint32_t batch,
-                                           uint32_t cutoff, const uint8_t *schedule, size_t schedule_len,
-                                           uint8_t *marks, size_t marks_len, uint32_t *work, size_t work_len,
+                                           size_t targets_len, const uint32_t *starts, size_t starts_len,
+                                           uint32_t workers, uint32_t batch, uint32_t cutoff,
+                                           const uint8_t *schedule, size_t schedule_len, uint8_t *marks,
+                                           size_t marks_len, uint32_t *work, size_t work_len,
                                            struct kullneyra_marked *answer) {
     uint64_t words[KULLNEYRA_MARK_WORDS] = {0};
-    const uint32_t number = kullneyra_mark(offsets, offsets_len, targets, targets_len, index, workers, batch,
-                                           cutoff, schedule, schedule_len, marks, marks_len, work, work_len, words,
-                                           KULLNEYRA_MARK_WORDS);
+    const uint32_t number = kullneyra_mark(offsets, offsets_len, targets, targets_len, starts, starts_len, workers,
+                                           batch, cutoff, schedule, schedule_len, marks, marks_len, work, work_len,
+                                           words, KULLNEYRA_MARK_WORDS);
     memcpy(answer, words, sizeof *answer);
     return number;
 }

@@ -82,20 +82,24 @@ int main(void) {
     expect("references, start", 0, part.start);
     expect("references, length", 1, part.length);
 
+    REFUSED("mark, no start", KULLNEYRA_STARTS,
+            kullneyra_mark_into(offsets, 3, targets, 1, NULL, 0, 1, 1, 1, turns, 6, marks, 2, work,
+                                KULLNEYRA_WORK(2, 1), &marked),
+            marked);
     REFUSED("mark, half a turn", KULLNEYRA_SCHEDULE,
-            kullneyra_mark_into(offsets, 3, targets, 1, 0, 1, 1, 1, turns, 5, marks, 2, work, KULLNEYRA_WORK(2, 1),
-                                &marked),
+            kullneyra_mark_into(offsets, 3, targets, 1, &head.index, 1, 1, 1, 1, turns, 5, marks, 2, work,
+                                KULLNEYRA_WORK(2, 1), &marked),
             marked);
     ACCEPTED("mark, two turns",
-             kullneyra_mark_into(offsets, 3, targets, 1, 0, 1, 1, 1, turns, 4, marks, 2, work, KULLNEYRA_WORK(2, 1),
-                                 &marked),
+             kullneyra_mark_into(offsets, 3, targets, 1, &head.index, 1, 1, 1, 1, turns, 4, marks, 2, work,
+                                 KULLNEYRA_WORK(2, 1), &marked),
              marked);
     expect("mark, unfinished", 0, marked.finished);
     expect("mark, moved before the end", 2, marked.moved);
     expect("mark, carrying before the end", 0, marked.carrying);
     ACCEPTED("mark",
-             kullneyra_mark_into(offsets, 3, targets, 1, 0, 1, 1, 1, turns, 6, marks, 2, work, KULLNEYRA_WORK(2, 1),
-                                 &marked),
+             kullneyra_mark_into(offsets, 3, targets, 1, &head.index, 1, 1, 1, 1, turns, 6, marks, 2, work,
+                                 KULLNEYRA_WORK(2, 1), &marked),
              marked);
     expect("mark, finished", 1, marked.finished);
     expect("mark, live", 1, marked.live);

@@ -29,17 +29,21 @@ int main(void) {
     expect("the empty part", 0, (uint32_t)(part[0] + part[1]));
     expect("no result words, references", KULLNEYRA_BUFFER, kullneyra_references(NULL, 0, NULL, 0, 0, NULL, 0));
     expect("no graph, mark", KULLNEYRA_COUNT,
-           kullneyra_mark(NULL, 0, NULL, 0, 0, 1, 1, 1, NULL, 0, NULL, 0, NULL, 0, counts, KULLNEYRA_MARK_WORDS));
+           kullneyra_mark(NULL, 0, NULL, 0, NULL, 0, 1, 1, 1, NULL, 0, NULL, 0, NULL, 0, counts,
+                          KULLNEYRA_MARK_WORDS));
     expect("no result words, mark", KULLNEYRA_BUFFER,
-           kullneyra_mark(NULL, 0, NULL, 0, 0, 1, 1, 1, NULL, 0, NULL, 0, NULL, 0, NULL, 0));
+           kullneyra_mark(NULL, 0, NULL, 0, NULL, 0, 1, 1, 1, NULL, 0, NULL, 0, NULL, 0, NULL, 0));
     expect("no targets and no turns, mark", KULLNEYRA_OK,
-           kullneyra_mark(alone, KULLNEYRA_OFFSETS(1), NULL, 0, 0, 1, KULLNEYRA_MOST_SETTING, KULLNEYRA_MOST_SETTING,
-                          NULL, 0, marks, KULLNEYRA_MARKS(1), work, KULLNEYRA_WORK(1, 1), counts,
-                          KULLNEYRA_MARK_WORDS));
+           kullneyra_mark(alone, KULLNEYRA_OFFSETS(1), NULL, 0, alone, 1, 1, KULLNEYRA_MOST_SETTING,
+                          KULLNEYRA_MOST_SETTING, NULL, 0, marks, KULLNEYRA_MARKS(1), work, KULLNEYRA_WORK(1, 1),
+                          counts, KULLNEYRA_MARK_WORDS));
     expect("live", 1, (uint32_t)counts[1]);
+    expect("no starts, mark", KULLNEYRA_STARTS,
+           kullneyra_mark(alone, KULLNEYRA_OFFSETS(1), NULL, 0, NULL, 0, 1, 1, 1, NULL, 0, marks, KULLNEYRA_MARKS(1),
+                          work, KULLNEYRA_WORK(1, 1), counts, KULLNEYRA_MARK_WORDS));
     expect("too many workers", KULLNEYRA_SETTING,
-           kullneyra_mark(NULL, 0, NULL, 0, 0, KULLNEYRA_MOST_WORKERS + 1, 1, 1, NULL, 0, NULL, 0, NULL, 0, counts,
-                          KULLNEYRA_MARK_WORDS));
+           kullneyra_mark(NULL, 0, NULL, 0, NULL, 0, KULLNEYRA_MOST_WORKERS + 1, 1, 1, NULL, 0, NULL, 0, NULL, 0,
+                          counts, KULLNEYRA_MARK_WORDS));
     expect("no objects, sweep", KULLNEYRA_COUNT,
            kullneyra_sweep(NULL, 0, NULL, 0, NULL, 0, swept, KULLNEYRA_SWEEP_WORDS));
     expect("no result words, sweep", KULLNEYRA_BUFFER, kullneyra_sweep(NULL, 0, NULL, 0, NULL, 0, NULL, 0));

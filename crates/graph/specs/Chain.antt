@@ -1,5 +1,5 @@
 -- SPECIFICATION 3: chains of references, the objects that they reach, and R, how many references leave those.
--- Chains begin at any of a list of starts: so far the index alone.
+-- Chains begin at any of a list of starts.
 use Prim.Native.Nat.{ℕ, zero, suc, _+_, _<_}
 use mathlib.Core.List.{List, [], _∷_}
 use lib.ListN.{getD, set, replicate}

@@ -9,6 +9,10 @@ most-objects = 65536
 abbrev pub most-references : ℕ
 most-references = 1048576
 
+-- the most starts: the index and the leases
+abbrev pub most-starts : ℕ
+most-starts = 257
+
 -- the largest size
 abbrev pub largest-size : ℕ
 largest-size = 1099511627776

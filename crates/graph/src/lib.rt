@@ -12,6 +12,9 @@ pub const MOST_OBJECTS: usize = 65536;
 // The most references.
 pub const MOST_REFERENCES: usize = 1048576;
 
+// The most starts of a collection: the index and the leases.
+pub const MOST_STARTS: usize = 257;
+
 // The largest size of an object.
 pub const LARGEST_SIZE: u64 = 1099511627776;
 
@@ -30,7 +33,7 @@ fn is_rising(offsets: &[u32]) -> bool
 }
 
 // Whether every number is below n.
-fn is_below(n: usize, numbers: &[u32]) -> bool
+pub fn is_below(n: usize, numbers: &[u32]) -> bool
     ensures { λ r. ⌜ r ≡ allBelow n (now (numbers .entry)) ⌝ }
 {
     let mut wrong: u32 = 0;

@@ -138,7 +138,7 @@ fn give_marked(answer: Marked, result: &mut [u64]) -> u32
 pub extern "C" fn kullneyra_mark(
     offsets: &[u32],
     targets: &[u32],
-    index: u32,
+    starts: &[u32],
     workers: u32,
     batch: u32,
     cutoff: u32,
@@ -147,7 +147,7 @@ pub extern "C" fn kullneyra_mark(
     work: &mut [u32],
     result: &mut [u64],
 ) -> u32
-    ensures { λ r. ⌜ MarksIn (callOf (now (offsets .entry)) (now (targets .entry)) index workers batch cutoff (now (schedule .entry))) (now (marks .entry)) (now (work .entry)) (now (result .entry)) (now (marks .exit)) (now (work .exit)) (now (result .exit)) r ⌝ }
+    ensures { λ r. ⌜ MarksIn (callOf (now (offsets .entry)) (now (targets .entry)) (now (starts .entry)) workers batch cutoff (now (schedule .entry))) (now (marks .entry)) (now (work .entry)) (now (result .entry)) (now (marks .exit)) (now (work .exit)) (now (result .exit)) r ⌝ }
 {
     if result.len() != MARK_WORDS {
         return 7;
@@ -155,7 +155,7 @@ pub extern "C" fn kullneyra_mark(
     let answer = marker::mark(
         offsets,
         targets,
-        index,
+        starts,
         workers,
         batch,
         cutoff,

@@ -2,7 +2,9 @@
 use mathlib.Core.Path.{_≡_, refl}
 use mathlib.Core.Bool.{true, false, not, _||_}
 use mathlib.Core.List.{List, [], _∷_}
+use mathlib.Core.Logic.{by-cases}
 use Prim.Native.Nat.{ℕ, zero, suc, _*_, _≤_, _<_}
+use native.Mathlib.Decide.{decLt}
 use native.Mathlib.Omega.{arith}
 use lib.ListN.{length}
 use lib.Dec.{ltb, eqb}
@@ -11,13 +13,13 @@ use Rattle.laws.specs.Sum.{sum, hit}
 use Rattle.laws.proofs.Sum.{hit-equal}
 use Rattle.refusal.specs.Order.{first}
 use Rattle.refusal.proofs.None.{raise-none, first-none, or-none}
-use Rattle.graph.specs.Graph.{objects, references}
+use Rattle.graph.specs.Graph.{objects, references, allBelow}
 use Rattle.graph.specs.Limits.{most-objects, most-references}
-use Rattle.graph.proofs.Formed.{formed}
+use Rattle.graph.proofs.Formed.{both-true, formed}
 use Rattle.machine.specs.Machine.{stretchLength}
 use Rattle.machine.specs.Accepted.{Accepted}
 use Rattle.machine.specs.Limits.{most-workers, most-setting}
-use Rattle.machine.specs.Call.{Call, graphOf, settingOf, startsOf, scheduledBy, outside, settingFault, countFault, bufferFault, graphFault, indexFault, scheduleFits, scheduleFault, fault}
+use Rattle.machine.specs.Call.{Call, graphOf, settingOf, scheduledBy, outside, settingFault, countFault, bufferFault, graphFault, startsFault, objectFault, scheduleFits, scheduleFault, fault}
 
 inside : (most x : ℕ) → outside most x ≡ false → (1 ≤ x) × (x ≤ most)
 inside most x e =
@@ -26,7 +28,7 @@ inside most x e =
 
 -- what the checks establish, as plain facts
 pub record Checked (c : Call) (marks work : ℕ) : Type 0 where
-  pub accepted : Accepted (graphOf c) (startsOf c) (c .workers) (settingOf c)
+  pub accepted : Accepted (graphOf c) (c .starts) (c .workers) (settingOf c)
   pub offsets-some : 2 ≤ length (c .offsets)
   pub objects-limit : objects (graphOf c) ≤ most-objects
   pub references-limit : references (graphOf c) ≤ most-references
@@ -34,9 +36,15 @@ pub record Checked (c : Call) (marks work : ℕ) : Type 0 where
   pub work-exact : work ≡ c .workers * stretchLength (objects (graphOf c))
   pub schedule-fits : scheduleFits (c .workers) (c .schedule) ≡ true
 
-one-start : (i n : ℕ) → i < n → (v : ℕ) → 0 < sum (hit v) (i ∷ []) → v < n
-unfolding sum
-one-start i n h v q = let e = hit-equal v i (omega arith) in omega arith
+-- a number of the list, all of which are below n
+starts-low : (n : ℕ) (vs : List ℕ) → allBelow n vs ≡ true → (v : ℕ) → 0 < sum (hit v) vs → v < n
+unfolding sum allBelow
+starts-low n [] h v q = absurd (omega arith)
+starts-low n (u ∷ vs) h v q =
+    let b = both-true (ltb u n) (allBelow n vs) h in
+    by-cases (decLt 0 (hit v u))
+    (λ (p : 0 < hit v u). omega (arith, hit-equal v u p, ltb-true u n (b .0)))
+    (λ (p : ¬ (0 < hit v u)). starts-low n vs (b .1) v (omega arith))
 
 -- a call without a fault passes
 pub checked : (c : Call) (marks work : ℕ) → fault c marks work ≡ 0 → Checked c marks work
@@ -46,7 +54,8 @@ checked c marks work e =
     let f4 = first-none (countFault (c .offsets) (c .targets)) _ (f8 .1) in
     let f7 = first-none (bufferFault (objects (graphOf c)) (c .workers) marks work) _ (f4 .1) in
     let f10 = first-none (graphFault (graphOf c)) _ (f7 .1) in
-    let f5 = first-none (indexFault (objects (graphOf c)) (c .index)) _ (f10 .1) in
+    let f13 = first-none (startsFault (c .starts)) _ (f10 .1) in
+    let f5 = first-none (objectFault (objects (graphOf c)) (c .starts)) _ (f13 .1) in
     let s = or-none (outside most-workers (c .workers) || outside most-setting (c .batch)) (outside most-setting (c .cutoff)) (raise-none _ 7 0 (f8 .0) .0) in
     let t = or-none (outside most-workers (c .workers)) (outside most-setting (c .batch)) (s .0) in
     let w = inside most-workers (c .workers) (t .0) in
@@ -56,7 +65,7 @@ checked c marks work e =
     let o = or-none (ltb (length (c .offsets)) 2) (ltb most-objects (objects (graphOf c))) (n .0) in
     let two = ltb-false (length (c .offsets)) 2 (o .0) in
     let b = or-none (not (eqb marks (objects (graphOf c)))) (not (eqb work (c .workers * stretchLength (objects (graphOf c))))) (raise-none _ 6 0 (f7 .0) .0) in
-    let i = ltb-true (c .index) (objects (graphOf c)) (not-false _ (raise-none _ 4 0 (f5 .0) .0)) in
+    let i : allBelow (objects (graphOf c)) (c .starts) ≡ true = not-false _ (raise-none _ 4 0 (f5 .0) .0) in
     record {
       accepted =
           record {
@@ -68,7 +77,7 @@ checked c marks work e =
             batch-limit = d .1;
             some-cutoff = k .0;
             cutoff-limit = k .1;
-            starts-below = one-start (c .index) (objects (graphOf c)) i;
+            starts-below = starts-low (objects (graphOf c)) (c .starts) i;
           };
       offsets-some = two;
       objects-limit = ltb-false most-objects (objects (graphOf c)) (o .1);
@@ -92,6 +101,7 @@ fault-scheduled c marks work e l fits =
     let f4 = first-none (countFault (c .offsets) (c .targets)) _ (f8 .1) in
     let f7 = first-none (bufferFault (objects (graphOf c)) (c .workers) marks work) _ (f4 .1) in
     let f10 = first-none (graphFault (graphOf c)) _ (f7 .1) in
-    let f5 = first-none (indexFault (objects (graphOf c)) (c .index)) _ (f10 .1) in
+    let f13 = first-none (startsFault (c .starts)) _ (f10 .1) in
+    let f5 = first-none (objectFault (objects (graphOf c)) (c .starts)) _ (f13 .1) in
     let f9 : scheduleFault (c .workers) l ≡ 0 = rw fits refl in
-    none-both _ _ (f8 .0) (none-both _ _ (f4 .0) (none-both _ _ (f7 .0) (none-both _ _ (f10 .0) (none-both _ _ (f5 .0) f9))))
+    none-both _ _ (f8 .0) (none-both _ _ (f4 .0) (none-both _ _ (f7 .0) (none-both _ _ (f10 .0) (none-both _ _ (f13 .0) (none-both _ _ (f5 .0) f9)))))

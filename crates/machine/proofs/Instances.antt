@@ -19,7 +19,7 @@ use Rattle.graph.specs.Chain.{leavingReached, marksAt}
 use Rattle.machine.specs.Row.{Row}
 use Rattle.machine.specs.Run.{carried, keep, rest}
 use Rattle.machine.specs.Machine.{Entry, allEnded, entries, live, start, startRuns, turns}
-use Rattle.machine.specs.Call.{Call, graphOf, settingOf, startsOf, scheduledBy, scheduleFits, fault, marking}
+use Rattle.machine.specs.Call.{Call, graphOf, settingOf, scheduledBy, scheduleFits, fault, marking}
 use Rattle.machine.specs.Demand3.{stretchBound, entriesOf, AllHave, joined, roundOf, rounds, longSchedule, Cut, Demand3}
 use Rattle.machine.specs.Drawings.{S, turnsA, gives, drawing, ones}
 use Rattle.machine.proofs.Accept.{checked, fault-scheduled}
@@ -80,7 +80,7 @@ rounds-bytes W (suc k) h = every-append Byte (roundOf W) (rounds W k) (round-byt
 
 -- the schedule that is long enough for a call
 abbrev pub longFor : Call → List ℕ
-longFor c = longSchedule (graphOf c) (startsOf c) (c .workers)
+longFor c = longSchedule (graphOf c) (c .starts) (c .workers)
 
 pub record Finishable (c : Call) (marks work : List ℕ) : Type 0 where
   pub bytes : Every Byte (longFor c)
@@ -91,7 +91,7 @@ pub long-enough : (c : Call) (marks work : List ℕ) → fault c (length marks) 
 unfolding longSchedule
 long-enough c marks work e =
     let A = checked c (length marks) (length work) e .accepted in
-    let k = stretchBound (leavingReached (graphOf c) (startsOf c)) (c .workers) in
+    let k = stretchBound (leavingReached (graphOf c) (c .starts)) (c .workers) in
     let none = fault-scheduled c (length marks) (length work) e (longFor c) (rounds-fit (c .workers) k) in
     let cut : Cut (c .workers) k (entries (longFor c)) = record {
       stretches = replicate k (entries (roundOf (c .workers)));

@@ -8,7 +8,7 @@ use native.Mathlib.Nat.{zero-add}
 use lib.ListN.{length, getD, set}
 use Rattle.laws.specs.Sum.{sum}
 use Rattle.graph.specs.Chain.{overMarked}
-use Rattle.graph.proofs.OverMarked.{over-set, over-below}
+use Rattle.graph.proofs.OverMarked.{over-set, over-set-again, over-below}
 use Rattle.machine.specs.Machine.{claimMark, live}
 use Rattle.machine.specs.Sound.{Marked}
 
@@ -57,6 +57,11 @@ live-over b (suc m ∷ ms) = omega (arith, live-over (suc b) ms)
 -- live grows by 1
 pub live-more : (ms : List ℕ) (v x : ℕ) → 0 < x → getD ms v 1 ≡ 0 → live (set ms v x) ≡ suc (live ms)
 live-more ms v x p e = omega (arith, over-more (λ (u : ℕ). 1) ms v x p e, live-over 0 ms, live-over 0 (set ms v x))
+
+-- or stays, where the mark was set
+pub live-again : (ms : List ℕ) (v x k : ℕ) → 0 < x → getD ms v 1 ≡ suc k → live (set ms v x) ≡ live ms
+live-again ms v zero k p e = absurd (omega arith)
+live-again ms v (suc x) k p e = omega (arith, over-set-again (λ (u : ℕ). 1) 0 ms v x k e, live-over 0 ms, live-over 0 (set ms v (suc x)))
 
 -- more marks, more that are live
 pub live-grows : (ms ms′ : List ℕ) → ((v : ℕ) → Marked ms v → Marked ms′ v) → live ms ≤ live ms′

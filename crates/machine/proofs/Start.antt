@@ -1,26 +1,27 @@
 -- The start is sound and fresh, and so is every state that turns reach from it.
-use mathlib.Core.Path.{_≡_, refl, sym, _∙_}
+use mathlib.Core.Path.{_≡_, refl, sym, ap, _∙_}
 use mathlib.Core.List.{List, [], _∷_, _++_, append-assoc, append-nil}
 use Prim.Native.Nat.{ℕ, zero, suc, _+_, _-_, _≤_, _<_}
 use native.Mathlib.Omega.{arith}
-use lib.ListN.{length, getD, set, replicate, length-set, length-append, length-replicate}
+use lib.ListN.{length, getD, set, take, replicate, length-set, length-append, length-replicate}
 use Rattle.laws.specs.Every.{Every}
 use Rattle.laws.specs.Sum.{sum, hit}
 use Rattle.laws.proofs.Every.{every-append}
 use Rattle.laws.proofs.Sum.{sum-none, each-set, hit-same}
-use Rattle.graph.specs.Graph.{Graph, Leaves, objects, first, degree}
+use Rattle.graph.specs.Graph.{Graph, Leaves, objects, references, first, degree}
 use Rattle.graph.specs.Chain.{marksAt, reached}
 use Rattle.graph.specs.Leaving.{leavingSum}
 use Rattle.graph.proofs.OverMarked.{over-set-again, over-none, over-total, over-once, over-leaves}
 use Rattle.graph.proofs.Reached.{rounds-grows, reached-chain, starts-marked}
 use Rattle.machine.specs.Run.{Run, carried, leaving}
-use Rattle.machine.specs.Machine.{Setting, State, Entry, Worker, idle, ended, busy, empty, poll, carries?, live, newRun, startRuns, withRuns, unmarked, start, turns, trail}
+use Rattle.machine.specs.Machine.{Setting, State, Entry, Worker, idle, ended, busy, empty, poll, runsOf, worker, carries?, live, newRun, startRuns, withRuns, unmarked, start, turns, trail}
 use Rattle.machine.specs.Accepted.{Accepted}
 use Rattle.machine.specs.Sound.{Marked, Within, Whole, Carries, WorkerSound, holds, waits, stopped, sinceOf, runsSum, heldSum, carriedTimes, Sound, asks?, Fresh}
 use Rattle.machine.specs.Demand2.{outcome}
 use Rattle.machine.specs.Demand3.{trailOf}
 use Rattle.machine.proofs.Runs.{runs-append, runs-from, length-from, leaving-runs, inside-all}
 use Rattle.machine.proofs.Marks.{marked-keeps, marked-there, over-more, live-more, live-grows}
+use Rattle.machine.proofs.Facts.{InTargets, live-below, carried-limit, runs-limit, runs-room}
 use Rattle.machine.proofs.Step.{over}
 use Rattle.machine.proofs.Kept.{carried-all-is, sound-turn, fresh-turn}
 
@@ -80,6 +81,27 @@ module _ {G : Graph} {starts : List ℕ} {W : ℕ} {g : Setting} (A : Accepted G
             within = t .within;
             whole = t .whole;
           }
+
+-- one start more
+pub marks-at-more : (vs ms : List ℕ) (v : ℕ) → marksAt (vs ++ (v ∷ [])) ms ≡ set (marksAt vs ms) v 1
+unfolding marksAt
+marks-at-more [] ms v = refl
+marks-at-more (u ∷ vs) ms v = marks-at-more vs (set ms u 1) v
+
+pub start-runs-more : (G : Graph) (vs ms : List ℕ) (v : ℕ)
+    → startRuns G (vs ++ (v ∷ [])) ms ≡ startRuns G vs ms ++ newRun (getD (marksAt vs ms) v 1) (leaving G v)
+unfolding startRuns marksAt
+start-runs-more G [] ms v = append-nil (newRun (getD ms v 1) (leaving G v))
+start-runs-more G (u ∷ vs) ms v =
+    ap (λ (rs : List Run). newRun (getD ms u 1) (leaving G u) ++ rs) (start-runs-more G vs (set ms u 1) v)
+    ∙ sym (append-assoc (newRun (getD ms u 1) (leaving G u)) (startRuns G vs (set ms u 1)) _)
+
+-- a part of a list sums to no more
+sum-take : (f : ℕ → ℕ) (k : ℕ) (l : List ℕ) → sum f (take k l) ≤ sum f l
+unfolding sum
+sum-take f zero l = omega arith
+sum-take f (suc k) [] = omega arith
+sum-take f (suc k) (x ∷ l) = omega (arith, sum-take f k l)
 
 -- ---- the first worker begins, the others are idle
 
@@ -173,6 +195,28 @@ module _ {G : Graph} {starts : List ℕ} {W : ℕ} {g : Setting} (A : Accepted G
         refused-moved = omega arith;
       }
 
+  -- what worker 0 carries at the start
+  carried-first : runsOf (worker (start G starts W) 0) ≡ startRuns G starts (unmarked G)
+  unfolding start
+  carried-first = by (startRuns G starts (unmarked G))
+    where
+      by : (rs : List Run) → runsOf (withRuns rs) ≡ rs
+      by [] = refl
+      by (r ∷ rs) = refl
+
+  pub start-room : length (startRuns G starts (unmarked G)) ≤ suc (objects G)
+  start-room = rw carried-first at (runs-room A sound-start 0)
+
+  pub start-carried : carried (startRuns G starts (unmarked G)) ≤ references G
+  start-carried = rw carried-first at (carried-limit A sound-start 0)
+
+  pub start-live : live (marksAt starts (unmarked G)) ≤ objects G
+  unfolding start
+  start-live = live-below A sound-start
+
+  pub start-inside : Every (InTargets G) (startRuns G starts (unmarked G))
+  start-inside = rw carried-first at (runs-limit A sound-start 0)
+
   -- what is marked at the start is reachable, and nothing is followed yet
   pub fresh-start : Fresh G starts g (start G starts W) []
   unfolding start reached sum
@@ -183,6 +227,21 @@ module _ {G : Graph} {starts : List ℕ} {W : ℕ} {g : Setting} (A : Accepted G
         once = λ (f : ℕ → ℕ). omega (arith, held-start f);
         turn-count = omega (arith, none-start asks? refl (λ (l : List Run). refl));
         handed-count = omega (arith, none-start sinceOf refl (λ (l : List Run). refl));
+      }
+
+  -- the first k starts alone are accepted
+  pub accepted-front : (k : ℕ) → Accepted G (take k starts) W g
+  accepted-front k =
+      record {
+        formed = A .formed;
+        some-object = A .some-object;
+        some-worker = A .some-worker;
+        workers-limit = A .workers-limit;
+        some-batch = A .some-batch;
+        batch-limit = A .batch-limit;
+        some-cutoff = A .some-cutoff;
+        cutoff-limit = A .cutoff-limit;
+        starts-below = λ (v : ℕ) (h : 0 < sum (hit v) (take k starts)). A .starts-below v (omega (arith, sum-take (hit v) k starts));
       }
 
   -- ---- over lists of turns

@@ -1,4 +1,4 @@
--- SPECIFICATION 2: the marker's checks in their order (8, 4, 7, 10, 5, 9), its answer, and the lent buffers afterwards.
+-- SPECIFICATION 2: the marker's checks in their order (8, 4, 7, 10, 13, 5, 9), its answer, and the lent buffers afterwards.
 use Prim.Native.Nat.{ℕ, zero, suc, _*_}
 use mathlib.Core.Bool.{Bool, true, false, not, _||_}
 use mathlib.Core.List.{List, [], _∷_}
@@ -6,8 +6,8 @@ use lib.ListN.{length}
 use lib.Dec.{ltb, eqb}
 use Rattle.laws.specs.Choice.{both}
 use Rattle.refusal.specs.Order.{raise, first}
-use Rattle.graph.specs.Graph.{Graph, graph, objects, wellFormed}
-use Rattle.graph.specs.Limits.{most-objects, most-references}
+use Rattle.graph.specs.Graph.{Graph, graph, objects, allBelow, wellFormed}
+use Rattle.graph.specs.Limits.{most-objects, most-references, most-starts}
 use Rattle.machine.specs.Limits.{most-workers, most-setting}
 use Rattle.machine.specs.Row.{Row, refusedRow}
 use Rattle.machine.specs.Machine.{Setting, State, result, entries, memory, stretchLength}
@@ -17,7 +17,7 @@ use Rattle.machine.specs.Demand2.{outcome}
 pub record Call : Type 0 where
   pub offsets : List ℕ
   pub targets : List ℕ
-  pub index : ℕ
+  pub starts : List ℕ
   pub workers : ℕ
   pub batch : ℕ
   pub cutoff : ℕ
@@ -29,7 +29,7 @@ scheduledBy schedule c =
     record {
       offsets = c .offsets;
       targets = c .targets;
-      index = c .index;
+      starts = c .starts;
       workers = c .workers;
       batch = c .batch;
       cutoff = c .cutoff;
@@ -41,10 +41,6 @@ graphOf c = graph (c .offsets) (c .targets)
 
 abbrev pub settingOf : Call → Setting
 settingOf c = record { batch = c .batch; cutoff = c .cutoff }
-
--- the base starts at the index alone
-abbrev pub startsOf : Call → List ℕ
-startsOf c = c .index ∷ []
 
 -- ---- the checks
 
@@ -68,9 +64,13 @@ bufferFault n W marks work = raise (not (eqb marks n) || not (eqb work (W * stre
 abbrev pub graphFault : Graph → ℕ
 graphFault G = raise (not (wellFormed G)) 10 0
 
--- 5: the index is no object
-abbrev pub indexFault : ℕ → ℕ → ℕ
-indexFault n index = raise (not (ltb index n)) 5 0
+-- 13: no start, or more than a collection may have
+abbrev pub startsFault : List ℕ → ℕ
+startsFault starts = raise (outside most-starts (length starts)) 13 0
+
+-- 5: a start is no object
+abbrev pub objectFault : ℕ → List ℕ → ℕ
+objectFault n starts = raise (not (allBelow n starts)) 5 0
 
 -- whole entries, each with a worker below W
 unfoldable pub scheduleFits : ℕ → List ℕ → Bool
@@ -89,14 +89,15 @@ fault c marks work =
     (first (countFault (c .offsets) (c .targets))
     (first (bufferFault (objects (graphOf c)) (c .workers) marks work)
     (first (graphFault (graphOf c))
-    (first (indexFault (objects (graphOf c)) (c .index))
-    (scheduleFault (c .workers) (c .schedule))))))
+    (first (startsFault (c .starts))
+    (first (objectFault (objects (graphOf c)) (c .starts))
+    (scheduleFault (c .workers) (c .schedule)))))))
 
 -- ---- the answer
 
 -- the state that the turns leave
 abbrev pub final : Call → State
-final c = outcome (graphOf c) (startsOf c) (c .workers) (settingOf c) (entries (c .schedule))
+final c = outcome (graphOf c) (c .starts) (c .workers) (settingOf c) (entries (c .schedule))
 
 -- by the number of the fault
 abbrev pub answerFor : ℕ → Call → Row

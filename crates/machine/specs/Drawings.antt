@@ -9,7 +9,7 @@ use Rattle.graph.specs.Chain.{marksAt}
 use Rattle.machine.specs.Run.{carried, keep, rest}
 use Rattle.machine.specs.Machine.{turns, trail, start, startRuns, entries, allEnded, live, stretchLength}
 use Rattle.machine.specs.Row.{Row, refusedRow}
-use Rattle.machine.specs.Call.{Call, graphOf, settingOf, startsOf, fault, scheduleFits, marking}
+use Rattle.machine.specs.Call.{Call, graphOf, settingOf, fault, scheduleFits, marking}
 
 -- a call, and the row that it must give
 pub record Drawing : Type 0 where
@@ -45,28 +45,34 @@ abbrev pub gives : Bool → ℕ → ℕ → ℕ → ℕ → ℕ → ℕ → Row
 gives f l fo h r m c =
     record { number = 0; finished = f; counts = record { live = l; followed = fo; handed = h; refused = r; moved = m; carrying = c } }
 
--- the graph with W, D, K and a schedule; each has its index at 0
-abbrev pub drawing : Graph → ℕ → ℕ → ℕ → List ℕ → Row → Drawing
-drawing G W D K l r =
+-- the graph with starts, W, D, K and a schedule
+abbrev pub drawingFrom : Graph → List ℕ → ℕ → ℕ → ℕ → List ℕ → Row → Drawing
+drawingFrom G starts W D K l r =
     record {
-      call = record { offsets = G .offsets; targets = G .targets; index = 0; workers = W; batch = D; cutoff = K; schedule = l };
+      call = record { offsets = G .offsets; targets = G .targets; starts = starts; workers = W; batch = D; cutoff = K; schedule = l };
       gives = r;
     }
 
--- a call with W workers on these offsets and targets, D and K 1
-abbrev pub faulty : List ℕ → List ℕ → ℕ → ℕ → List ℕ → Call
-faulty offsets targets index W l =
-    record { offsets = offsets; targets = targets; index = index; workers = W; batch = 1; cutoff = 1; schedule = l }
+-- where object 0 is the only start
+abbrev pub drawing : Graph → ℕ → ℕ → ℕ → List ℕ → Row → Drawing
+drawing G = drawingFrom G (0 ∷ [])
 
--- the order of the checks, by calls with the faults of two neighbours at once: 8 and 4, 4 and 7, 7 and 10, 10 and 5, 5 and 9
+-- a call with W workers on these offsets and targets, D and K 1
+abbrev pub faulty : List ℕ → List ℕ → List ℕ → ℕ → List ℕ → Call
+faulty offsets targets starts W l =
+    record { offsets = offsets; targets = targets; starts = starts; workers = W; batch = 1; cutoff = 1; schedule = l }
+
+-- the order of the checks, by calls with the faults of two neighbours at once: 8 and 4, 4 and 7, 7 and 10, 10 and 13,
+-- 13 and 5, 5 and 9
 pub checks-in-order :
-    fault (faulty [] [] 0 0 []) 0 0
-    ∷ fault (faulty (0 ∷ []) [] 0 1 []) 5 0
-    ∷ fault (faulty (1 ∷ 0 ∷ []) [] 0 1 []) 0 6
-    ∷ fault (faulty (1 ∷ 0 ∷ []) [] 9 1 []) 1 6
-    ∷ fault (faulty (0 ∷ 0 ∷ []) [] 9 1 (7 ∷ [])) 1 6
+    fault (faulty [] [] (0 ∷ []) 0 []) 0 0
+    ∷ fault (faulty (0 ∷ []) [] (0 ∷ []) 1 []) 5 0
+    ∷ fault (faulty (1 ∷ 0 ∷ []) [] (0 ∷ []) 1 []) 0 6
+    ∷ fault (faulty (1 ∷ 0 ∷ []) [] [] 1 []) 1 6
+    ∷ fault (faulty (0 ∷ 0 ∷ []) [] (replicate 258 9) 1 []) 1 6
+    ∷ fault (faulty (0 ∷ 0 ∷ []) [] (0 ∷ 9 ∷ []) 1 (7 ∷ [])) 1 6
     ∷ []
-    ≡ 8 ∷ 4 ∷ 7 ∷ 10 ∷ 5 ∷ []
+    ≡ 8 ∷ 4 ∷ 7 ∷ 10 ∷ 13 ∷ 5 ∷ []
 unfolding fault rising allBelow wellFormed scheduleFits
 checks-in-order = refl
 
@@ -108,7 +114,7 @@ unfoldable pub drawnTrail : Drawing → List ℕ
 unfolding trail start entries
 drawnTrail d =
     let c = d .call in
-    trail (graphOf c) (settingOf c) (start (graphOf c) (startsOf c) (c .workers)) (entries (c .schedule))
+    trail (graphOf c) (settingOf c) (start (graphOf c) (c .starts) (c .workers)) (entries (c .schedule))
 
 -- the trails of these: A's second worker loses a claim and follows all the same, and D goes on with what is left of
 -- a run before the run of a claimed target

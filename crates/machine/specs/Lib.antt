@@ -10,5 +10,6 @@ pub mod Machine
 pub mod Move
 pub mod Row
 pub mod Rules
+pub mod Starts
 pub mod Run
 pub mod Sound

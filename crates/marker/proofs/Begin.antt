@@ -1,103 +1,108 @@
--- The start in the lent memories: every worker idle, or the first one busy with the index's run.
+-- The start in the lent memories: every worker idle, or the first one busy with the starts' runs.
 use mathlib.Core.Path.{_≡_, refl, sym, ap, _∙_}
-use mathlib.Core.List.{List, [], _∷_, _++_, append-nil}
+use mathlib.Core.Logic.{_≢_}
+use mathlib.Core.List.{List, [], _∷_}
 use Prim.Native.Nat.{ℕ, zero, suc, _+_, _-_, _*_, _≤_, _<_}
-use native.Mathlib.Numerals.{add-one}
 use native.Mathlib.Omega.{arith}
-use lib.ListN.{length, getD, set, replicate, getD-replicate, length-replicate}
+use lib.ListN.{length, getD, replicate, getD-replicate, length-replicate}
 use Rattle.laws.specs.Sum.{sum}
-use Rattle.laws.proofs.Sum.{hit-same, sum-none}
-use Rattle.graph.specs.Graph.{graph, objects, first, after, degree}
+use Rattle.laws.specs.Every.{Every}
+use Rattle.laws.proofs.Sum.{sum-none}
+use Rattle.graph.specs.Graph.{Graph, graph, objects}
 use Rattle.graph.specs.Chain.{marksAt}
-use Rattle.graph.proofs.OverMarked.{after-limit}
 use Rattle.machine.specs.Row.{freshCounts}
-use Rattle.machine.specs.Run.{Run, run, runFrom, carried, leaving, pairs}
-use Rattle.machine.specs.Machine.{State, Worker, idle, ended, busy, empty, poll, carries?, live, newRun, startRuns, withRuns, unmarked, start}
-use Rattle.machine.proofs.Facts.{run-counts}
-use Rattle.machine.proofs.Marks.{live-more}
+use Rattle.machine.specs.declared.Counts.{Counts}
+use Rattle.machine.specs.Run.{Run, run, carried}
+use Rattle.machine.specs.Machine.{State, Worker, idle, ended, busy, empty, poll, carries?, live, withRuns, start}
+use Rattle.machine.proofs.Facts.{InTargets, set-some}
+use Rattle.machine.proofs.Runs.{length-carried, carried-length}
+use Rattle.machine.proofs.Start.{start-inside}
 use Rattle.worker.specs.declared.registers.Block.{Block}
+use Rattle.worker.specs.declared.stretch.Top.{Top}
 use Rattle.worker.specs.Registers.{Room, storeAt, Stored}
-use Rattle.worker.specs.Stretch.{topWith}
+use Rattle.worker.specs.Stretch.{Told, Lowerable, Lowered}
 use Rattle.worker.proofs.Blocks.{store-stored}
 use Rattle.turns.specs.declared.Setup.{Setup}
 use Rattle.turns.specs.Counting.{running?, progressWith}
 use Rattle.turns.specs.Held.{memory, BlockIs, Holds}
 use Rattle.turns.proofs.Each.{all-same, hold-one}
-use Rattle.marker.specs.Stages.{Startable, begin}
+use Rattle.marker.specs.declared.start.Gathered.{Gathered}
+use Rattle.marker.specs.Starting.{Gatherable, runsFrom, IsGathered, Gathers, Startable, begin, Started}
 
--- idle workers are all running, and nobody's mark is set
+-- idle workers are all running
 idle-running : (k : ℕ) → sum running? (replicate k idle) ≡ k
 unfolding sum
 idle-running zero = refl
 idle-running (suc k) = omega (arith, idle-running k)
 
-none-live : (k : ℕ) → live (replicate k 0) ≡ 0
-unfolding live
-none-live k = sum-none _ k 0 refl
+-- a worker that begins with so many references, its runs in a top and a stretch, the first leading to a target
+abbrev pub firstBlock : ℕ → Top → ℕ → Block
+firstBlock carried t target =
+    record { status = 5; cell = 0; since = 0; batch = 0; carried = carried; used = t .used; first = t .first; end = t .end; target = target }
 
--- a worker that begins with the run from f to e, whose first reference leads to t
-abbrev pub firstBlock : ℕ → ℕ → ℕ → Block
-firstBlock f e t =
-    record { status = 5; cell = 0; since = 0; batch = 0; carried = e - f; used = 0; first = f; end = e; target = t }
+no-runs : (rs : List Run) → carried rs ≡ 0 → rs ≡ []
+no-runs [] e = refl
+no-runs (r ∷ rs) e = absurd (omega (arith, length-carried (r ∷ rs)))
 
-module _ {offsets targets : List ℕ} {index : ℕ} {g : Setup} {marks regs : List ℕ} (x : Startable offsets targets index g marks regs) where
-  pub index-low : index < objects (graph offsets targets)
-  unfolding sum
-  index-low = x .accepted .starts-below index (omega (arith, hit-same index))
+some-runs : (rs : List Run) → 0 < length rs → withRuns rs ≡ busy empty 0 poll rs
+some-runs [] h = absurd (omega arith)
+some-runs (r ∷ rs) h = refl
 
-  after-word : getD offsets (index + 1) 0 ≡ after (graph offsets targets) index
-  after-word = ap (λ (i : ℕ). getD offsets i 0) (add-one index)
+first-is : (G : Graph) (rs : List Run) (t : Top) (s : List ℕ) → Told rs t s → 0 < length rs → (c : ℕ) → c ≡ carried rs
+    → BlockIs G (busy empty 0 poll rs) (firstBlock c t (getD (G .targets) (t .first) 0)) s
+first-is G [] t s d h c e = absurd (omega arith)
+first-is G (run f j ∷ rs) t s d h c e =
+    record {
+      status = refl;
+      cell = refl;
+      since = refl;
+      batch = refl;
+      carrying = record { number = omega (arith, e); told = d };
+      target = ap (λ (x : Top). getD (G .targets) (x .first) 0) (d .top);
+    }
 
-  -- a reference that leaves the index has a target
-  pub first-inside : getD offsets index 0 < getD offsets (index + 1) 0 → getD offsets index 0 < length targets
-  first-inside h = omega (arith, after-word, after-limit (graph offsets targets) (x .accepted .formed) index index-low)
+first-target : (G : Graph) (rs : List Run) (t : Top) (s : List ℕ) → Told rs t s → 0 < length rs → Every (InTargets G) rs
+    → t .first < length (G .targets)
+first-target G [] t s d h e = absurd (omega arith)
+first-target G (run f j ∷ rs) t s d h e = omega (arith, ap (λ (x : Top). x .first) (d .top), e .0)
 
-  -- the index is not marked before it is
-  unmarked-index : getD (unmarked (graph offsets targets)) index 1 ≡ 0
-  unmarked-index = getD-replicate (objects (graph offsets targets)) index 0 1 index-low
+-- marks that are cleared are zero
+pub cleared : (marks : List ℕ) {marks₁ : List ℕ} → marks₁ ≡ replicate (length marks) 0 → marks₁ ≡ replicate (length marks₁) 0
+cleared marks {marks₁} e = e ∙ sym (ap (λ (k : ℕ). replicate {A = ℕ} k 0) (ap length e ∙ length-replicate (length marks) 0))
 
-  begin-marks : (ms : List ℕ) → ms ≡ replicate (length marks) 0 → set ms index 1 ≡ begin offsets targets index g .marks
-  unfolding start marksAt
-  begin-marks ms e = ap (λ (l : List ℕ). set l index 1) (e ∙ ap (λ (k : ℕ). replicate {A = ℕ} k 0) (x .marks-long))
+module _ {offsets targets starts : List ℕ} {g : Setup} {marks s regs : List ℕ} (x : Startable offsets targets starts g marks s regs) where
+  abbrev G : Graph
+  G = graph offsets targets
 
-  -- worker 0 begins with the index's run
-  begin-runs : (rs : List Run) → leaving (graph offsets targets) index ≡ rs
-      → startRuns (graph offsets targets) (index ∷ []) (unmarked (graph offsets targets)) ≡ rs
-  unfolding startRuns
-  begin-runs rs e =
-      ap (λ (k : ℕ). newRun k (leaving (graph offsets targets) index) ++ []) unmarked-index ∙ append-nil (leaving (graph offsets targets) index) ∙ e
+  abbrev runs : List Run
+  runs = runsFrom G starts
 
-  begin-live : live (begin offsets targets index g .marks) ≡ 1
-  unfolding start marksAt
-  begin-live =
-      live-more (unmarked (graph offsets targets)) index 1 (omega arith) unmarked-index
-      ∙ ap suc (none-live (objects (graph offsets targets)))
-
-  -- the counts, where worker 0 begins with the runs rs
-  begin-counts : (rs : List Run) → leaving (graph offsets targets) index ≡ rs
-      → begin offsets targets index g .counts ≡ freshCounts 1 (carries? (withRuns rs))
-  unfolding start startRuns
-  begin-counts rs e =
-      ap (λ (l : ℕ). freshCounts l (carries? (withRuns (startRuns (graph offsets targets) (index ∷ []) (unmarked (graph offsets targets)))))) begin-live
-      ∙ ap (λ (l : List Run). freshCounts 1 (carries? (withRuns l))) (begin-runs rs e)
-
-  begin-workers : (rs : List Run) → leaving (graph offsets targets) index ≡ rs
-      → begin offsets targets index g .workers ≡ withRuns rs ∷ replicate (g .workers - 1) idle
-  unfolding start
-  begin-workers rs e = ap (λ (l : List Run). withRuns l ∷ replicate (g .workers - 1) idle) (begin-runs rs e)
+  pub gather-ready : {marks₁ : List ℕ} → length marks₁ ≡ length marks → Gatherable offsets starts marks₁ s
+  gather-ready e =
+      record {
+        graph = G;
+        workers = g .workers;
+        setting = _;
+        accepted = x .accepted;
+        offsets-are = refl;
+        objects-limit = x .objects-limit;
+        references-limit = x .references-limit;
+        marks-long = e ∙ x .marks-long;
+        long = x .long;
+      }
 
   some-workers : suc (g .workers - 1) ≡ g .workers
   some-workers = omega (arith, x .accepted .some-worker)
 
   -- every worker is idle
-  idle-holds : (s : State) → {marks′ : List ℕ} → marks′ ≡ s .marks → s .workers ≡ idle ∷ replicate (g .workers - 1) idle → s .counts ≡ freshCounts 1 0
-      → (work : List ℕ) → length work ≡ g .workers * g .stretch
-      → Holds (graph offsets targets) g s (memory marks′ work regs (progressWith (freshCounts 1 0) (g .workers)))
+  idle-holds : (c : Counts) (s : State) → {marks′ : List ℕ} → marks′ ≡ s .marks → s .workers ≡ idle ∷ replicate (g .workers - 1) idle
+      → c ≡ s .counts → (work : List ℕ) → length work ≡ g .workers * g .stretch
+      → Holds G g s (memory marks′ work regs (progressWith c (g .workers)))
   unfolding sum
-  idle-holds s ma ws co work long =
+  idle-holds c s ma ws co work long =
       record {
         marks-are = ma;
-        counts-are = sym co;
+        counts-are = co;
         running-is = rw ws (omega (arith, idle-running (g .workers - 1), some-workers));
         regs-long = ap length (x .regs-are) ∙ length-replicate {A = ℕ} (9 * g .workers) 0;
         work-long = long;
@@ -107,16 +112,6 @@ module _ {offsets targets : List ℕ} {index : ℕ} {g : Setup} {marks regs : Li
             rw (w, x .regs-are) (getD-replicate {A = ℕ} (9 * g .workers) (9 * b) 0 0 (omega arith));
       }
 
-  -- the index has no references
-  pub begin-none : getD offsets (index + 1) 0 ≤ getD offsets index 0 → (ms : List ℕ) → ms ≡ replicate (length marks) 0
-      → (work : List ℕ) → length work ≡ g .workers * g .stretch
-      → Holds (graph offsets targets) g (begin offsets targets index g) (memory (set ms index 1) work regs (progressWith (freshCounts 1 0) (g .workers)))
-  unfolding carried sum
-  begin-none h ms e =
-      let z : degree (graph offsets targets) index ≡ 0 = omega (arith, after-word) in
-      let none = ap (λ (k : ℕ). runFrom (first (graph offsets targets) index) k) z in
-      idle-holds (begin offsets targets index g) (begin-marks ms e) (begin-workers [] none) (begin-counts [] none)
-
   pub first-room : Room regs 0
   first-room =
       record {
@@ -124,45 +119,60 @@ module _ {offsets targets : List ℕ} {index : ℕ} {g : Setup} {marks regs : Li
         long = omega (arith, ap length (x .regs-are), length-replicate {A = ℕ} (9 * g .workers) 0, x .accepted .some-worker);
       }
 
-  -- it has some: from f to e
-  module _ (f e : ℕ) (ef : f ≡ getD offsets index 0) (ee : e ≡ getD offsets (index + 1) 0) (some : f < e) where
-    abbrev w : Worker
-    w = busy empty 0 poll (run f (e - f - 1) ∷ [])
+  begin-workers : (w : Worker) → withRuns runs ≡ w → begin offsets targets starts g .workers ≡ w ∷ replicate (g .workers - 1) idle
+  unfolding start
+  begin-workers w e = ap (λ (y : Worker). y ∷ replicate (g .workers - 1) idle) e
 
-    first-runs : leaving (graph offsets targets) index ≡ run f (e - f - 1) ∷ []
-    first-runs =
-        let z : degree (graph offsets targets) index ≡ suc (e - f - 1) = omega (arith, after-word, ef, ee) in
-        ap (λ (m : ℕ). runFrom (first (graph offsets targets) index) m) z ∙ ap (λ (m : ℕ). run m (e - f - 1) ∷ []) (sym ef)
+  -- all starts are gathered
+  module _ {marks₁ marks₂ s₁ : List ℕ} {t : Gathered} (ml : length marks₁ ≡ length marks) (all : Gathers offsets starts marks₁ s marks₂ s₁ t) where
+    d : IsGathered G starts marks₂ s₁ t
+    unfolding gather-ready
+    d = all (gather-ready ml)
 
-    first-is : (s : List ℕ) → BlockIs (graph offsets targets) w (firstBlock f e (getD targets f 0)) s
-    unfolding carried sum pairs
-    first-is s =
-        let n : e ≡ f + suc (e - f - 1) = omega arith in
-        record {
-          status = refl;
-          cell = refl;
-          since = refl;
-          batch = refl;
-          carrying =
-              record {
-                number = omega arith;
-                told =
-                    record {
-                      top = ap (λ (m : ℕ). topWith 0 f m) n;
-                      holds = record { words = refl; count = refl; room = omega arith };
-                    };
-              };
-          target = refl;
-        }
+    begin-marks : marks₂ ≡ begin offsets targets starts g .marks
+    unfolding start
+    begin-marks = d .marks-are
 
-    pub begin-some : (regs′ : List ℕ) → regs′ ≡ storeAt regs 0 (firstBlock f e (getD targets f 0))
-        → (ms : List ℕ) → ms ≡ replicate (length marks) 0 → (work : List ℕ) → length work ≡ g .workers * g .stretch
-        → Holds (graph offsets targets) g (begin offsets targets index g) (memory (set ms index 1) work regs′ (progressWith (freshCounts 1 1) (g .workers)))
-    begin-some regs′ er ms em work long =
-        let s₀ : State = record { marks = []; workers = idle ∷ replicate (g .workers - 1) idle; counts = freshCounts 1 0 } in
-        let st : Stored regs 0 (firstBlock f e (getD targets f 0)) regs′ =
-        rw er (store-stored regs 0 (first-room .long) (firstBlock f e (getD targets f 0))) in
-        hold-one (idle-holds s₀ refl refl refl work long) (ap suc (length-replicate (g .workers - 1) idle) ∙ some-workers) 0
-        (omega (arith, x .accepted .some-worker)) refl w work st refl (all-same (g .workers) (g .stretch) 0 work) (first-is _)
-        refl {s′ = begin offsets targets index g} (begin-workers (run f (e - f - 1) ∷ []) first-runs) (begin-marks ms em)
-        (sym (begin-counts (run f (e - f - 1) ∷ []) first-runs ∙ ap (λ (k : ℕ). freshCounts 1 k) (run-counts (run f (e - f - 1)) [])))
+    -- the counts, where so many workers carry
+    begin-counts : (k : ℕ) → k ≡ carries? (withRuns runs) → freshCounts (t .live) k ≡ begin offsets targets starts g .counts
+    unfolding start
+    begin-counts k e =
+        ap (λ (l : ℕ). freshCounts l k) (d .live-is ∙ ap live (d .marks-are))
+        ∙ ap (λ (c : ℕ). freshCounts (live (begin offsets targets starts g .marks)) c) e
+
+    -- none has references
+    pub begin-none : t .carried ≡ 0 → Started offsets targets starts g marks₂ s₁ regs (progressWith (freshCounts (t .live) 0) (g .workers))
+    unfolding carried sum
+    begin-none z work long is =
+        let none : runs ≡ [] = no-runs runs (sym (d .carried-is) ∙ z) in
+        idle-holds (freshCounts (t .live) 0) (begin offsets targets starts g) begin-marks (begin-workers idle (ap withRuns none))
+        (begin-counts 0 (sym (ap (λ (rs : List Run). carries? (withRuns rs)) none))) work long
+
+    module _ (h : t .carried ≢ 0) (sl : length s₁ ≡ length s) where
+      some : 0 < length runs
+      some = carried-length runs (omega (arith, d .carried-is, h))
+
+      pub lower-ready : Lowerable s₁ (t .at)
+      lower-ready = record { runs = runs; ends = d .ends; some = some; small = omega (arith, sl, x .long, x .objects-limit) }
+
+      -- the runs stand at the beginning of the stretch
+      module _ {s₂ : List ℕ} {top : Top} (l : Lowered s₁ (t .at) s₂ top) where
+        told : Told runs top s₂
+        told = l .told runs (d .ends) some
+
+        pub first-inside : top .first < length targets
+        first-inside = first-target G runs top s₂ told some (start-inside (x .accepted))
+
+        pub begin-some : (regs₁ : List ℕ) → regs₁ ≡ storeAt regs 0 (firstBlock (t .carried) top (getD targets (top .first) 0))
+            → Started offsets targets starts g marks₂ s₂ regs₁ (progressWith (freshCounts (t .live) 1) (g .workers))
+        begin-some regs₁ er work long is =
+            let c = freshCounts (t .live) 1 in
+            let counted : carries? (withRuns runs) ≡ 1 = ap carries? (some-runs runs some) ∙ set-some (carried runs) (omega (arith, d .carried-is, h)) in
+            let s₀ : State = record { marks = []; workers = idle ∷ replicate (g .workers - 1) idle; counts = c } in
+            let r = firstBlock (t .carried) top (getD targets (top .first) 0) in
+            let st : Stored regs 0 r regs₁ = rw er (store-stored regs 0 (first-room .long) r) in
+            hold-one (idle-holds c s₀ refl refl refl work long) (ap suc (length-replicate (g .workers - 1) idle) ∙ some-workers) 0
+            (omega (arith, x .accepted .some-worker)) refl (busy empty 0 poll runs) work st refl (all-same (g .workers) (g .stretch) 0 work)
+            (rw is (first-is G runs top s₂ told some (t .carried) (d .carried-is)))
+            refl {s′ = begin offsets targets starts g} (begin-workers (busy empty 0 poll runs) (some-runs runs some)) begin-marks
+            (begin-counts 1 (sym counted))

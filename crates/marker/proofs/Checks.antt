@@ -12,12 +12,12 @@ use lib.Dec.{ltb, eqb}
 use lib.Seq.{drop-cons}
 use Rattle.laws.specs.Choice.{both}
 use Rattle.refusal.proofs.None.{or-none}
-use Rattle.graph.specs.Graph.{objects, wellFormed}
-use Rattle.graph.specs.Limits.{most-objects, most-references}
+use Rattle.graph.specs.Graph.{objects, allBelow, wellFormed}
+use Rattle.graph.specs.Limits.{most-objects, most-references, most-starts}
 use Rattle.machine.specs.Machine.{stretchLength}
 use Rattle.machine.specs.Limits.{most-workers, most-setting}
 use Rattle.machine.specs.Call.{Call, graphOf, outside, scheduleFits, fault}
-use Rattle.refusal.specs.declared.Refusal.the-variants.{Setting, Count, Buffer, Graph, Object, Schedule}
+use Rattle.refusal.specs.declared.Refusal.the-variants.{Setting, Count, Buffer, Graph, Starts, Object, Schedule}
 use Rattle.refusal.specs.declared.Verdict.the-variants.{Fine, Faulty}
 use Rattle.marker.specs.Answer.{Finds}
 
@@ -112,16 +112,28 @@ module _ {c : Call} {marks work : ℕ} where
         unfolding fault
         finds-10 e = record { number-is = rw (e₈, e₄, e₇, e) }
 
-        module _ (e₁₀ : wellFormed (graphOf c) ≡ true) where
-          pub finds-5 : objects (graphOf c) ≤ c .index → Finds (Faulty Object) c marks work
-          unfolding fault
-          finds-5 h = record { number-is = rw (e₈, e₄, e₇, e₁₀, le-ltb (c .index) (objects (graphOf c)) h) }
+-- the first four checks find nothing
+pub record Clear (c : Call) (marks work : ℕ) : Type 0 where
+  pub setting : Setting? (c .workers) (c .batch) (c .cutoff) ≡ false
+  pub count : Count? (length (c .offsets)) (length (c .targets)) ≡ false
+  pub buffer : Buffer? (objects (graphOf c)) (c .workers) marks work ≡ false
+  pub graph : wellFormed (graphOf c) ≡ true
 
-          module _ (low : c .index < objects (graphOf c)) where
-            pub finds-9 : scheduleFits (c .workers) (c .schedule) ≡ false → Finds (Faulty Schedule) c marks work
-            unfolding fault
-            finds-9 e = record { number-is = rw (e₈, e₄, e₇, e₁₀, lt-ltb (c .index) (objects (graphOf c)) low, e) }
+module _ {c : Call} {marks work : ℕ} (x : Clear c marks work) where
+  pub finds-13 : outside most-starts (length (c .starts)) ≡ true → Finds (Faulty Starts) c marks work
+  unfolding fault
+  finds-13 e = record { number-is = rw (x .setting, x .count, x .buffer, x .graph, e) }
 
-            pub finds-none : scheduleFits (c .workers) (c .schedule) ≡ true → Finds Fine c marks work
-            unfolding fault
-            finds-none e = record { number-is = rw (e₈, e₄, e₇, e₁₀, lt-ltb (c .index) (objects (graphOf c)) low, e) }
+  module _ (e₁₃ : outside most-starts (length (c .starts)) ≡ false) where
+    pub finds-5 : allBelow (objects (graphOf c)) (c .starts) ≡ false → Finds (Faulty Object) c marks work
+    unfolding fault
+    finds-5 e = record { number-is = rw (x .setting, x .count, x .buffer, x .graph, e₁₃, e) }
+
+    module _ (e₅ : allBelow (objects (graphOf c)) (c .starts) ≡ true) where
+      pub finds-9 : scheduleFits (c .workers) (c .schedule) ≡ false → Finds (Faulty Schedule) c marks work
+      unfolding fault
+      finds-9 e = record { number-is = rw (x .setting, x .count, x .buffer, x .graph, e₁₃, e₅, e) }
+
+      pub finds-none : scheduleFits (c .workers) (c .schedule) ≡ true → Finds Fine c marks work
+      unfolding fault
+      finds-none e = record { number-is = rw (x .setting, x .count, x .buffer, x .graph, e₁₃, e₅, e) }

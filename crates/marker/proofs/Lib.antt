@@ -1,5 +1,6 @@
 pub mod Begin
 pub mod Checks
+pub mod Gather
 pub mod Loop
 pub mod Settling
 pub mod Stages

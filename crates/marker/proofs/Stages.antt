@@ -1,18 +1,19 @@
 -- From the checks to the stages, and from the stages to the answer.
 use mathlib.Core.Path.{_≡_, refl, sym, ap, _∙_}
-use mathlib.Core.List.{List, _∷_}
-use Prim.Native.Nat.{ℕ, zero, suc, _*_, _≤_}
+use mathlib.Core.List.{List, _∷_, _++_}
+use Prim.Native.Nat.{ℕ, zero, suc, _-_, _*_, _≤_}
+use native.Mathlib.Nat.{mul-le-mul-right}
 use native.Mathlib.Omega.{arith}
-use lib.ListN.{length, replicate, take}
+use lib.ListN.{length, replicate, take, drop, length-append, length-drop}
 use lib.Dec.{eqb}
-use lib.Seq.{length-take-le}
+use lib.Seq.{length-take-le, take-at}
 use Rattle.refusal.specs.declared.Refusal.{Refusal}
 use Rattle.refusal.specs.Number.{number, numberOf}
 use Rattle.refusal.proofs.Numbers.{numbered}
 use Rattle.machine.specs.Machine.{start, entries, allEnded}
 use Rattle.machine.specs.Row.{refusedRow}
 use Rattle.machine.specs.Sound.{Sound}
-use Rattle.machine.specs.Call.{Call, graphOf, settingOf, startsOf, fault, final, answerFor, marksFor, workFor}
+use Rattle.machine.specs.Call.{Call, graphOf, settingOf, fault, final, answerFor, marksFor, workFor}
 use Rattle.machine.proofs.Accept.{Checked, checked}
 use Rattle.machine.proofs.Facts.{runs-room}
 use Rattle.machine.proofs.Start.{sound-start, sound}
@@ -21,45 +22,83 @@ use Rattle.machine.proofs.Demand3.{demand3}
 use Rattle.machine.proofs.Lamp.{lamp}
 use Rattle.turns.specs.declared.Setup.{Setup}
 use Rattle.turns.specs.declared.Progress.{Progress}
-use Rattle.turns.specs.Held.{memory, Holds}
+use Rattle.turns.specs.Held.{memory, stretchAt, Holds}
 use Rattle.turns.specs.Turned.{Ready}
 use Rattle.marker.specs.declared.Marked.{Marked}
 use Rattle.marker.specs.declared.Marked.the-variants.{Refused}
 use Rattle.refusal.specs.declared.Verdict.{Verdict}
 use Rattle.refusal.specs.declared.Verdict.the-variants.{Fine, Faulty}
 use Rattle.marker.specs.Answer.{row, Finds, Answered}
-use Rattle.marker.specs.Stages.{Startable, Started, IsBegun, DoesAll, Settling, Settled, rowOf, callWith, setupOf, Faultless, Collectable, Collected}
+use Rattle.marker.specs.Stages.{IsBegun, DoesAll, Settling, Settled, rowOf, callWith, setupOf, Faultless, Collectable, Collected}
+use Rattle.marker.specs.Starting.{Startable, Started}
 use Rattle.marker.proofs.Loop.{all-ended}
 
 -- what the checks establish
 facts : {c : Call} {marks work : List ℕ} → Faultless c marks work → Checked c (length marks) (length work)
 facts {c} {marks} {work} x = checked c (length marks) (length work) (x .none)
 
-module _ {offsets targets : List ℕ} {index : ℕ} {g : Setup} {schedule marks work regs : List ℕ}
-    (x : Collectable (callWith offsets targets index g schedule) g marks work regs) where
+-- the first stretch of the work memory, of L words, and the memory with it written anew
+abbrev firstPart : ℕ → List ℕ → List ℕ
+firstPart L work = take (L - 0) work
+
+abbrev firstAnew : ℕ → List ℕ → List ℕ → List ℕ
+firstAnew L work s = s ++ drop (L - 0) work
+
+module _ (L : ℕ) (work : List ℕ) (room : L ≤ length work) where
+  front-part : length (firstPart L work) ≡ L
+  front-part = let e : L - 0 ≡ L = omega arith in rw e (length-take-le L work room)
+
+  module _ (s : List ℕ) (long : length s ≡ length (firstPart L work)) where
+    front-long : length (firstAnew L work s) ≡ length work
+    front-long = rw (length-append, length-drop) (omega (arith, long, front-part, room))
+
+    front-here : stretchAt L 0 (firstAnew L work s) ≡ s
+    front-here = let e : 0 * L ≡ 0 = omega arith in rw e (take-at s (drop (L - 0) work) L (long ∙ front-part))
+
+module _ {offsets targets starts : List ℕ} {g : Setup} {schedule marks work regs : List ℕ}
+    (x : Collectable (callWith offsets targets starts g schedule) g marks work regs) where
   abbrev call : Call
-  call = callWith offsets targets index g schedule
+  call = callWith offsets targets starts g schedule
 
   known : Checked call (length marks) (length work)
   known = facts (x .faultless)
 
-  sound-final : Sound (graphOf call) (startsOf call) (g .workers) (settingOf call) (final call)
+  sound-final : Sound (graphOf call) (call .starts) (g .workers) (settingOf call) (final call)
   sound-final = sound (known .accepted) (entries schedule)
 
-  pub start-ready : Startable offsets targets index g marks regs
-  start-ready = record { accepted = known .accepted; marks-long = known .marks-exact; regs-are = x .regs-are }
+  work-long : length work ≡ g .workers * g .stretch
+  work-long = known .work-exact ∙ ap (λ (L : ℕ). g .workers * L) (sym (x .stretch-is))
+
+  -- worker 0's stretch
+  pub first-stretch : g .stretch ≤ length work
+  first-stretch = omega (arith, work-long, mul-le-mul-right (g .stretch) (known .accepted .some-worker))
+
+  pub start-ready : Startable offsets targets starts g marks (firstPart (g .stretch) work) regs
+  start-ready =
+      record {
+        accepted = known .accepted;
+        objects-limit = known .objects-limit;
+        references-limit = known .references-limit;
+        marks-long = known .marks-exact;
+        long = front-part (g .stretch) work first-stretch ∙ x .stretch-is;
+        regs-are = x .regs-are;
+      }
 
   -- after the start
-  module _ {marks₁ regs₁ : List ℕ} {p₁ : Progress} (d : Started offsets targets index g marks₁ regs₁ p₁) where
-    pub turns-ready : Ready (IsBegun g offsets targets schedule) g (memory marks₁ work regs₁ p₁)
+  module _ {marks₁ s₁ regs₁ : List ℕ} {p₁ : Progress} (d : Started offsets targets starts g marks₁ s₁ regs₁ p₁)
+      (l₁ : length s₁ ≡ length (firstPart (g .stretch) work)) where
+    abbrev work₁ : List ℕ
+    work₁ = firstAnew (g .stretch) work s₁
+
+    pub turns-ready : Ready (IsBegun g offsets targets schedule) g (memory marks₁ work₁ regs₁ p₁)
     unfolding start
     turns-ready =
         record {
           graph = graphOf call;
-          state = start (graphOf call) (startsOf call) (g .workers);
+          state = start (graphOf call) (call .starts) (g .workers);
           scene =
               record {
-                starts = startsOf call;
+                starts = call .starts;
                 accepted = known .accepted;
                 sound = sound-start (known .accepted);
                 objects-limit = known .objects-limit;
@@ -68,7 +107,8 @@ module _ {offsets targets : List ℕ} {index : ℕ} {g : Setup} {schedule marks 
                 handed-room = omega arith;
                 moved-room = omega arith;
               };
-          holds = d work (known .work-exact ∙ ap (λ (L : ℕ). g .workers * L) (sym (x .stretch-is)));
+          holds =
+              d work₁ (front-long (g .stretch) work first-stretch s₁ l₁ ∙ work-long) (front-here (g .stretch) work first-stretch s₁ l₁);
           here =
               record {
                 graph-is = refl;
@@ -80,7 +120,7 @@ module _ {offsets targets : List ℕ} {index : ℕ} {g : Setup} {schedule marks 
 
     -- after the turns
     module _ {marks₂ work₂ regs₂ : List ℕ} {p₂ : Progress}
-        (t : DoesAll (IsBegun g offsets targets schedule) g schedule (memory marks₁ work regs₁ p₁) (memory marks₂ work₂ regs₂ p₂)) where
+        (t : DoesAll (IsBegun g offsets targets schedule) g schedule (memory marks₁ work₁ regs₁ p₁) (memory marks₂ work₂ regs₂ p₂)) where
       final-held : Holds (graphOf call) g (final call) (memory marks₂ work₂ regs₂ p₂)
       unfolding turns-ready
       final-held = t turns-ready
@@ -102,7 +142,7 @@ module _ {offsets targets : List ℕ} {index : ℕ} {g : Setup} {schedule marks 
 
       -- after the stretches are written out
       pub all-collected : {work₃ : List ℕ} → Settled (g .workers) (g .stretch) work₂ regs₂ work₃
-          → (r : Marked) → row r ≡ rowOf p₂ → Collected (callWith offsets targets index g schedule) r marks₂ work₃
+          → (r : Marked) → row r ≡ rowOf p₂ → Collected (callWith offsets targets starts g schedule) r marks₂ work₃
       unfolding settle-ready
       all-collected s r e =
           let f : eqb (p₂ .running) 0 ≡ allEnded (final call .workers) =

@@ -11,17 +11,17 @@ use Rattle.machine.specs.Row.{Row, refusedRow}
 use Rattle.machine.specs.Demand2.{Demand2}
 use Rattle.machine.specs.Demand3.{Demand3}
 use Rattle.machine.specs.Lamp.{Lamp}
-use Rattle.machine.specs.Call.{Call, graphOf, settingOf, startsOf, fault, marking, marksAfter, workAfter}
+use Rattle.machine.specs.Call.{Call, graphOf, settingOf, fault, marking, marksAfter, workAfter}
 use Rattle.marker.specs.declared.Marked.{Marked}
 use Rattle.marker.specs.declared.Marked.the-variants.{Finished, Unfinished, Refused}
 
 -- the call with these arguments
-abbrev pub callOf : List ℕ → List ℕ → ℕ → ℕ → ℕ → ℕ → List ℕ → Call
-callOf offsets targets index W D K schedule =
+abbrev pub callOf : List ℕ → List ℕ → List ℕ → ℕ → ℕ → ℕ → List ℕ → Call
+callOf offsets targets starts W D K schedule =
     record {
       offsets = offsets;
       targets = targets;
-      index = index;
+      starts = starts;
       workers = W;
       batch = D;
       cutoff = K;
@@ -45,8 +45,8 @@ pub record Answered (c : Call) (marks work : List ℕ) (r : Marked) (marks′ wo
   pub marks-are : marks′ ≡ marksAfter c marks work
   pub work-is : work′ ≡ workAfter c marks work
   pub demand2 : fault c (length marks) (length work) ≡ 0
-      → Demand2 (graphOf c) (startsOf c) (c .workers) (settingOf c) (entries (c .schedule)) (row r) marks′
+      → Demand2 (graphOf c) (c .starts) (c .workers) (settingOf c) (entries (c .schedule)) (row r) marks′
   pub demand3 : fault c (length marks) (length work) ≡ 0
-      → Demand3 (graphOf c) (startsOf c) (c .workers) (settingOf c) (entries (c .schedule)) (row r)
+      → Demand3 (graphOf c) (c .starts) (c .workers) (settingOf c) (entries (c .schedule)) (row r)
   pub lamp : fault c (length marks) (length work) ≡ 0
-      → Lamp (graphOf c) (startsOf c) (c .workers) (settingOf c) (entries (c .schedule)) (row r)
+      → Lamp (graphOf c) (c .starts) (c .workers) (settingOf c) (entries (c .schedule)) (row r)

@@ -1,8 +1,8 @@
--- What the stages of a call without a fault ask and leave: the start, the turns, and the work memory written out.
+-- What the later stages of a call without a fault ask and leave: the turns, and the work memory written out.
 use Prim.Native.Nat.{ℕ, suc, _*_, _≤_}
 use mathlib.Core.Path.{_≡_}
 use mathlib.Core.Bool.{true}
-use mathlib.Core.List.{List, [], _∷_}
+use mathlib.Core.List.{List}
 use lib.ListN.{length, getD, replicate}
 use lib.Dec.{ltb, eqb}
 use Rattle.laws.specs.Choice.{pick}
@@ -11,8 +11,7 @@ use Rattle.graph.specs.Limits.{most-objects}
 use Rattle.machine.specs.Limits.{most-workers}
 use Rattle.machine.specs.Row.{Row}
 use Rattle.machine.specs.Machine as machine
-use Rattle.machine.specs.Machine.{State, Worker, ended, runsOf, start, turns, entries, result, stretchLength}
-use Rattle.machine.specs.Accepted.{Accepted}
+use Rattle.machine.specs.Machine.{State, Worker, ended, runsOf, turns, entries, result, stretchLength}
 use Rattle.machine.specs.Call.{Call, graphOf, fault, final, scheduleFits}
 use Rattle.worker.specs.declared.registers.Block.{Block}
 use Rattle.worker.specs.declared.stretch.Top.{Top}
@@ -24,24 +23,6 @@ use Rattle.turns.specs.Held.{Memory, memory, settingOf, topOf, Each, Holds}
 use Rattle.turns.specs.Turned.{Ready}
 use Rattle.marker.specs.declared.Marked.{Marked}
 use Rattle.marker.specs.Answer.{callOf, row}
-
--- ---- the start
-
--- an accepted call, its marks, and registers that are all zero
-pub record Startable (offsets targets : List ℕ) (index : ℕ) (g : Setup) (marks regs : List ℕ) : Type 0 where
-  pub accepted : Accepted (graph offsets targets) (index ∷ []) (g .workers) (settingOf g)
-  pub marks-long : length marks ≡ objects (graph offsets targets)
-  pub regs-are : regs ≡ replicate (block-words * g .workers) 0
-
--- the state before the first turn
-abbrev pub begin : List ℕ → List ℕ → ℕ → Setup → State
-begin offsets targets index g = start (graph offsets targets) (index ∷ []) (g .workers)
-
--- the memories hold it, whatever words the work memory has
-abbrev pub Started : List ℕ → List ℕ → ℕ → Setup → List ℕ → List ℕ → Progress → Type 0
-Started offsets targets index g marks′ regs′ p =
-    (work : List ℕ) → length work ≡ g .workers * g .stretch
-    → Holds (graph offsets targets) g (begin offsets targets index g) (memory marks′ work regs′ p)
 
 -- ---- the turns
 
@@ -90,8 +71,8 @@ abbrev pub rowOf : Progress → Row
 rowOf p = record { number = 0; finished = eqb (p .running) 0; counts = p .counts }
 
 -- the call whose setting is this
-abbrev pub callWith : List ℕ → List ℕ → ℕ → Setup → List ℕ → Call
-callWith offsets targets index g schedule = callOf offsets targets index (g .workers) (g .batch) (g .cutoff) schedule
+abbrev pub callWith : List ℕ → List ℕ → List ℕ → Setup → List ℕ → Call
+callWith offsets targets starts g schedule = callOf offsets targets starts (g .workers) (g .batch) (g .cutoff) schedule
 
 -- its setting, with the length of a stretch
 abbrev pub setupOf : Call → Setup

@@ -1,4 +1,6 @@
 // The marker's call: its checks in their order, the start, the turns of the schedule, and the answer.
+mod start;
+
 use machine::Counts;
 use refusal::Refusal;
 use refusal::Verdict;
@@ -11,7 +13,7 @@ use worker::stretch::Top;
 ghost use mathlib.Core.Path.{_≡_};
 ghost use mathlib.Core.Bool.{not, _||_};
 ghost use Prim.Native.Nat.{_*_, _-_, _≤_};
-ghost use lib.ListN.{length, replicate};
+ghost use lib.ListN.{length};
 ghost use lib.Dec.{ltb, eqb};
 ghost use Rattle.graph.specs.Limits.{most-objects, most-references};
 ghost use Rattle.machine.specs.Limits.{most-workers, most-setting};
@@ -20,7 +22,7 @@ ghost use Rattle.machine.specs.Call.{outside, scheduleFits};
 ghost use Rattle.turns.specs.Held.{memory};
 ghost use Rattle.turns.specs.Turned.{Ready};
 ghost use Rattle.marker.specs.Answer.{callOf, row, Finds, Answered};
-ghost use Rattle.marker.specs.Stages.{Startable, Started, IsBegun, DoesAll, topFor, Settling, Settled, rowOf, callWith, Faultless, Collectable, Collected};
+ghost use Rattle.marker.specs.Stages.{IsBegun, DoesAll, topFor, Settling, Settled, rowOf, callWith, Faultless, Collectable, Collected};
 
 pub enum Marked {
     // All workers have ended.
@@ -41,7 +43,7 @@ pub fn refusal_of(marked: Marked) -> u8
 }
 
 // A number that is not 1 to the largest.
-fn out_of_range(x: u32, most: u32) -> bool
+fn out_of_range(x: usize, most: usize) -> bool
     ensures { λ r. ⌜ r ≡ outside most x ⌝ }
 {
     if x < 1 {
@@ -54,13 +56,13 @@ fn out_of_range(x: u32, most: u32) -> bool
 pub fn setting_outside(workers: u32, batch: u32, cutoff: u32) -> bool
     ensures { λ r. ⌜ r ≡ (outside most-workers workers || outside most-setting batch || outside most-setting cutoff) ⌝ }
 {
-    if out_of_range(workers, machine::MOST_WORKERS) {
+    if out_of_range(workers as usize, machine::MOST_WORKERS as usize) {
         return true;
     }
-    if out_of_range(batch, machine::MOST_SETTING) {
+    if out_of_range(batch as usize, machine::MOST_SETTING as usize) {
         return true;
     }
-    out_of_range(cutoff, machine::MOST_SETTING)
+    out_of_range(cutoff as usize, machine::MOST_SETTING as usize)
 }
 
 // Check 4: from the number of offsets and of targets, n or m is outside its range.
@@ -111,7 +113,7 @@ fn schedule_fits(schedule: &[u8], workers: u32) -> bool
 fn check(
     offsets: &[u32],
     targets: &[u32],
-    index: u32,
+    starts: &[u32],
     workers: u32,
     batch: u32,
     cutoff: u32,
@@ -119,7 +121,7 @@ fn check(
     marks: usize,
     work: usize,
 ) -> Verdict
-    ensures { λ v. ⌜ Finds v (callOf (now (offsets .entry)) (now (targets .entry)) index workers batch cutoff (now (schedule .entry))) marks work ⌝ }
+    ensures { λ v. ⌜ Finds v (callOf (now (offsets .entry)) (now (targets .entry)) (now (starts .entry)) workers batch cutoff (now (schedule .entry))) marks work ⌝ }
 {
     if setting_outside(workers, batch, cutoff) {
         return Verdict::Faulty(Refusal::Setting);
@@ -134,65 +136,16 @@ fn check(
     if !graph::well_formed(offsets, targets) {
         return Verdict::Faulty(Refusal::Graph);
     }
-    if n <= index as usize {
+    if out_of_range(starts.len(), graph::MOST_STARTS) {
+        return Verdict::Faulty(Refusal::Starts);
+    }
+    if !graph::is_below(n, starts) {
         return Verdict::Faulty(Refusal::Object);
     }
     if !schedule_fits(schedule, workers) {
         return Verdict::Faulty(Refusal::Schedule);
     }
     Verdict::Fine
-}
-
-// No object is marked.
-fn clear_marks(marks: &mut [u8])
-    ensures { λ _. ⌜ now (marks .exit) ≡ replicate (length (now (marks .entry))) 0 ⌝ }
-{
-    let n = marks.len();
-    slices::clear_bytes(marks, 0, n);
-}
-
-// The start: only the index is marked, and worker 0 carries its run.
-fn start(
-    offsets: &[u32],
-    targets: &[u32],
-    index: u32,
-    setup: Setup,
-    marks: &mut [u8],
-    regs: &mut [u32],
-) -> Progress
-    requires { ⌜ Startable (now offsets) (now targets) index setup (now marks) (now regs) ⌝ }
-    ensures { λ p. ⌜ Started (now (offsets .entry)) (now (targets .entry)) index setup (now (marks .exit)) (now (regs .exit)) p ⌝ }
-{
-    clear_marks(marks);
-    let v = index as usize;
-    marks[v] = 1;
-    let first = offsets[v];
-    let end = offsets[v + 1];
-    if end <= first {
-        return Progress {
-            counts: machine::fresh(1, 0),
-            running: setup.workers as u64,
-        };
-    }
-    registers::store(
-        regs,
-        0,
-        Block {
-            status: registers::POLL,
-            cell: 0,
-            since: 0,
-            batch: 0,
-            carried: end - first,
-            used: 0,
-            first,
-            end,
-            target: targets[first as usize],
-        },
-    );
-    Progress {
-        counts: machine::fresh(1, 1),
-        running: setup.workers as u64,
-    }
 }
 
 // The runs that a block tells of: none where the worker carries nothing.
@@ -275,18 +228,27 @@ fn answer(p: Progress) -> Marked
 fn collected(
     offsets: &[u32],
     targets: &[u32],
-    index: u32,
+    starts: &[u32],
     setup: Setup,
     schedule: &[u8],
     marks: &mut [u8],
     work: &mut [u32],
     regs: &mut [u32],
 ) -> Marked
-    requires { ⌜ Collectable (callWith (now offsets) (now targets) index setup (now schedule)) setup (now marks) (now work) (now regs) ⌝ }
-    ensures { λ r. ⌜ Collected (callWith (now (offsets .entry)) (now (targets .entry)) index setup (now (schedule .entry)))
+    requires { ⌜ Collectable (callWith (now offsets) (now targets) (now starts) setup (now schedule)) setup (now marks) (now work) (now regs) ⌝ }
+    ensures { λ r. ⌜ Collected (callWith (now (offsets .entry)) (now (targets .entry)) (now (starts .entry)) setup (now (schedule .entry)))
         r (now (marks .exit)) (now (work .exit)) ⌝ }
 {
-    let begun = start(offsets, targets, index, setup, marks, regs);
+    let len = setup.stretch;
+    let begun = start::start(
+        offsets,
+        targets,
+        starts,
+        setup,
+        marks,
+        &mut work[0..len],
+        regs,
+    );
     let p = take_turns(offsets, targets, setup, schedule, marks, work, regs, begun);
     settle(setup, work, regs);
     answer(p)
@@ -296,7 +258,7 @@ fn collected(
 fn mark_checked(
     offsets: &[u32],
     targets: &[u32],
-    index: u32,
+    starts: &[u32],
     workers: u32,
     batch: u32,
     cutoff: u32,
@@ -304,8 +266,8 @@ fn mark_checked(
     marks: &mut [u8],
     work: &mut [u32],
 ) -> Marked
-    requires { ⌜ Faultless (callOf (now offsets) (now targets) index workers batch cutoff (now schedule)) (now marks) (now work) ⌝ }
-    ensures { λ r. ⌜ Collected (callOf (now (offsets .entry)) (now (targets .entry)) index workers batch cutoff (now (schedule .entry)))
+    requires { ⌜ Faultless (callOf (now offsets) (now targets) (now starts) workers batch cutoff (now schedule)) (now marks) (now work) ⌝ }
+    ensures { λ r. ⌜ Collected (callOf (now (offsets .entry)) (now (targets .entry)) (now (starts .entry)) workers batch cutoff (now (schedule .entry)))
         r (now (marks .exit)) (now (work .exit)) ⌝ }
 {
     let n = offsets.len() - 1;
@@ -320,7 +282,7 @@ fn mark_checked(
     collected(
         offsets,
         targets,
-        index,
+        starts,
         setup,
         schedule,
         marks,
@@ -333,7 +295,7 @@ fn mark_checked(
 pub fn mark(
     offsets: &[u32],
     targets: &[u32],
-    index: u32,
+    starts: &[u32],
     workers: u32,
     batch: u32,
     cutoff: u32,
@@ -341,13 +303,13 @@ pub fn mark(
     marks: &mut [u8],
     work: &mut [u32],
 ) -> Marked
-    ensures { λ r. ⌜ Answered (callOf (now (offsets .entry)) (now (targets .entry)) index workers batch cutoff (now (schedule .entry)))
+    ensures { λ r. ⌜ Answered (callOf (now (offsets .entry)) (now (targets .entry)) (now (starts .entry)) workers batch cutoff (now (schedule .entry)))
         (now (marks .entry)) (now (work .entry)) r (now (marks .exit)) (now (work .exit)) ⌝ }
 {
     let verdict = check(
         offsets,
         targets,
-        index,
+        starts,
         workers,
         batch,
         cutoff,
@@ -360,7 +322,7 @@ pub fn mark(
         Verdict::Fine => mark_checked(
             offsets,
             targets,
-            index,
+            starts,
             workers,
             batch,
             cutoff,

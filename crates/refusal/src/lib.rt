@@ -28,6 +28,8 @@ pub enum Refusal {
     Large,
     // 12: a file that cannot be read.
     File,
+    // 13: no start, or more leases than a catalogue may have.
+    Starts,
 }
 
 // What a check finds.
@@ -53,6 +55,7 @@ pub fn number_of(r: Refusal) -> u8
         Refusal::Graph => 10,
         Refusal::Large => 11,
         Refusal::File => 12,
+        Refusal::Starts => 13,
     }
 }
 

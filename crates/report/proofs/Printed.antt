@@ -66,7 +66,7 @@ unfolding fault
 passing-fault {s} o {marks} {work} p settings em ew schedule =
     let buffers : bufferFault (objects (graph (s .offsets) (s .targets))) (o .workers) marks work ≡ 0 =
     rw (p .objects-are, eq-eqb marks (length (s .sizes)) em, eq-eqb work (o .workers * stretchLength (length (s .sizes))) ew) in
-    rw (settings, p .counts, buffers, p .formed, p .start)
+    rw (settings, p .counts, buffers, p .formed, p .some-starts, p .starts-below)
 
 module _ {s : Contents} {o : Order} {l : Lent} (ready : Collectable s o l) where
   only-schedule : (schedule : List ℕ) → fault (callOf s o schedule) (length (l .marks)) (length (l .work)) ≡ scheduleFault (o .workers) schedule

@@ -11,7 +11,7 @@ use Rattle.laws.specs.Every.{Every}
 use Rattle.refusal.specs.declared.Refusal.{Refusal}
 use Rattle.refusal.specs.Number.{number}
 use Rattle.refusal.proofs.Numbers.{numbered, first-found}
-use Rattle.graph.specs.Graph.{objects as graph-objects}
+use Rattle.graph.specs.Graph.{objects as graph-objects, allBelow}
 use Rattle.graph.specs.Limits.{most-objects, most-references, largest-size}
 use Rattle.catalogue.specs.declared.Answer.{Answer}
 use Rattle.catalogue.specs.declared.Answer.the-variants.{Read, Refused}
@@ -34,6 +34,7 @@ every-fits (x ∷ l) h = rw (le-leb x largest-size (h .0)) (every-fits l (h .1))
 
 -- a store that was read passes
 pub passing : (b : List ℕ) → catalogueFault b ≡ 0 → Passing (contentsOf (storeOf b))
+unfolding allBelow
 passing b z =
     let range : InRange (storeOf b) = whole-range b (whole-bytes b z) in
     let g : ReadGraph (storeOf b) (readGraph (storeOf b)) = read-graph (storeOf b) range in
@@ -45,7 +46,8 @@ passing b z =
             le-ltb most-references (length (targetsOf (storeOf b))) (omega arith),
           );
       formed = rw (g .passes);
-      start = rw (lt-ltb (storeOf b .index) (graph-objects (readGraph (storeOf b))) (omega arith));
+      some-starts = refl;
+      starts-below = rw (lt-ltb (storeOf b .index) (graph-objects (readGraph (storeOf b))) (omega arith));
       objects-are = g .n-is;
       some = range .some;
       sizes-fit = every-fits (storeOf b .sizes) (range .sizes-small);
@@ -90,17 +92,17 @@ module _ {b order o t s : List ℕ} {l : Lent} (ready : Readable b order o t s l
       whole : taken b o t s ≡ accepted (storeOf b)
       whole = taken-is ∙ ap (λ (k : ℕ). judged k (storeOf b)) (clean .0)
 
-      same : contents o′ t′ s′ i ≡ contentsOf (storeOf b)
+      same : contents o′ t′ s′ (i ∷ []) ≡ contentsOf (storeOf b)
       same =
           let eo = d .offsets-are ∙ ap (λ (x : Reading). offsetsAfter x o) whole in
           let et = d .targets-are ∙ ap (λ (x : Reading). targetsAfter x t) whole in
           let es = d .sizes-are ∙ ap (λ (x : Reading). sizesAfter x s) whole in
           rw (eo, et, es, clean .1)
 
-      pub due-read : orderText (contents o′ t′ s′ i) order ≡ laterText b order
+      pub due-read : orderText (contents o′ t′ s′ (i ∷ [])) order ≡ laterText b order
       due-read = ap (λ (x : Contents). orderText x order) same ∙ rw (clean .0)
 
-      pub orderly : Orderly (contents o′ t′ s′ i) order l
+      pub orderly : Orderly (contents o′ t′ s′ (i ∷ [])) order l
       orderly =
           let n : length s′ ≡ length s = ap (λ (x : Contents). length (x .sizes)) same ∙ sym (ready .all-sizes) in
           let f = ready .fitting in

@@ -8,7 +8,7 @@ use Rattle.graph.specs.Graph.{graph, objects as graph-objects}
 use Rattle.catalogue.specs.Store.{objects, references}
 use Rattle.catalogue.specs.Reading.{storeOf}
 use Rattle.machine.specs.Machine.{stretchLength}
-use Rattle.machine.specs.Call.{settingFault, countFault, graphFault, indexFault}
+use Rattle.machine.specs.Call.{settingFault, countFault, graphFault, startsFault, objectFault}
 use Rattle.sweep.specs.Sweep.{allFit}
 use Rattle.report.specs.declared.order.Order.{Order}
 use Rattle.report.specs.Limits.{order-length, most-objects, most-references, work-room, swept-room, text-room}
@@ -40,7 +40,8 @@ pub record Fitting (sizes marks list out : List ℕ) : Type 0 where
 pub record Passing (s : Contents) : Type 0 where
   pub counts : countFault (s .offsets) (s .targets) ≡ 0
   pub formed : graphFault (graph (s .offsets) (s .targets)) ≡ 0
-  pub start : indexFault (graph-objects (graph (s .offsets) (s .targets))) (s .index) ≡ 0
+  pub some-starts : startsFault (s .starts) ≡ 0
+  pub starts-below : objectFault (graph-objects (graph (s .offsets) (s .targets))) (s .starts) ≡ 0
   pub objects-are : graph-objects (graph (s .offsets) (s .targets)) ≡ length (s .sizes)
   pub some : 1 ≤ length (s .sizes)
   pub sizes-fit : allFit (s .sizes) ≡ true

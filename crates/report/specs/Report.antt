@@ -1,7 +1,7 @@
 -- SPECIFICATION 7: from the two files to what is printed.
 use Prim.Native.Nat.{ℕ, zero, suc}
 use mathlib.Core.Bool.{Bool, true, false, _||_}
-use mathlib.Core.List.{List, [], _++_}
+use mathlib.Core.List.{List, [], _∷_, _++_}
 use lib.ListN.{length, drop}
 use lib.Dec.{ltb}
 use Rattle.laws.specs.Words.{word}
@@ -97,15 +97,15 @@ pub record Contents : Type 0 where
   pub offsets : List ℕ
   pub targets : List ℕ
   pub sizes : List ℕ
-  pub index : ℕ
+  pub starts : List ℕ
 
 -- the contents with these parts
-abbrev pub contents : List ℕ → List ℕ → List ℕ → ℕ → Contents
-contents offsets targets sizes index = record { offsets = offsets; targets = targets; sizes = sizes; index = index }
+abbrev pub contents : List ℕ → List ℕ → List ℕ → List ℕ → Contents
+contents offsets targets sizes starts = record { offsets = offsets; targets = targets; sizes = sizes; starts = starts }
 
 -- what is left of this store
 abbrev pub contentsOf : Store → Contents
-contentsOf s = contents (offsetsOf s) (targetsOf s) (s .sizes) (s .index)
+contentsOf s = contents (offsetsOf s) (targetsOf s) (s .sizes) (s .index ∷ [])
 
 -- the marker's call on it
 abbrev pub callOf : Contents → Order → List ℕ → Call
@@ -113,7 +113,7 @@ callOf s o schedule =
     record {
       offsets = s .offsets;
       targets = s .targets;
-      index = s .index;
+      starts = s .starts;
       workers = o .workers;
       batch = o .batch;
       cutoff = o .cutoff;

@@ -12,7 +12,7 @@ pub fn put_collection(
     offsets: &[u32],
     targets: &[u32],
     sizes: &[u64],
-    index: u32,
+    starts: &[u32],
     settings: Order,
     schedule: &[u8],
     marks: &mut [u8],
@@ -20,15 +20,15 @@ pub fn put_collection(
     list: &mut [u32],
     out: &mut [u8],
 ) -> usize
-    requires { ⌜ Collectable (contents (now offsets) (now targets) (now sizes) index) settings (lent (now marks) (now work) (now list) (now out)) ⌝ }
+    requires { ⌜ Collectable (contents (now offsets) (now targets) (now sizes) (now starts)) settings (lent (now marks) (now work) (now list) (now out)) ⌝ }
     ensures { λ r. ⌜ Put (now (out .entry)) 0
-        (collectionText (contents (now (offsets .entry)) (now (targets .entry)) (now (sizes .entry)) index) settings (now (schedule .entry)))
+        (collectionText (contents (now (offsets .entry)) (now (targets .entry)) (now (sizes .entry)) (now (starts .entry))) settings (now (schedule .entry)))
         (now (out .exit)) r ⌝ }
 {
     let marked = marker::mark(
         offsets,
         targets,
-        index,
+        starts,
         settings.workers,
         settings.batch,
         settings.cutoff,

@@ -14,16 +14,16 @@ fn put_ordered(
     offsets: &[u32],
     targets: &[u32],
     sizes: &[u64],
-    index: u32,
+    starts: &[u32],
     order: &[u8],
     marks: &mut [u8],
     work: &mut [u32],
     list: &mut [u32],
     out: &mut [u8],
 ) -> usize
-    requires { ⌜ Orderly (contents (now offsets) (now targets) (now sizes) index) (now order) (lent (now marks) (now work) (now list) (now out)) ⌝ }
+    requires { ⌜ Orderly (contents (now offsets) (now targets) (now sizes) (now starts)) (now order) (lent (now marks) (now work) (now list) (now out)) ⌝ }
     ensures { λ r. ⌜ Put (now (out .entry)) 0
-        (orderText (contents (now (offsets .entry)) (now (targets .entry)) (now (sizes .entry)) index) (now (order .entry))) (now (out .exit)) r ⌝ }
+        (orderText (contents (now (offsets .entry)) (now (targets .entry)) (now (sizes .entry)) (now (starts .entry))) (now (order .entry))) (now (out .exit)) r ⌝ }
 {
     let settings = order::order_of(order);
     let found = order::check(settings);
@@ -35,7 +35,7 @@ fn put_ordered(
         offsets,
         targets,
         sizes,
-        index,
+        starts,
         settings,
         &order[ORDER_LENGTH..],
         marks,
@@ -65,11 +65,12 @@ pub fn put_store(
     let Answer::Read { n: _, m: _, index } = found else {
         return lines::put_refusal(out, 0, catalogue::refusal_of(found));
     };
+    let starts = [index];
     put_ordered(
         offsets,
         targets,
         sizes,
-        index,
+        &starts,
         order,
         marks,
         work,

@@ -118,30 +118,33 @@ fn view(cells: &[u64], places: &[usize; 512]) {
 fn mark(cells: &[u64], places: &[usize; 512]) {
     let mut offsets = [0u32; 64];
     let mut targets = [0u32; 64];
-    let mut setting = [0u32; 4];
+    let mut starts = [0u32; 512];
     let o = copy_words(cells, places, 0, &mut offsets);
     let t = copy_words(cells, places, 1, &mut targets);
-    copy_words(cells, places, 2, &mut setting);
-    mark_graph(&offsets[..o], &targets[..t], &setting, cells, places);
+    let s = copy_words(cells, places, 2, &mut starts);
+    mark_graph(&offsets[..o], &targets[..t], &starts[..s], cells, places);
 }
 
 fn mark_graph(
     offsets: &[u32],
     targets: &[u32],
-    setting: &[u32; 4],
+    starts: &[u32],
     cells: &[u64],
     places: &[usize; 512],
 ) {
+    let mut setting = [0u32; 3];
     let mut schedule = [0u8; 512];
     let mut marks = [0u8; 64];
     let mut work = [0u32; 512];
-    let s = copy_bytes(cells, places, 3, &mut schedule);
-    let m = copy_bytes(cells, places, 4, &mut marks);
-    let w = copy_words(cells, places, 5, &mut work);
+    copy_words(cells, places, 3, &mut setting);
+    let s = copy_bytes(cells, places, 4, &mut schedule);
+    let m = copy_bytes(cells, places, 5, &mut marks);
+    let w = copy_words(cells, places, 6, &mut work);
     mark_into(
         offsets,
         targets,
-        setting,
+        starts,
+        &setting,
         &schedule[..s],
         &mut marks[..m],
         &mut work[..w],
@@ -151,7 +154,8 @@ fn mark_graph(
 fn mark_into(
     offsets: &[u32],
     targets: &[u32],
-    setting: &[u32; 4],
+    starts: &[u32],
+    setting: &[u32; 3],
     schedule: &[u8],
     marks: &mut [u8],
     work: &mut [u32],
@@ -159,10 +163,10 @@ fn mark_into(
     let answer = marker::mark(
         offsets,
         targets,
+        starts,
         setting[0],
         setting[1],
         setting[2],
-        setting[3],
         schedule,
         marks,
         work,

@@ -4,7 +4,7 @@ use mathlib.Core.Path.{_≡_}
 use mathlib.Core.Bool.{Bool, not, _||_}
 use mathlib.Core.Logic.{_⊎_}
 use mathlib.Core.List.{List, [], _∷_, _++_}
-use lib.ListN.{length, getD, set, take, replicate}
+use lib.ListN.{length, getD, set, take, drop, replicate}
 use lib.Dec.{ltb}
 use Rattle.laws.specs.Choice.{pick}
 use Rattle.machine.specs.Run.{Run, run, runFrom, carried, keep, rest, pairs}
@@ -62,6 +62,24 @@ nextTop s t f g =
 abbrev pub nextWords : List ℕ → Top → ℕ → ℕ → List ℕ
 nextWords s t f g =
     pick (ltb (t .first + 1) (t .end)) (pick (ltb f g) (set (set s (t .used) f) (t .used + 1) g) s) s
+
+-- ---- the start
+
+-- the pairs of these runs stand at the end of the stretch, from `at` on
+pub record EndsWith (s : List ℕ) (at : ℕ) (rs : List Run) : Type 0 where
+  pub words : drop at s ≡ pairs rs
+  pub place : at + 2 * length rs ≡ length s
+
+-- some runs stand there
+pub record Lowerable (s : List ℕ) (at : ℕ) : Type 0 where
+  pub runs : List Run
+  pub ends : EndsWith s at runs
+  pub some : 0 < length runs
+  pub small : length s < 2 ^ 32
+
+-- what `lower` leaves
+pub record Lowered (s : List ℕ) (at : ℕ) (s′ : List ℕ) (t : Top) : Type 0 where
+  pub told : (rs : List Run) → EndsWith s at rs → 0 < length rs → Told rs t s′
 
 -- ---- sharing
 

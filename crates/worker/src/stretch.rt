@@ -4,7 +4,7 @@ ghost use mathlib.Core.Path.{_≡_};
 ghost use Prim.Native.Nat.{_+_, _-_, _≤_};
 ghost use lib.ListN.{length, drop};
 ghost use lib.Seq.{paste};
-ghost use Rattle.worker.specs.Stretch.{Copyable, Cuttable, CutFound, Cleft, KeptAbove, settled};
+ghost use Rattle.worker.specs.Stretch.{Copyable, Lowerable, Lowered, Cuttable, CutFound, Cleft, KeptAbove, settled};
 
 // The run being followed, from its next reference to its end, and how many words the others take.
 // Where first is the end, there is none.
@@ -47,6 +47,24 @@ pub fn copy_words(w: &mut [u32], from: usize, to: usize, count: usize)
     for i in 0..count {
         let x = w[from + i];
         w[to + i] = x;
+    }
+}
+
+// Pairs that stand at the end of a stretch, from `at` on, come to its beginning. The uppermost is
+// the run to be followed first.
+pub fn lower(s: &mut [u32], at: usize) -> Top
+    requires { ⌜ Lowerable (now s) at ⌝ }
+    ensures { λ t. ⌜ Lowered (now (s .entry)) at (now (s .exit)) t ⌝ }
+{
+    let top = s.len() - 2;
+    let first = s[top];
+    let end = s[top + 1];
+    let used = top - at;
+    copy_words(s, at, 0, used);
+    Top {
+        used: used as u32,
+        first,
+        end,
     }
 }
 

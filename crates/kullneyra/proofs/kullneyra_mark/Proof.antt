@@ -8,7 +8,7 @@ use Rattle.kullneyra.proofs.kullneyra_mark.Tie as tie
 
 returns : tie.Need-returns
 returns c =
-    let start = c .before .before .before .before .before .before .before in
+    let start = c .before .before .before .before .before .before .before .before in
     let f = ne-eqb (length (start .args .result .now)) mark-words (c .if1 .taken) in
     record { answers = rw f; fills-marks = rw f; fills-work = rw f; fills-result = rw f }
 
@@ -17,7 +17,7 @@ returns-2 c =
     let at-give-marked = c .before .before in
     let at-mark = at-give-marked .before .before .before .before .before .before in
     let at-if1 = at-mark .before .before .before in
-    let start = at-if1 .before .before .before .before .before .before .before in
+    let start = at-if1 .before .before .before .before .before .before .before .before in
     let f = eq-eqb (length (start .args .result .now)) mark-words (at-if1 .if1 .left) in
     let done = at-mark .mark .ensures in
     let h = done .row-is in

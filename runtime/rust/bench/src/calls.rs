@@ -107,7 +107,7 @@ fn round_robin(workers: u32, turns: usize) -> Vec<u8> {
 fn call<'a>(graph: &'a Graph, settings: Settings, schedule: &'a [u8]) -> Call<'a> {
     let Settings { workers, batch, cutoff } = settings;
     let Graph { offsets, targets, .. } = graph;
-    Call { offsets, targets, index: 0, workers, batch, cutoff, schedule }
+    Call { offsets, targets, starts: &[0], workers, batch, cutoff, schedule }
 }
 
 fn run_reference(graph: &Graph, settings: Settings, schedule: &[u8], b: &mut Buffers) -> Outcome {
@@ -121,7 +121,7 @@ fn run_tuned(graph: &Graph, settings: Settings, schedule: &[u8], b: &mut Buffers
 fn run_proved(graph: &Graph, settings: Settings, schedule: &[u8], b: &mut Buffers) -> kullneyra::Marked {
     let Graph { offsets, targets, .. } = graph;
     let schedule = Schedule::from_bytes(schedule);
-    kullneyra::mark(offsets, targets, 0, settings, schedule, &mut b.marks, &mut b.work).expect("a call")
+    kullneyra::mark(offsets, targets, &[0], settings, schedule, &mut b.marks, &mut b.work).expect("a call")
 }
 
 /// The shortest round-robin schedule that finishes, up to one in 256 longer.

@@ -16,7 +16,7 @@ pub enum Call {
 pub struct Mark {
     pub offsets: Vec<u32>,
     pub targets: Vec<u32>,
-    pub index: u32,
+    pub starts: Vec<u32>,
     pub workers: u32,
     pub batch: u32,
     pub cutoff: u32,
@@ -28,8 +28,8 @@ pub struct Mark {
 impl Mark {
     /// The call, for the markers in plain Rust.
     pub fn call(&self) -> reference::Call<'_> {
-        let Mark { ref offsets, ref targets, index, workers, batch, cutoff, ref schedule, .. } = *self;
-        reference::Call { offsets, targets, index, workers, batch, cutoff, schedule }
+        let Mark { ref offsets, ref targets, ref starts, workers, batch, cutoff, ref schedule, .. } = *self;
+        reference::Call { offsets, targets, starts, workers, batch, cutoff, schedule }
     }
 }
 
@@ -75,7 +75,7 @@ impl Call {
     /// The answers that the specification has for this call.
     pub fn answers(place: usize) -> &'static [u32] {
         const ANSWERS: [&[u32]; 5] =
-            [&[0, 1, 2, 3, 4, 5, 7], &[0, 1, 2, 3, 4, 5, 6, 7], &[0, 7], &[0, 4, 5, 7, 8, 9, 10], &[0, 4, 6, 7]];
+            [&[0, 1, 2, 3, 4, 5, 7], &[0, 1, 2, 3, 4, 5, 6, 7], &[0, 7], &[0, 4, 5, 7, 8, 9, 10, 13], &[0, 4, 6, 7]];
         ANSWERS[place]
     }
 }
@@ -126,7 +126,8 @@ impl fmt::Display for Mark {
     fn fmt(&self, f: &mut fmt::Formatter<'_>) -> fmt::Result {
         list(f, "offsets", &self.offsets)?;
         list(f, "targets", &self.targets)?;
-        writeln!(f, "  index {}, W {}, D {}, K {}", self.index, self.workers, self.batch, self.cutoff)?;
+        list(f, "starts", &self.starts)?;
+        writeln!(f, "  W {}, D {}, K {}", self.workers, self.batch, self.cutoff)?;
         schedule(f, &self.schedule)?;
         writeln!(f, "  lengths: marks {}, work {}", self.marks, self.work)
     }

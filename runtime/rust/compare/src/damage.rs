@@ -3,7 +3,7 @@
 use crate::case::Mark;
 use crate::rng::Rng;
 use crate::store::Record;
-use reference::{LARGEST_SIZE, MOST_OBJECTS, MOST_REFERENCES};
+use reference::{LARGEST_SIZE, MOST_OBJECTS, MOST_REFERENCES, MOST_STARTS};
 
 /// A length that is most likely wrong: one short, one long, empty, or another.
 pub fn length(rng: &mut Rng, right: usize) -> usize {
@@ -137,6 +137,21 @@ fn schedule(rng: &mut Rng, schedule: &mut Vec<u8>, workers: u32) {
     }
 }
 
+/// Damages the starts: none, one or more too many, or one that is most likely no object.
+fn starts(rng: &mut Rng, starts: &mut Vec<u32>, n: u32) {
+    let first = starts.first().copied().unwrap_or(0);
+    match rng.below(5) {
+        0 => starts.clear(),
+        1 => starts.resize(rng.pick(&[MOST_STARTS, MOST_STARTS + 1, 2 * MOST_STARTS]), first),
+        2 => starts.push(number(rng, n, n)),
+        _ if starts.is_empty() => starts.push(number(rng, n, n)),
+        _ => {
+            let at = rng.below(starts.len());
+            starts[at] = number(rng, n, n);
+        }
+    }
+}
+
 /// Damages one thing of a marker's call.
 pub fn mark(rng: &mut Rng, call: &mut Mark) {
     let any = rng.word() as u32;
@@ -145,7 +160,7 @@ pub fn mark(rng: &mut Rng, call: &mut Mark) {
         1 => call.batch = number(rng, call.batch, 65_535),
         2 => call.cutoff = number(rng, call.cutoff, 65_535),
         3 | 4 => graph(rng, &mut call.offsets, &mut call.targets),
-        5 => call.index = number(rng, call.marks as u32, call.marks as u32),
+        5 => starts(rng, &mut call.starts, call.marks as u32),
         6 => schedule(rng, &mut call.schedule, call.workers),
         7 => call.marks = length(rng, call.marks),
         _ => call.work = length(rng, call.work),

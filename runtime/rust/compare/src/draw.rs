@@ -5,7 +5,7 @@ use crate::damage;
 use crate::judge::reached;
 use crate::rng::Rng;
 use crate::store::{self, Store};
-use reference::LARGEST_SIZE;
+use reference::{LARGEST_SIZE, MOST_STARTS};
 
 /// A small case.
 pub fn small(rng: &mut Rng) -> Case {
@@ -98,7 +98,7 @@ fn mark(rng: &mut Rng) -> Mark {
     let workers = rng.pick(&[1, 2, 3, 4, 8, 15, 16]);
     let mut call = Mark {
         schedule: Vec::new(),
-        index: store.index,
+        starts: starts(rng, store.index, store.n),
         workers: workers as u32,
         batch: setting(rng),
         cutoff: setting(rng),
@@ -114,6 +114,20 @@ fn mark(rng: &mut Rng) -> Mark {
         }
     }
     call
+}
+
+/// The index, often alone; or leases behind it, a few or as many as there may be, with repeats among them.
+pub fn starts(rng: &mut Rng, index: u32, n: usize) -> Vec<u32> {
+    let leases = match rng.below(6) {
+        0 | 1 => rng.between(1, 4),
+        2 => rng.between(1, n),
+        3 => rng.pick(&[MOST_STARTS - 2, MOST_STARTS - 1]),
+        _ => 0,
+    };
+    let below = rng.pick(&[n, n, 2.min(n)]);
+    let mut starts = vec![index];
+    starts.extend((0..leases.min(MOST_STARTS - 1)).map(|_| rng.below(below) as u32));
+    starts
 }
 
 /// D or K, within the range.
@@ -134,7 +148,7 @@ fn schedule(rng: &mut Rng, call: &Mark) -> Vec<u8> {
         1 | 2 => rng.below(40),
         3..=5 => rng.below(workers * (2 * m + 8)),
         _ => {
-            let (_, leaving) = reached(&call.offsets, &call.targets, call.index);
+            let (_, leaving) = reached(&call.offsets, &call.targets, &call.starts);
             workers * (7 * leaving + workers)
         }
     };

@@ -50,12 +50,17 @@ pub fn demands(case: &Case, got: &After) -> Result<(), String> {
     }
 }
 
-/// The objects that the index reaches, and how many references leave them: R.
-pub fn reached(offsets: &[u32], targets: &[u32], index: u32) -> (Vec<bool>, usize) {
+/// The objects that the starts reach, and how many references leave them: R.
+pub fn reached(offsets: &[u32], targets: &[u32], starts: &[u32]) -> (Vec<bool>, usize) {
     let mut found = vec![false; offsets.len() - 1];
     let mut leaving = 0;
-    let mut next = vec![index as usize];
-    found[index as usize] = true;
+    let mut next: Vec<usize> = Vec::new();
+    for v in starts.iter().map(|&start| start as usize) {
+        if !found[v] {
+            found[v] = true;
+            next.push(v);
+        }
+    }
     while let Some(v) = next.pop() {
         let part = &targets[offsets[v] as usize..offsets[v + 1] as usize];
         leaving += part.len();
@@ -106,7 +111,7 @@ fn leaving_unmarked(call: &Mark, marks: &[u64]) -> u64 {
 /// What demands 2 and 3 say of every accepted run.
 fn run_demands(call: &Mark, got: &After) -> Result<(), String> {
     let (marks, work, result) = (got.lent(0), got.lent(1), got.lent(2));
-    let (found, leaving) = reached(&call.offsets, &call.targets, call.index);
+    let (found, leaving) = reached(&call.offsets, &call.targets, &call.starts);
     let Marked { finished, live, followed, handed, moved, carrying, .. } = got.marked();
     let most = leaving as u64;
     let bound = 7 * most + u64::from(call.workers);
@@ -118,7 +123,7 @@ fn run_demands(call: &Mark, got: &After) -> Result<(), String> {
         ("marks are 0 or 1", marks.iter().all(|&mark| mark < 2)),
         ("live is the number of marks", live == marks.iter().sum::<u64>()),
         ("only reachable objects are marked", marks.iter().zip(&found).all(|(&mark, &found)| mark == 0 || found)),
-        ("the index is marked", marks[call.index as usize] == 1),
+        ("every start is marked", call.starts.iter().all(|&start| marks[start as usize] == 1)),
         ("work is pairs, then zeros", total.is_some()),
         ("followed, carried and leaving unmarked make m", total == Some(call.targets.len() as u64)),
         ("followed is at most R", followed <= most),

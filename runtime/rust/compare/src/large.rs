@@ -1,6 +1,7 @@
 //! Large cases: at the limits and just beyond them.
 
 use crate::case::{Call, Case, Mark};
+use crate::draw;
 use crate::rng::Rng;
 use crate::store;
 use reference::{LARGEST_SIZE, MOST_OBJECTS, MOST_REFERENCES};
@@ -85,6 +86,7 @@ fn large_mark(rng: &mut Rng, number: u64) -> Mark {
         14 => drop(schedule.pop()),
         _ => {}
     }
+    let starts = if number < 4 { draw::starts(rng, store.index, n) } else { vec![store.index] };
     let (workers, marks) = (workers as u32, n);
-    Mark { offsets, targets, index: store.index, workers, batch, cutoff, schedule, marks, work }
+    Mark { offsets, targets, starts, workers, batch, cutoff, schedule, marks, work }
 }

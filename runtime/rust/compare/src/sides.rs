@@ -44,8 +44,8 @@ impl Side for Proved {
     }
 
     fn mark(&self, c: &Mark, marks: &mut [u8], work: &mut [u32], result: &mut [u64]) -> u32 {
-        let Mark { offsets, targets, schedule, .. } = c;
-        raw::mark(offsets, targets, c.index, c.workers, c.batch, c.cutoff, schedule, marks, work, result)
+        let Mark { offsets, targets, starts, schedule, .. } = c;
+        raw::mark(offsets, targets, starts, c.workers, c.batch, c.cutoff, schedule, marks, work, result)
     }
 
     fn sweep(&self, marks: &[u8], sizes: &[u64], list: &mut [u32], result: &mut [u64]) -> u32 {
@@ -97,7 +97,7 @@ impl Side for Typed {
     fn mark(&self, c: &Mark, marks: &mut [u8], work: &mut [u32], result: &mut [u64]) -> u32 {
         let settings = Settings { workers: c.workers, batch: c.batch, cutoff: c.cutoff };
         let schedule = Schedule::from_bytes(&c.schedule);
-        let answer = kullneyra::mark(&c.offsets, &c.targets, c.index, settings, schedule, marks, work);
+        let answer = kullneyra::mark(&c.offsets, &c.targets, &c.starts, settings, schedule, marks, work);
         written(answer.map(Marked::words), result, Refusal::number)
     }
 

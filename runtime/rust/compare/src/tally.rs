@@ -7,7 +7,7 @@ use std::fmt;
 #[derive(Default)]
 pub struct Tally {
     /// By call, then by answer.
-    answers: [[u64; 11]; 5],
+    answers: [[u64; 14]; 5],
     finished: u64,
     handed: u64,
     refused: u64,

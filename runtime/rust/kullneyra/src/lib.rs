@@ -39,7 +39,7 @@
 //! let settings = Settings { workers: 1, batch: 64, cutoff: 64 };
 //! let turns = [Turn { worker: 0, asked: 0 }; 3];
 //! let (mut marks, mut work) = ([0; 2], [0; work_words(2, 1)]);
-//! let marked = mark(&offsets, &targets, head.index, settings, Schedule::new(&turns), &mut marks, &mut work)?;
+//! let marked = mark(&offsets, &targets, &[head.index], settings, Schedule::new(&turns), &mut marks, &mut work)?;
 //! assert!(marked.finished);
 //!
 //! let mut list = [0; 2];
@@ -58,6 +58,8 @@ pub const MOST_OBJECTS: usize = 65_536;
 pub const MOST_REFERENCES: usize = 1_048_576;
 /// The largest size of an object.
 pub const LARGEST_SIZE: u64 = 1_099_511_627_776;
+/// The most starts of a marking: the index and 256 leases.
+pub const MOST_STARTS: usize = 257;
 /// The most workers of a marking.
 pub const MOST_WORKERS: u32 = 16;
 /// The largest batch and the largest cutoff of a marking.
@@ -87,12 +89,14 @@ pub enum Refusal {
     Schedule,
     /// 10: offsets and targets that are no graph.
     Graph,
+    /// 13: no start, or more than [`MOST_STARTS`].
+    Starts,
     /// A number that this crate has no name for: the library is newer than the crate.
     Other(u32),
 }
 
 /// The refusals that have a name.
-const NAMED: [Refusal; 10] = [
+const NAMED: [Refusal; 11] = [
     Refusal::Short,
     Refusal::Kind,
     Refusal::Place,
@@ -103,6 +107,7 @@ const NAMED: [Refusal; 10] = [
     Refusal::Setting,
     Refusal::Schedule,
     Refusal::Graph,
+    Refusal::Starts,
 ];
 
 impl Refusal {
@@ -123,6 +128,7 @@ impl Refusal {
             Refusal::Setting => (8, "workers, batch or cutoff out of range"),
             Refusal::Schedule => (9, "half an entry at the schedule's end, or one for a worker that is not there"),
             Refusal::Graph => (10, "offsets and targets that are no graph"),
+            Refusal::Starts => (13, "no start, or too many"),
             Refusal::Other(number) => (number, "a number newer than this crate"),
         }
     }
@@ -279,12 +285,13 @@ pub fn references<'a>(offsets: &[u32], targets: &'a [u32], object: u32) -> &'a [
     &targets[start..start + length]
 }
 
-/// Marks what the index reaches, by the turns of the schedule. Marks are n bytes, and work is
+/// Marks what the starts reach, by the turns of the schedule. The starts are the index and then the
+/// leases, 1 to [`MOST_STARTS`] in all; a repeated one adds nothing. Marks are n bytes, and work is
 /// [`work_words`] words; both may hold anything before.
 pub fn mark(
     offsets: &[u32],
     targets: &[u32],
-    index: u32,
+    starts: &[u32],
     settings: Settings,
     schedule: Schedule<'_>,
     marks: &mut [u8],
@@ -292,7 +299,7 @@ pub fn mark(
 ) -> Result<Marked, Refusal> {
     let Settings { workers, batch, cutoff } = settings;
     let mut result = [0; Marked::WORDS];
-    answer(raw::mark(offsets, targets, index, workers, batch, cutoff, schedule.0, marks, work, &mut result))?;
+    answer(raw::mark(offsets, targets, starts, workers, batch, cutoff, schedule.0, marks, work, &mut result))?;
     Ok(Marked::from_words(result))
 }
 
@@ -312,7 +319,7 @@ mod tests {
 
     #[test]
     fn numbers_are_places_in_the_table() {
-        for number in 1..=10 {
+        for number in (1..=10).chain([13]) {
             let refusal = Refusal::of(number);
             assert!(!matches!(refusal, Refusal::Other(_)));
             assert_eq!(refusal.number(), number);
@@ -322,7 +329,7 @@ mod tests {
     #[test]
     fn an_unknown_number_keeps_its_number() {
         assert_eq!(answer(0), Ok(()));
-        for number in [11, 18, 255, u32::MAX] {
+        for number in [11, 12, 99, 255, u32::MAX] {
             assert_eq!(answer(number), Err(Refusal::Other(number)));
             assert_eq!(Refusal::Other(number).number(), number);
         }
@@ -331,14 +338,14 @@ mod tests {
     #[test]
     fn display_is_in_words() {
         assert_eq!(Refusal::Buffer.to_string(), "refusal 7: a lent buffer is not as long as it must be");
-        assert_eq!(Refusal::Other(13).to_string(), "refusal 13: a number newer than this crate");
+        assert_eq!(Refusal::Other(99).to_string(), "refusal 99: a number newer than this crate");
     }
 
     #[test]
     fn zeros_beside_a_refusal() {
         assert_eq!(header(&[]).unwrap_or_default(), Header { objects: 0, references: 0, index: 0 });
         let settings = Settings { workers: 0, batch: 1, cutoff: 1 };
-        let marked = mark(&[0, 0], &[], 0, settings, Schedule::new(&[]), &mut [0], &mut []).unwrap_or_default();
+        let marked = mark(&[0, 0], &[], &[0], settings, Schedule::new(&[]), &mut [0], &mut []).unwrap_or_default();
         assert_eq!(marked.words(), [0; Marked::WORDS]);
         assert_eq!(sweep(&[], &[], &mut []).unwrap_or_default(), Swept { count: 0, freed: 0 });
     }
@@ -355,13 +362,17 @@ mod tests {
         assert_eq!(sweep(&marks, &[LARGEST_SIZE], &mut list).map(|swept| swept.freed), Ok(LARGEST_SIZE));
         assert_eq!(sweep(&marks, &[LARGEST_SIZE + 1], &mut list), Err(Refusal::Size));
         let mut work = [0; work_words(1, MOST_WORKERS as usize)];
-        let mut alone = |workers: u32, setting| {
+        let mut alone = |starts: usize, workers: u32, setting| {
             let settings = Settings { workers, batch: setting, cutoff: setting };
             let words = work_words(1, workers.min(MOST_WORKERS) as usize);
-            mark(&[0, 0], &[], 0, settings, Schedule::new(&[]), &mut marks, &mut work[..words])
+            let starts = &[0; MOST_STARTS + 1][..starts];
+            mark(&[0, 0], &[], starts, settings, Schedule::new(&[]), &mut marks, &mut work[..words])
         };
-        assert_eq!(alone(MOST_WORKERS, MOST_SETTING).map(|marked| marked.live), Ok(1));
-        assert_eq!(alone(MOST_WORKERS + 1, 1), Err(Refusal::Setting));
-        assert_eq!(alone(1, MOST_SETTING + 1), Err(Refusal::Setting));
+        assert_eq!(alone(1, MOST_WORKERS, MOST_SETTING).map(|marked| marked.live), Ok(1));
+        assert_eq!(alone(1, MOST_WORKERS + 1, 1), Err(Refusal::Setting));
+        assert_eq!(alone(1, 1, MOST_SETTING + 1), Err(Refusal::Setting));
+        assert_eq!(alone(MOST_STARTS, 1, 1).map(|marked| marked.live), Ok(1));
+        assert_eq!(alone(MOST_STARTS + 1, 1, 1), Err(Refusal::Starts));
+        assert_eq!(alone(0, 1, 1), Err(Refusal::Starts));
     }
 }

@@ -15,4 +15,5 @@ pub use sweep::{sweep, Swept};
 
 pub const MOST_OBJECTS: usize = 65_536;
 pub const MOST_REFERENCES: usize = 1_048_576;
+pub const MOST_STARTS: usize = 257;
 pub const LARGEST_SIZE: u64 = 1_099_511_627_776;

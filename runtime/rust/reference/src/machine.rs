@@ -1,13 +1,14 @@
 //! The machine, SPECIFICATION 4: workers that a schedule steps.
 
-use crate::{MOST_OBJECTS, MOST_REFERENCES};
+use crate::{MOST_OBJECTS, MOST_REFERENCES, MOST_STARTS};
 
 /// What the marker is given, beside the buffers that it writes.
 #[derive(Clone, Copy)]
 pub struct Call<'a> {
     pub offsets: &'a [u32],
     pub targets: &'a [u32],
-    pub index: u32,
+    /// The index, then the leases.
+    pub starts: &'a [u32],
     pub workers: u32,
     pub batch: u32,
     pub cutoff: u32,
@@ -216,7 +217,7 @@ fn is_graph(offsets: &[u32], targets: &[u32]) -> bool {
 
 /// The marker's call.
 pub fn mark(call: Call<'_>, marks: &mut [u8], work: &mut [u32]) -> Result<Outcome, u8> {
-    let Call { offsets, targets, index, workers, batch, cutoff, schedule } = call;
+    let Call { offsets, targets, starts, workers, batch, cutoff, schedule } = call;
     if !(1..=16).contains(&workers) || !(1..=65_535).contains(&batch) || !(1..=65_535).contains(&cutoff) {
         return Err(8);
     }
@@ -231,7 +232,10 @@ pub fn mark(call: Call<'_>, marks: &mut [u8], work: &mut [u32]) -> Result<Outcom
     if !is_graph(offsets, targets) {
         return Err(10);
     }
-    if index as usize >= n {
+    if starts.is_empty() || starts.len() > MOST_STARTS {
+        return Err(13);
+    }
+    if starts.iter().any(|&start| start as usize >= n) {
         return Err(5);
     }
     if !schedule.len().is_multiple_of(2) || schedule.chunks(2).any(|entry| entry[0] as u32 >= workers) {
@@ -239,7 +243,6 @@ pub fn mark(call: Call<'_>, marks: &mut [u8], work: &mut [u32]) -> Result<Outcom
     }
 
     marks.fill(0);
-    marks[index as usize] = 1;
     let mut all: Vec<Worker> = (0..workers)
         .map(|_| Worker {
             status: Status::Idle,
@@ -251,11 +254,15 @@ pub fn mark(call: Call<'_>, marks: &mut [u8], work: &mut [u32]) -> Result<Outcom
             carried: 0,
         })
         .collect();
-    let (from, to) = (offsets[index as usize], offsets[index as usize + 1]);
-    if from < to {
-        all[0].status = Status::Busy;
-        all[0].runs.push((from, to));
-        all[0].carried = to - from;
+    let first = &mut all[0];
+    for v in starts.iter().map(|&start| start as usize) {
+        let (from, to) = (offsets[v], offsets[v + 1]);
+        if marks[v] == 0 && from < to {
+            first.status = Status::Busy;
+            first.runs.insert(0, (from, to));
+            first.carried += to - from;
+        }
+        marks[v] = 1;
     }
     let mut machine = Machine {
         offsets,
@@ -263,6 +270,7 @@ pub fn mark(call: Call<'_>, marks: &mut [u8], work: &mut [u32]) -> Result<Outcom
         batch,
         cutoff,
         marks,
+        carried: all[0].carried.into(),
         workers: all,
         followed: 0,
         handed: 0,
@@ -330,10 +338,20 @@ mod tests {
     const TARGETS: [u32; 6] = [1, 2, 3, 3, 0, 4];
 
     fn run(offsets: &[u32], targets: &[u32], w: u32, d: u32, k: u32, turns: &[u8]) -> [u64; Outcome::WORDS] {
+        run_from(&[0], offsets, targets, [w, d, k], turns)
+    }
+
+    fn run_from(
+        starts: &[u32],
+        offsets: &[u32],
+        targets: &[u32],
+        [w, d, k]: [u32; 3],
+        turns: &[u8],
+    ) -> [u64; Outcome::WORDS] {
         let n = offsets.len() - 1;
         let schedule: Vec<u8> = turns.iter().flat_map(|&b| [b, 0]).collect();
         let (mut marks, mut work) = (vec![7; n], vec![9; w as usize * (2 * n + 4)]);
-        let call = Call { offsets, targets, index: 0, workers: w, batch: d, cutoff: k, schedule: &schedule };
+        let call = Call { offsets, targets, starts, workers: w, batch: d, cutoff: k, schedule: &schedule };
         mark(call, &mut marks, &mut work).unwrap().words()
     }
 
@@ -350,5 +368,13 @@ mod tests {
         assert_eq!(run(&[0, 0], &[], 2, 1, 1, &[0, 0]), [0, 1, 0, 0, 0, 1, 0]);
         assert_eq!(run(&[0, 1], &[0], 1, 1, 1, &[0; 3]), [1, 1, 1, 0, 0, 3, 0]);
         assert_eq!(run(&[0, 2, 2], &[1, 1], 1, 2, 1, &[0; 5]), [1, 2, 2, 0, 0, 5, 0]);
+    }
+
+    #[test]
+    fn starts() {
+        assert_eq!(run_from(&[3, 0, 5], &OFFSETS, &TARGETS, [2, 1, 1], &[]), [0, 3, 0, 0, 0, 0]);
+        assert_eq!(run_from(&[5, 0, 5, 0, 0], &OFFSETS, &TARGETS, [1, 1, 1], &[]), [0, 2, 0, 0, 0, 0]);
+        assert_eq!(run_from(&[4, 4], &OFFSETS, &TARGETS, [2, 1, 1], &[0, 1]), [1, 1, 0, 0, 0, 2]);
+        assert_eq!(run_from(&[0, 5], &OFFSETS, &TARGETS, [1, 6, 1], &[0; 13]), [1, 6, 6, 0, 0, 13]);
     }
 }

@@ -38,7 +38,7 @@ fn collection(store: &[u8], order: &[u8]) -> Result<String, u8> {
     }
     let (mut marks, mut work) = (vec![0; n], vec![0; workers as usize * (2 * n + 4)]);
     let schedule = &order[5..];
-    let call = Call { offsets: &offsets, targets: &targets, index: head.index, workers, batch, cutoff, schedule };
+    let call = Call { offsets: &offsets, targets: &targets, starts: &[head.index], workers, batch, cutoff, schedule };
     let outcome = mark(call, &mut marks, &mut work)?;
     let mut text = if outcome.finished { "finished\n" } else { "unfinished\n" }.to_string();
     let counts = [

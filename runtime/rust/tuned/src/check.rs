@@ -1,6 +1,6 @@
 //! The marker's checks. Each loop looks at everything, so that it is compiled without a jump out of it.
 
-use reference::{Call, MOST_OBJECTS, MOST_REFERENCES};
+use reference::{Call, MOST_OBJECTS, MOST_REFERENCES, MOST_STARTS};
 
 fn rising(offsets: &[u32]) -> bool {
     offsets.iter().zip(&offsets[1..]).fold(true, |rising, (one, next)| rising & (one <= next))
@@ -22,7 +22,7 @@ fn is_schedule(schedule: &[u8], workers: u32) -> bool {
 
 /// The number of the first fault of a call with so many marks and work words.
 pub fn call(call: Call<'_>, marks: usize, work: usize) -> Result<(), u8> {
-    let Call { offsets, targets, index, workers, batch, cutoff, schedule } = call;
+    let Call { offsets, targets, starts, workers, batch, cutoff, schedule } = call;
     if !(1..=16).contains(&workers) || !(1..=65_535).contains(&batch) || !(1..=65_535).contains(&cutoff) {
         return Err(8);
     }
@@ -36,7 +36,10 @@ pub fn call(call: Call<'_>, marks: usize, work: usize) -> Result<(), u8> {
     if !is_graph(offsets, targets) {
         return Err(10);
     }
-    if index as usize >= n {
+    if !(1..=MOST_STARTS).contains(&starts.len()) {
+        return Err(13);
+    }
+    if !all_below(starts, n as u32) {
         return Err(5);
     }
     if !is_schedule(schedule, workers) {

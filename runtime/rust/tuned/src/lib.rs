@@ -319,27 +319,41 @@ impl Machine<'_> {
 /// The marker's call: the counts, or the number of the refusal.
 pub fn mark(call: Call<'_>, marks: &mut [u8], work: &mut [u32]) -> Result<Outcome, u8> {
     check::call(call, marks.len(), work.len())?;
-    let Call { offsets, targets, index, workers, batch, cutoff, schedule } = call;
+    let Call { offsets, targets, starts, workers, batch, cutoff, schedule } = call;
     let stretch = 2 * (offsets.len() - 1) + 4;
     let mut blocks = Workers::default();
     for (b, worker) in blocks.iter_mut().enumerate() {
         worker.base = (b * stretch) as u32;
         worker.top = worker.base;
     }
-    let (from, to) = (offsets[index as usize], offsets[index as usize + 1]);
-    if from < to {
-        blocks[0].aim(from, to, targets);
-        blocks[0].carried = to - from;
-        blocks[0].status = POLL;
-    }
     marks.fill(0);
-    marks[index as usize] = 1;
+    let mut at = stretch;
+    let mut live = 0;
+    for v in starts.iter().map(|&start| start as usize) {
+        if std::mem::replace(&mut marks[v], 1) != 0 {
+            continue;
+        }
+        live += 1;
+        let (from, to) = (offsets[v], offsets[v + 1]);
+        if from < to {
+            blocks[0].carried += to - from;
+            at -= 2;
+            work[at] = from;
+            work[at + 1] = to;
+        }
+    }
+    if at < stretch {
+        blocks[0].aim(work[stretch - 2], work[stretch - 1], targets);
+        blocks[0].status = POLL;
+        blocks[0].top += (stretch - 2 - at) as u32;
+        work.copy_within(at..stretch - 2, 0);
+    }
     let counts = Counts {
-        opened: u64::from(to - from),
-        live: 1,
+        opened: u64::from(blocks[0].carried),
+        live,
         handed: 0,
         refused: 0,
-        carrying: u32::from(from < to),
+        carrying: u32::from(at < stretch),
         awake: workers,
     };
     let mut machine = Machine { offsets, targets, batch, cutoff, marks, work, workers: blocks, counts };

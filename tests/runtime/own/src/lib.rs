@@ -34,7 +34,7 @@ pub fn dead(catalogue: &[u8]) -> Result<Vec<u32>, Box<dyn Error>> {
     let settings = Settings { workers: 1, batch: 64, cutoff: 64 };
     let turns = vec![Turn { worker: 0, asked: 0 }; 7 * m + 1];
     let (mut marks, mut work) = (vec![0; n], vec![0; work_words(n, 1)]);
-    let marked = mark(&offsets, &targets, head.index, settings, Schedule::new(&turns), &mut marks, &mut work)?;
+    let marked = mark(&offsets, &targets, &[head.index], settings, Schedule::new(&turns), &mut marks, &mut work)?;
     assert!(marked.finished);
     let mut list = vec![0; n];
     let swept = sweep(&marks, &sizes, &mut list)?;

@@ -8,7 +8,7 @@ use Rattle.report.proofs.collection.put_collection.Statement.{statement
 use Rattle.report.proofs.collection.put_collection.Tie as tie
 
 abbrev entry : tie.After-mark → tie.Start
-entry c = c .before .before .before .before .before .before .before .before .before .before .before
+entry c = c .before .before .before .before .before .before .before .before .before .before .before .before
 
 abbrev at-mark : tie.After-slice-known6 → tie.After-mark
 at-mark c = c .before .before .before .before

@@ -14,7 +14,7 @@ use Rattle.report.proofs.store.put_ordered.Statement.{statement}
 use Rattle.report.proofs.store.put_ordered.Tie as tie
 
 abbrev entry : tie.After-order-of → tie.Start
-entry c = c .before .before .before .before .before .before .before .before .before
+entry c = c .before .before .before .before .before .before .before .before .before .before
 
 abbrev at-order : tie.After-struct-known → tie.After-order-of
 at-order c = c .before .before .before .before

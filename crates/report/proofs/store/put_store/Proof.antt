@@ -21,14 +21,14 @@ returns c =
 
 put-ordered-requires : tie.Need-put-ordered-requires
 put-ordered-requires c κs =
-    let at-found = c .before .before .before .before .before .before .before .before in
+    let at-found = c .before .before .before .before .before .before .before .before .before in
     let r = at-read (at-found .before .before) in
     orderly (entry r .pre) (r .read .ensures .0) (at-found .found .given .1)
 
 returns-2 : tie.Need-returns-2
 returns-2 c =
     let at-ordered = c .before .before .before .before .before .before .before .before in
-    let at-found = at-ordered .before .before .before .before .before .before .before .before .before in
+    let at-found = at-ordered .before .before .before .before .before .before .before .before .before .before in
     let r = at-read (at-found .before .before) in
     as-text (due-read (entry r .pre) (r .read .ensures .0) (at-found .found .given .1)) (at-ordered .put-ordered .ensures)
 
@@ -37,5 +37,5 @@ put-store-spec =
     tie.close
     (tie.spec (λ c κs. search needs) (λ c. search needs) (λ c. search needs) (λ c κs. search needs)
     (λ c κs. search needs) (λ c. search needs) (λ c. search needs) (λ c. search needs) (λ c. search needs) returns
-    put-ordered-requires (λ c. search needs) (λ c. search needs) (λ c. search needs) (λ c. search needs)
+    (λ c. search needs) put-ordered-requires (λ c. search needs) (λ c. search needs) (λ c. search needs) (λ c. search needs)
     (λ c. search needs) (λ c. search needs) (λ c. search needs) returns-2)

@@ -2,8 +2,8 @@
 use mathlib.Core.Path.{_∙_}
 use Rattle.slices.proofs.Clearing.{cleared-all}
 use borrow.Author.Needs.{needs}
-use Rattle.marker.proofs.clear_marks.Statement.{statement}
-use Rattle.marker.proofs.clear_marks.Tie as tie
+use Rattle.marker.proofs.start.clear_marks.Statement.{statement}
+use Rattle.marker.proofs.start.clear_marks.Tie as tie
 
 clear-bytes-requires : tie.Need-clear-bytes-requires
 clear-bytes-requires c κs = search needs

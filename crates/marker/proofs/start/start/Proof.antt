@@ -1,0 +1,68 @@
+-- The starts are gathered among marks that are zero; where they have references, worker 0's block tells of them.
+use Rattle.marker.proofs.Begin.{gather-ready, cleared, begin-none, lower-ready, first-inside, first-room, begin-some}
+use borrow.Author.Needs.{needs}
+use Rattle.marker.proofs.start.start.Statement.{statement}
+use Rattle.marker.proofs.start.start.Tie as tie
+
+-- back to the marks that are cleared, and from there to the entry
+abbrev clear : tie.After-gather → tie.After-clear-marks
+clear c = c .before .before .before .before .before
+
+abbrev entry : tie.After-clear-marks → tie.Start
+entry c = c .before .before .before .before .before .before .before .before
+
+-- back to the starts that are gathered
+abbrev gather : tie.After-struct-known → tie.After-gather
+gather c = c .before .before .before .before .before
+
+gather-requires : tie.Need-gather-requires
+gather-requires c κs =
+    let cleared-marks = c .before .before .before .before in
+    let start = entry cleared-marks in
+    (gather-ready (start .pre) (cleared-marks .clear-marks .kept .0), cleared (start .args .marks .now) (cleared-marks .clear-marks .ensures))
+
+returns : tie.Need-returns
+returns c =
+    let at-fresh = c .before in
+    let none = at-fresh .before in
+    let gathered = gather (none .before) in
+    rw (at-fresh .fresh .ensures)
+    (begin-none (entry (clear gathered) .pre) (clear gathered .clear-marks .kept .0) (gathered .gather .ensures) (none .if1 .taken))
+
+lower-requires : tie.Need-lower-requires
+lower-requires c κs =
+    let some = c .before in
+    let gathered = gather (some .before) in
+    lower-ready (entry (clear gathered) .pre) (clear gathered .clear-marks .kept .0) (gathered .gather .ensures) (some .if1 .left)
+    (gathered .gather .kept .1 .1 .1 .0)
+
+shared-slice-read-t30 : tie.Need-shared-slice-read-t30
+shared-slice-read-t30 c =
+    let low = c .before .before .before .before in
+    let some = low .before .before in
+    let gathered = gather (some .before) in
+    first-inside (entry (clear gathered) .pre) (clear gathered .clear-marks .kept .0) (gathered .gather .ensures) (some .if1 .left)
+    (gathered .gather .kept .1 .1 .1 .0) (low .lower .ensures)
+
+store-requires : tie.Need-store-requires
+store-requires c κs =
+    let some = c .before .before .before .before .before .before in
+    first-room (entry (clear (gather (some .before))) .pre)
+
+returns-2 : tie.Need-returns-2
+returns-2 c =
+    let at-fresh = c .before in
+    let store = at-fresh .before .before .before in
+    let low = store .before .before .before .before .before in
+    let some = low .before .before in
+    let gathered = gather (some .before) in
+    rw (at-fresh .fresh2 .ensures)
+    (begin-some (entry (clear gathered) .pre) (clear gathered .clear-marks .kept .0) (gathered .gather .ensures) (some .if1 .left)
+    (gathered .gather .kept .1 .1 .1 .0) (low .lower .ensures) _ (store .store .ensures))
+
+pub start-spec : {M : Type 1} → statement M
+start-spec =
+    tie.close
+    (tie.spec (λ c κs. search needs) gather-requires (λ c. search needs) (λ c κs. search needs) (λ c. search needs) (λ c. search needs)
+    (λ c. search needs) returns lower-requires (λ c. search needs) (λ c. search needs) shared-slice-read-t30 store-requires
+    (λ c κs. search needs) (λ c. search needs) (λ c. search needs) (λ c. search needs) (λ c. search needs) returns-2)
