@@ -9,6 +9,7 @@ A case is lines of words. '#' begins a comment, blank lines are skipped.
     index OBJECT          the index object; once, before the objects
     object SIZE           one line for each object; the first is number 0
     reference FROM TO     one line for each reference, in catalogue order
+    lease OBJECT          one line for each lease, in catalogue order
     boxes W               settings; each once
     batch D
     cutoff K
@@ -27,8 +28,8 @@ from pathlib import Path
 from typing import Iterator, Optional
 
 # The kinds of records, and the length of each.
-HEADER, OBJECT, REFERENCE = 1, 2, 3
-LENGTHS = {HEADER: 16, OBJECT: 12, REFERENCE: 12}
+HEADER, OBJECT, REFERENCE, LEASE = 1, 2, 3, 4
+LENGTHS = {HEADER: 16, OBJECT: 12, REFERENCE: 12, LEASE: 8}
 
 # The settings in the order of order.run, and the largest number that each field holds.
 SETTINGS = {"boxes": 0xFF, "batch": 0xFFFF, "cutoff": 0xFFFF}
@@ -48,6 +49,7 @@ class Case:
     index: Optional[int] = None
     sizes: list[int] = field(default_factory=list)
     references: list[tuple[int, int]] = field(default_factory=list)
+    leases: list[int] = field(default_factory=list)
     settings: dict[str, int] = field(default_factory=dict)
     turns: list[tuple[int, int]] = field(default_factory=list)
 
@@ -81,6 +83,8 @@ def parse(text: str) -> Case:
             case.sizes.append(number(rest[0], LONG, where))
         elif name == "reference" and len(rest) == 2:
             case.references.append(pair(rest, WORD, where))
+        elif name == "lease" and len(rest) == 1:
+            case.leases.append(number(rest[0], WORD, where))
         elif name in SETTINGS and len(rest) == 1 and name not in case.settings:
             case.settings[name] = number(rest[0], SETTINGS[name], where)
         elif name == "turn" and len(rest) == 2:
@@ -107,7 +111,8 @@ def store_bytes(case: Case) -> bytes:
     header = record(HEADER, struct.pack("<III", len(case.sizes), len(case.references), case.index))
     objects = (record(OBJECT, struct.pack("<Q", size)) for size in case.sizes)
     references = (record(REFERENCE, struct.pack("<II", *ends)) for ends in case.references)
-    return b"".join([header, *objects, *references])
+    leases = (record(LEASE, struct.pack("<I", lease)) for lease in case.leases)
+    return b"".join([header, *objects, *references, *leases])
 
 
 def order_bytes(case: Case) -> bytes:
@@ -136,10 +141,12 @@ def read(store: bytes, order: bytes) -> Case:
     for kind, contents in records(store):
         if kind == HEADER and counts is None:
             *counts, case.index = struct.unpack("<III", contents)
-        elif kind == OBJECT and counts is not None and not case.references:
+        elif kind == OBJECT and counts is not None and not case.references and not case.leases:
             case.sizes.append(*struct.unpack("<Q", contents))
-        elif kind == REFERENCE and counts is not None:
+        elif kind == REFERENCE and counts is not None and not case.leases:
             case.references.append(struct.unpack("<II", contents))
+        elif kind == LEASE and counts is not None:
+            case.leases.append(*struct.unpack("<I", contents))
         else:
             raise Fault(f"store.cat: a record of kind {kind} out of its place")
     if counts is None:
@@ -161,6 +168,7 @@ def show(case: Case) -> str:
     lines = [f"index {case.index}"]
     lines += [f"object {size}" for size in case.sizes]
     lines += [f"reference {a} {b}" for a, b in case.references]
+    lines += [f"lease {lease}" for lease in case.leases]
     lines += [f"{name} {case.settings[name]}" for name in SETTINGS]
     lines += [f"turn {box} {asked}" for box, asked in case.turns]
     return "\n".join(lines) + "\n"

@@ -44,9 +44,10 @@ int main(void) {
 
     uint32_t offsets[KULLNEYRA_OFFSETS(N)], targets[KULLNEYRA_TARGETS(M)];
     uint64_t sizes[KULLNEYRA_SIZES(N)];
-    struct kullneyra_head head;
+    uint32_t starts[KULLNEYRA_STARTS];
+    struct kullneyra_store store;
     uint32_t answer = kullneyra_read_into(bytes, at, offsets, KULLNEYRA_OFFSETS(N), targets, KULLNEYRA_TARGETS(M),
-                                          sizes, KULLNEYRA_SIZES(N), &head);
+                                          sizes, KULLNEYRA_SIZES(N), starts, KULLNEYRA_STARTS, &store);
     if (answer != KULLNEYRA_OK) {
         return refused(answer);
     }
@@ -59,7 +60,7 @@ int main(void) {
     uint8_t marks[KULLNEYRA_MARKS(N)];
     uint32_t work[KULLNEYRA_WORK(N, W)];
     struct kullneyra_marked marked;
-    answer = kullneyra_mark_into(offsets, KULLNEYRA_OFFSETS(N), targets, KULLNEYRA_TARGETS(M), &head.index, 1, W, 1, 1,
+    answer = kullneyra_mark_into(offsets, KULLNEYRA_OFFSETS(N), targets, KULLNEYRA_TARGETS(M), starts, store.starts, W, 1, 1,
                                  schedule, sizeof schedule, marks, KULLNEYRA_MARKS(N), work, KULLNEYRA_WORK(N, W),
                                  &marked);
     if (answer != KULLNEYRA_OK) {

@@ -35,7 +35,7 @@ extern "C" {
 #define KULLNEYRA_KIND 2     /* unknown kind of record, or a length that its kind does not have */
 #define KULLNEYRA_PLACE 3    /* a record that is not due at its place, or one too many */
 #define KULLNEYRA_COUNT 4    /* number of objects or of references out of range */
-#define KULLNEYRA_OBJECT 5   /* index, from, to or a start is no object's number */
+#define KULLNEYRA_OBJECT 5   /* index, from, to, a lease or a start is no object's number */
 #define KULLNEYRA_SIZE 6     /* a size above KULLNEYRA_LARGEST_SIZE */
 #define KULLNEYRA_BUFFER 7   /* a lent buffer is not as long as it must be */
 #define KULLNEYRA_SETTING 8  /* workers, batch or cutoff out of range */
@@ -43,13 +43,13 @@ extern "C" {
 #define KULLNEYRA_GRAPH 10   /* offsets and targets that are no graph */
 #define KULLNEYRA_LARGE 11   /* only printed by the program: a file, or a number in it, too large for it */
 #define KULLNEYRA_FILE 12    /* only printed by the program: a file that cannot be read */
-#define KULLNEYRA_STARTS 13  /* no start, or more than KULLNEYRA_MOST_STARTS */
+#define KULLNEYRA_NO_STARTS 13 /* no start, or more leases than KULLNEYRA_MOST_LEASES */
 
 /* Limits. Objects, starts, workers, batch and cutoff are 1 at least; references and sizes may be 0. */
 #define KULLNEYRA_MOST_OBJECTS 65536
 #define KULLNEYRA_MOST_REFERENCES 1048576
 #define KULLNEYRA_LARGEST_SIZE UINT64_C(1099511627776)
-#define KULLNEYRA_MOST_STARTS 257
+#define KULLNEYRA_MOST_LEASES 256
 #define KULLNEYRA_MOST_WORKERS 16
 #define KULLNEYRA_MOST_SETTING 65535 /* batch and cutoff */
 
@@ -57,6 +57,7 @@ extern "C" {
 #define KULLNEYRA_OFFSETS(n) ((size_t)(n) + 1)
 #define KULLNEYRA_TARGETS(m) ((size_t)(m))
 #define KULLNEYRA_SIZES(n) ((size_t)(n))
+#define KULLNEYRA_STARTS ((size_t)KULLNEYRA_MOST_LEASES + 1)
 #define KULLNEYRA_MARKS(n) ((size_t)(n))
 #define KULLNEYRA_WORK(n, w) ((size_t)(w) * (2 * (size_t)(n) + 4))
 #define KULLNEYRA_LIST(n) ((size_t)(n))
@@ -64,11 +65,19 @@ extern "C" {
 /* What a call answers beside its number: a struct for each answer, whose fields are the result words in
  * their order. */
 
-/* header and read: what the catalogue's header says. */
+/* header: what the catalogue's header says. */
 struct kullneyra_head {
     uint32_t n;     /* objects */
     uint32_t m;     /* references */
-    uint32_t index; /* the object at which a collection starts */
+    uint32_t index; /* the object at which every collection starts */
+};
+
+/* read: the same, and how many starts the start buffer holds. */
+struct kullneyra_store {
+    uint32_t n;      /* objects */
+    uint32_t m;      /* references */
+    uint32_t index;  /* the first start */
+    uint32_t starts; /* the index and the leases */
 };
 
 /* references: a part of the targets. */
@@ -99,6 +108,7 @@ struct kullneyra_swept {
 
 /* Exact lengths of the result words. */
 #define KULLNEYRA_HEADER_WORDS (sizeof(struct kullneyra_head) / sizeof(uint32_t))
+#define KULLNEYRA_READ_WORDS (sizeof(struct kullneyra_store) / sizeof(uint32_t))
 #define KULLNEYRA_PART_WORDS (sizeof(struct kullneyra_part) / sizeof(uint64_t))
 #define KULLNEYRA_MARK_WORDS (sizeof(struct kullneyra_marked) / sizeof(uint64_t))
 #define KULLNEYRA_SWEEP_WORDS (sizeof(struct kullneyra_swept) / sizeof(uint64_t))
@@ -106,10 +116,11 @@ struct kullneyra_swept {
 /* Reads only the catalogue's header record. */
 uint32_t kullneyra_header(const uint8_t *bytes, size_t bytes_len, uint32_t *result, size_t result_len);
 
-/* Checks the whole catalogue and fills offsets, targets and sizes. */
+/* Checks the whole catalogue and fills offsets, targets, sizes and starts: the index, the leases in their
+ * order, and zeros behind them. */
 uint32_t kullneyra_read(const uint8_t *bytes, size_t bytes_len, uint32_t *offsets, size_t offsets_len,
                         uint32_t *targets, size_t targets_len, uint64_t *sizes, size_t sizes_len,
-                        uint32_t *result, size_t result_len);
+                        uint32_t *starts, size_t starts_len, uint32_t *result, size_t result_len);
 
 /* The references of one object, as a part of the targets: where it starts, and its length. The part is
  * empty (0, 0) if there is no such object or its two offsets bound no part. */
@@ -140,10 +151,11 @@ static inline uint32_t kullneyra_header_into(const uint8_t *bytes, size_t bytes_
 
 static inline uint32_t kullneyra_read_into(const uint8_t *bytes, size_t bytes_len, uint32_t *offsets,
                                            size_t offsets_len, uint32_t *targets, size_t targets_len,
-                                           uint64_t *sizes, size_t sizes_len, struct kullneyra_head *answer) {
-    uint32_t words[KULLNEYRA_HEADER_WORDS] = {0};
+                                           uint64_t *sizes, size_t sizes_len, uint32_t *starts,
+                                           size_t starts_len, struct kullneyra_store *answer) {
+    uint32_t words[KULLNEYRA_READ_WORDS] = {0};
     const uint32_t number = kullneyra_read(bytes, bytes_len, offsets, offsets_len, targets, targets_len, sizes,
-                                           sizes_len, words, KULLNEYRA_HEADER_WORDS);
+                                           sizes_len, starts, starts_len, words, KULLNEYRA_READ_WORDS);
     memcpy(answer, words, sizeof *answer);
     return number;
 }

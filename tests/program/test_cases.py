@@ -42,6 +42,11 @@ def first(length):
     return written(0, "", length=length)
 
 
+def leased(*objects):
+    """Store S with a lease for each of these objects."""
+    return S + b"".join(case.record(case.LEASE, struct.pack("<I", object)) for object in objects)
+
+
 def header(n, m, index):
     return case.record(case.HEADER, struct.pack("<III", n, m, index))
 
@@ -119,6 +124,17 @@ DAMAGED = [
     ("object where a reference is due", written(90, "H", 2), 3),
     ("a reference too many", written(160, "HH", 12, 3, length=172), 3),
     ("a second header", written(160, "HH", 16, 1, length=176), 3),
+    ("a lease where a reference is due", written(148, "HHI", 8, 4, 5, length=156), 3),
+    ("a lease cut", leased(5)[:-1], 1),
+    ("a lease of length 12", written(160, "HH", 12, 4, length=172), 2),
+    ("kind 5", written(160, "HH", 8, 5, length=168), 2),
+    ("a lease of object 6", leased(6), 5),
+    ("a byte behind a lease", leased(5) + b"\0", 1),
+    ("a reference behind a lease", leased(5) + S[-12:], 3),
+    ("256 leases of the index", leased(*[0] * 256), UNTOUCHED),
+    ("257 leases", leased(*[0] * 257), 13),
+    ("257 leases, the last of object 6", leased(*[0] * 256, 6), 13),
+    ("256 leases, the last of object 6", leased(*[0] * 255, 6), 5),
     ("index 5", written(12, "I", 5), UNTOUCHED),
     ("index 6", written(12, "I", 6), 5),
     ("from 6", written(92, "I", 6), 5),

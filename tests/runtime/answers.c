@@ -35,12 +35,13 @@ static void expect_zeros(const char *name, const void *answer, size_t bytes) {
         expect(name, KULLNEYRA_OK, call);              \
     } while (0)
 
-/* Two objects, 0 and 1, and the reference 0->0: object 1 hangs on nothing. */
+/* Two objects, 0 and 1, the reference 0->0 and a lease on object 1. */
 static const uint8_t catalogue[] = {
     16, 0, 1, 0, 2, 0, 0, 0, 1, 0, 0, 0, 0, 0, 0, 0, /* n 2, m 1, index 0 */
     12, 0, 2, 0, 100, 0, 0, 0, 0, 0, 0, 0,           /* object 0, 100 bytes */
     12, 0, 2, 0, 200, 0, 0, 0, 0, 0, 0, 0,           /* object 1, 200 bytes */
     12, 0, 3, 0, 0, 0, 0, 0, 0, 0, 0, 0,             /* reference 0->0 */
+    8,  0, 4, 0, 1, 0, 0, 0,                         /* lease on object 1 */
 };
 
 /* The list of the counts has each of them once, and finished is the only other word. */
@@ -51,9 +52,11 @@ int main(void) {
     static const uint8_t turns[6] = {0, 0, 0, 0, 0, 0};
     uint32_t offsets[KULLNEYRA_OFFSETS(2)], targets[KULLNEYRA_TARGETS(1)], list[KULLNEYRA_LIST(2) + 1];
     uint64_t sizes[KULLNEYRA_SIZES(2)];
+    uint32_t starts[KULLNEYRA_STARTS];
     uint8_t marks[KULLNEYRA_MARKS(2)];
     uint32_t work[KULLNEYRA_WORK(2, 1)];
     struct kullneyra_head head;
+    struct kullneyra_store store;
     struct kullneyra_part part;
     struct kullneyra_marked marked;
     struct kullneyra_swept swept;
@@ -67,11 +70,24 @@ int main(void) {
     expect("header, index", 0, head.index);
 
     REFUSED("read, short offsets", KULLNEYRA_BUFFER,
-            kullneyra_read_into(catalogue, sizeof catalogue, offsets, 2, targets, 1, sizes, 2, &head), head);
-    ACCEPTED("read", kullneyra_read_into(catalogue, sizeof catalogue, offsets, 3, targets, 1, sizes, 2, &head), head);
-    expect("read, n", 2, head.n);
-    expect("read, m", 1, head.m);
-    expect("read, index", 0, head.index);
+            kullneyra_read_into(catalogue, sizeof catalogue, offsets, 2, targets, 1, sizes, 2, starts,
+                                KULLNEYRA_STARTS, &store),
+            store);
+    REFUSED("read, short starts", KULLNEYRA_BUFFER,
+            kullneyra_read_into(catalogue, sizeof catalogue, offsets, 3, targets, 1, sizes, 2, starts,
+                                KULLNEYRA_STARTS - 1, &store),
+            store);
+    ACCEPTED("read",
+             kullneyra_read_into(catalogue, sizeof catalogue, offsets, 3, targets, 1, sizes, 2, starts,
+                                 KULLNEYRA_STARTS, &store),
+             store);
+    expect("read, n", 2, store.n);
+    expect("read, m", 1, store.m);
+    expect("read, index", 0, store.index);
+    expect("read, number of starts", 2, store.starts);
+    expect("read, the index among the starts", 0, starts[0]);
+    expect("read, the lease among the starts", 1, starts[1]);
+    expect("read, zeros behind the starts", 0, starts[2] + starts[KULLNEYRA_STARTS - 1]);
     expect("read, offsets", 1, offsets[2]);
     expect("read, sizes", 200, sizes[1]);
 
@@ -82,7 +98,7 @@ int main(void) {
     expect("references, start", 0, part.start);
     expect("references, length", 1, part.length);
 
-    REFUSED("mark, no start", KULLNEYRA_STARTS,
+    REFUSED("mark, no start", KULLNEYRA_NO_STARTS,
             kullneyra_mark_into(offsets, 3, targets, 1, NULL, 0, 1, 1, 1, turns, 6, marks, 2, work,
                                 KULLNEYRA_WORK(2, 1), &marked),
             marked);

@@ -14,16 +14,18 @@ static void expect(const char *name, uint32_t wanted, uint32_t found) {
 
 int main(void) {
     static const uint32_t alone[2] = {0, 0};
-    uint32_t head[KULLNEYRA_HEADER_WORDS] = {7, 7, 7}, work[KULLNEYRA_WORK(1, 1)];
+    uint32_t head[KULLNEYRA_HEADER_WORDS] = {7, 7, 7}, store[KULLNEYRA_READ_WORDS] = {7, 7, 7, 7};
+    uint32_t work[KULLNEYRA_WORK(1, 1)];
     uint64_t part[KULLNEYRA_PART_WORDS] = {7, 7}, counts[KULLNEYRA_MARK_WORDS], swept[KULLNEYRA_SWEEP_WORDS];
     uint8_t marks[KULLNEYRA_MARKS(1)];
 
     expect("empty catalogue, header", KULLNEYRA_SHORT, kullneyra_header(NULL, 0, head, KULLNEYRA_HEADER_WORDS));
     expect("no result words, header", KULLNEYRA_BUFFER, kullneyra_header(NULL, 0, NULL, 0));
     expect("empty catalogue, read", KULLNEYRA_SHORT,
-           kullneyra_read(NULL, 0, NULL, 0, NULL, 0, NULL, 0, head, KULLNEYRA_HEADER_WORDS));
-    expect("no result words, read", KULLNEYRA_BUFFER, kullneyra_read(NULL, 0, NULL, 0, NULL, 0, NULL, 0, NULL, 0));
-    expect("result words kept", 7, head[0]);
+           kullneyra_read(NULL, 0, NULL, 0, NULL, 0, NULL, 0, NULL, 0, store, KULLNEYRA_READ_WORDS));
+    expect("no result words, read", KULLNEYRA_BUFFER,
+           kullneyra_read(NULL, 0, NULL, 0, NULL, 0, NULL, 0, NULL, 0, NULL, 0));
+    expect("result words kept", 14, head[0] + store[3]);
     expect("no graph, references", KULLNEYRA_OK,
            kullneyra_references(NULL, 0, NULL, 0, 0, part, KULLNEYRA_PART_WORDS));
     expect("the empty part", 0, (uint32_t)(part[0] + part[1]));
@@ -38,7 +40,7 @@ int main(void) {
                           KULLNEYRA_MOST_SETTING, NULL, 0, marks, KULLNEYRA_MARKS(1), work, KULLNEYRA_WORK(1, 1),
                           counts, KULLNEYRA_MARK_WORDS));
     expect("live", 1, (uint32_t)counts[1]);
-    expect("no starts, mark", KULLNEYRA_STARTS,
+    expect("no starts, mark", KULLNEYRA_NO_STARTS,
            kullneyra_mark(alone, KULLNEYRA_OFFSETS(1), NULL, 0, NULL, 0, 1, 1, 1, NULL, 0, marks, KULLNEYRA_MARKS(1),
                           work, KULLNEYRA_WORK(1, 1), counts, KULLNEYRA_MARK_WORDS));
     expect("too many workers", KULLNEYRA_SETTING,

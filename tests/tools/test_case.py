@@ -19,6 +19,7 @@ def some_case(rng):
         index=rng.randrange(10),
         sizes=[rng.randrange(2**64) for _ in range(rng.randrange(6))],
         references=[(rng.randrange(2**32), rng.randrange(9)) for _ in range(rng.randrange(6))],
+        leases=[rng.randrange(2**32) for _ in range(rng.randrange(4))],
         settings={"boxes": rng.randrange(256), "batch": rng.randrange(65536), "cutoff": rng.randrange(65536)},
         turns=[(rng.randrange(256), rng.randrange(256)) for _ in range(rng.randrange(6))],
     )
@@ -32,6 +33,8 @@ class Cases(unittest.TestCase):
         self.assertEqual(store[:16].hex(), "10000100060000000600000000000000")
         self.assertEqual(store[16:28].hex(), "0c0002006400000000000000")
         self.assertEqual(store[-12:].hex(), "0c0003000500000004000000")
+        leased = case.store_bytes(case.parse(SAMPLE.read_text() + "lease 5\n"))
+        self.assertEqual((leased[:-8], leased[-8:].hex()), (store, "0800040005000000"))
         order = case.order_bytes(sample)
         self.assertEqual(order[:5].hex(), "0201000100")
         self.assertEqual(len(order), 5 + 2 * 18)
@@ -54,7 +57,7 @@ class Cases(unittest.TestCase):
 
     def test_refused_texts(self):
         good = case.show(case.load_text(SAMPLE))
-        for line in ("object -1", "object", "object x", "reference 1", "turn 256 0", "batch 1", "boxes 2", "index 0", "turns 0 1", "word 1"):
+        for line in ("object -1", "object", "object x", "reference 1", "lease", "lease 1 2", "turn 256 0", "batch 1", "boxes 2", "index 0", "turns 0 1", "word 1"):
             with self.assertRaises(case.Fault):
                 case.parse(good + line + "\n")
         for name in ("index", "boxes", "batch", "cutoff"):
@@ -64,7 +67,9 @@ class Cases(unittest.TestCase):
     def test_refused_files(self):
         sample = case.load_text(SAMPLE)
         store, order = case.store_bytes(sample), case.order_bytes(sample)
-        for bad in (b"", store[:-1], store + b"\0", store + store[16:28], store[16:], store[:16] + store[28:]):
+        lease = case.record(case.LEASE, bytes(4))
+        misplaced = (lease + store, store[:16] + lease + store[16:], store[:-12] + lease + store[-12:])
+        for bad in (b"", store[:-1], store + b"\0", store + store[16:28], store[16:], store[:16] + store[28:], *misplaced):
             with self.assertRaises(case.Fault):
                 case.read(bad, order)
         for bad in (b"", order[:4], order[:-1]):

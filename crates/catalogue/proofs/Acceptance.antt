@@ -1,18 +1,19 @@
 -- Layout and reading are each other's inverse.
-use mathlib.Core.Path.{_≡_, refl, sym, _∙_}
+use mathlib.Core.Path.{_≡_, refl, ap, sym, _∙_}
 use mathlib.Core.List.{List, [], _++_, flatMap, append-nil}
 use Prim.Native.Nat.{ℕ, _+_, _*_}
 use native.Mathlib.Omega.{arith}
-use lib.ListN.{take, drop, replicate}
+use lib.ListN.{length, take, drop, replicate, length-drop}
 use lib.Seq.{take-all, drop-drop}
 use Rattle.laws.specs.Words.{le, word, Bytes}
 use Rattle.laws.proofs.Words.{word-le, le-field, take-join, bytes-drop}
-use Rattle.catalogue.specs.Store.{Store, InRange, objects, references}
-use Rattle.catalogue.specs.Layout.{reference, headerRecord, objectRecord, referenceRecord, layout}
-use Rattle.catalogue.specs.Reading.{accepted, reading, faults, dues, catalogueFault, records, storeOf}
+use Rattle.catalogue.specs.Store.{Store, InRange, objects, references, most-leases}
+use Rattle.catalogue.specs.Layout.{reference, headerRecord, objectRecord, referenceRecord, leaseRecord, layout}
+use Rattle.catalogue.specs.Reading.{accepted, reading, faults, dues, catalogueFault, records, leases-at, lease-count, leasesFrom, storeOf}
 use Rattle.catalogue.specs.Reading.{n-field, m-field, index-field, size-field, pair-field}
 use Rattle.catalogue.proofs.Faults.{GoodHeader, clear-header}
-use Rattle.catalogue.proofs.Forms.{object-form, reference-form, form-bytes, record-bytes, written-faults, written-records, written-behind}
+use Rattle.catalogue.proofs.Forms.{object-form, reference-form, lease-form, form-bytes, record-bytes, written-faults, written-records, written-behind, written-length}
+use Rattle.catalogue.proofs.Leases.{written-leases}
 use Rattle.catalogue.proofs.Accepted.{Whole}
 use Rattle.catalogue.proofs.Reader.{store-objects, store-references}
 
@@ -41,8 +42,18 @@ whole-layout b h w =
     let m = m-field b in
     let o = form-bytes (object-form n) n (drop 16 b) (bytes-drop 16 b h) (w .objects-are) in
     let r = form-bytes (reference-form (w .head .few)) m (drop (16 + 12 * n) b) (bytes-drop (16 + 12 * n) b h) (w .references-are) in
-    sym (rw (header-bytes b h (w .head) (storeOf b) (store-objects b) (store-references b) refl, o, r, take-join 16 (12 * n) (12 * m) b)
-    (take-join 0 16 (12 * n + 12 * m) b ∙ take-all (16 + (12 * n + 12 * m)) b (omega (arith, w .length-is))))
+    let at = leases-at n m in
+    let c = lease-count at b in
+    let l = form-bytes (lease-form (w .head .few)) c (drop at b) (bytes-drop at b h) (w .leases-are) in
+    sym (rw (
+      header-bytes b h (w .head) (storeOf b) (store-objects b) (store-references b) refl,
+      o,
+      r,
+      l,
+      take-join (16 + 12 * n) (12 * m) (8 * c) b,
+      take-join 16 (12 * n) (12 * m + 8 * c) b,
+    )
+    (take-join 0 16 (12 * n + (12 * m + 8 * c)) b ∙ take-all (16 + (12 * n + (12 * m + 8 * c))) b (omega (arith, w .length-is))))
 
 -- ---- from the layout to the reading
 
@@ -50,8 +61,11 @@ module _ (s : Store) (r : InRange s) where
   abbrev n : ℕ
   n = objects s
 
+  abbrev leases : List ℕ
+  leases = flatMap leaseRecord (s .leases)
+
   abbrev pairs : List ℕ
-  pairs = flatMap referenceRecord (s .pairs)
+  pairs = flatMap referenceRecord (s .pairs) ++ leases
 
   abbrev behind : List ℕ
   behind = flatMap objectRecord (s .sizes) ++ pairs
@@ -89,24 +103,39 @@ module _ (s : Store) (r : InRange s) where
   unfolding faults
   layout-faults =
       written-faults (object-form n) (s .sizes) (replicate (references s) reference) pairs (r .sizes-small)
-      ∙ rw (← append-nil (replicate (references s) reference), ← append-nil pairs)
-      (written-faults (reference-form (r .few)) (s .pairs) [] [] (r .ends-below))
+      ∙ rw (← append-nil (replicate (references s) reference)) (written-faults (reference-form (r .few)) (s .pairs) [] leases (r .ends-below))
+      ∙ written-leases (r .few) most-leases (s .leases) (r .few-leases) (r .leases-below)
 
   layout-clear : catalogueFault (layout s) ≡ 0
   unfolding catalogueFault faults
   layout-clear = rw (clear-header (n-field (layout s)) (layout s) header-good, header-behind, header-n, header-m) layout-faults
 
-  layout-sizes : records size-field (n-field (layout s)) (drop 16 (layout s)) ≡ s .sizes
+  layout-sizes : records 12 size-field (n-field (layout s)) (drop 16 (layout s)) ≡ s .sizes
   layout-sizes = rw (header-n, header-behind) (written-records (object-form 0) (s .sizes) pairs (r .sizes-small))
 
   pairs-behind : drop (16 + 12 * n) (layout s) ≡ pairs
   pairs-behind = rw (← drop-drop (12 * n) 16 (layout s), header-behind) (written-behind (object-form 0) (s .sizes) pairs)
 
-  layout-pairs : records pair-field (m-field (layout s)) (drop (16 + 12 * n-field (layout s)) (layout s)) ≡ s .pairs
-  layout-pairs =
-      rw (header-n, header-m, pairs-behind, ← append-nil pairs)
-      (written-records (reference-form (r .few)) (s .pairs) [] (r .ends-below))
+  layout-pairs : records 12 pair-field (m-field (layout s)) (drop (16 + 12 * n-field (layout s)) (layout s)) ≡ s .pairs
+  layout-pairs = rw (header-n, header-m, pairs-behind) (written-records (reference-form (r .few)) (s .pairs) leases (r .ends-below))
+
+  leases-behind : drop (leases-at n (references s)) (layout s) ≡ leases
+  leases-behind =
+      rw (← drop-drop (12 * references s) (16 + 12 * n) (layout s), pairs-behind) (written-behind (reference-form (r .few)) (s .pairs) leases)
+
+  count-behind : lease-count (leases-at n (references s)) (layout s) ≡ length (s .leases)
+  count-behind =
+      omega (
+        arith,
+        sym (length-drop (leases-at n (references s)) (layout s)) ∙ ap length leases-behind,
+        written-length (lease-form (r .few)) (s .leases),
+      )
+
+  layout-leases : leasesFrom (leases-at (n-field (layout s)) (m-field (layout s))) (layout s) ≡ s .leases
+  layout-leases =
+      rw (header-n, header-m, count-behind, leases-behind, ← append-nil leases)
+      (written-records (lease-form (r .few)) (s .leases) [] (r .leases-below))
 
   pub layout-accepted : reading (layout s) ≡ accepted s
   unfolding reading storeOf
-  layout-accepted = rw (layout-clear, header-index, layout-sizes, layout-pairs)
+  layout-accepted = rw (layout-clear, header-index, layout-sizes, layout-pairs, layout-leases)

@@ -1,7 +1,7 @@
--- What bytes without a fault are: a header, n objects, m references, and nothing more.
-use mathlib.Core.Path.{_≡_, refl, ap, sym, _∙_}
-use mathlib.Core.List.{List, [], _∷_, append-nil}
-use Prim.Native.Nat.{ℕ, _+_, _*_, _-_, _<_}
+-- What bytes without a fault are: a header, n objects, m references, leases, and nothing more.
+use mathlib.Core.Path.{_≡_}
+use mathlib.Core.List.{List, [], append-nil}
+use Prim.Native.Nat.{ℕ, _+_, _*_, _-_, _≤_, _<_}
 use native.Mathlib.Omega.{arith}
 use lib.ListN.{length, drop, replicate, length-drop}
 use lib.Seq.{drop-drop}
@@ -9,24 +9,24 @@ use Rattle.laws.specs.Every.{Every}
 use Rattle.laws.proofs.Every.{every-map}
 use Rattle.refusal.proofs.None.{first-none}
 use Rattle.catalogue.specs.Layout.{header, reference}
-use Rattle.catalogue.specs.Store.{Pair, Ends, InRange}
-use Rattle.catalogue.specs.Reading.{n-field, m-field, size-field, pair-field, recordFault, surplusFault, faults, dues, catalogueFault, storeOf}
+use Rattle.catalogue.specs.Store.{Pair, Ends, InRange, most-leases}
+use Rattle.catalogue.specs.Reading.{n-field, m-field, size-field, pair-field, lease-field, recordFault, faults, dues, catalogueFault, leases-at, lease-count, storeOf}
 use Rattle.catalogue.specs.Fill.{Fillable, pairsOf}
-use Rattle.catalogue.proofs.Faults.{GoodHeader, GoodObject, GoodReference, good-header-record, never-good}
-use Rattle.catalogue.proofs.Forms.{EachRecord, object-form, reference-form, form-good, form-long, form-legal}
+use Rattle.catalogue.proofs.Faults.{GoodHeader, GoodObject, GoodReference, GoodLease, good-header-record}
+use Rattle.catalogue.proofs.Forms.{EachRecord, object-form, reference-form, lease-form, form-good, form-long, form-legal}
+use Rattle.catalogue.proofs.Leases.{Leased, leased}
 use Rattle.catalogue.proofs.Filling.{length-records}
-
-no-more : (n : ℕ) (b : List ℕ) → surplusFault n b ≡ 0 → b ≡ []
-no-more n [] h = refl
-no-more n (x ∷ b) h = absurd (never-good n (x ∷ b) h)
 
 -- bytes without a fault
 pub record Whole (b : List ℕ) : Type 0 where
   pub clear : catalogueFault b ≡ 0
   pub head : GoodHeader b
-  pub objects-are : EachRecord GoodObject (n-field b) (drop 16 b)
-  pub references-are : EachRecord (GoodReference (n-field b)) (m-field b) (drop (16 + 12 * n-field b) b)
-  pub length-is : length b ≡ 16 + 12 * n-field b + 12 * m-field b
+  pub objects-are : EachRecord 12 GoodObject (n-field b) (drop 16 b)
+  pub references-are : EachRecord 12 (GoodReference (n-field b)) (m-field b) (drop (16 + 12 * n-field b) b)
+  pub few-leases : lease-count (leases-at (n-field b) (m-field b)) b ≤ most-leases
+  pub leases-are :
+      EachRecord 8 (GoodLease (n-field b)) (lease-count (leases-at (n-field b) (m-field b)) b) (drop (leases-at (n-field b) (m-field b)) b)
+  pub length-is : length b ≡ leases-at (n-field b) (m-field b) + 8 * lease-count (leases-at (n-field b) (m-field b)) b
 
 pub whole-bytes : (b : List ℕ) → catalogueFault b ≡ 0 → Whole b
 unfolding catalogueFault faults
@@ -39,22 +39,21 @@ whole-bytes b h =
     let R = reference-form (g .few) in
     let o = form-good O n (replicate m reference) (drop 16 b) (p .1) in
     let r = form-good R m [] (drop (12 * n) (drop 16 b)) (rw append-nil (o .1)) in
-    let s : EachRecord (GoodReference n) m (drop (16 + 12 * n) b) = rw drop-drop at (r .0) in
-    let e = no-more n (drop (12 * m) (drop (12 * n) (drop 16 b))) (r .1) in
-    let z : length b - 16 - 12 * n - 12 * m ≡ 0 = sym (simp length-drop) ∙ ap length e in
+    let s : EachRecord 12 (GoodReference n) m (drop (16 + 12 * n) b) = rw drop-drop at (r .0) in
+    let l : Leased n most-leases (drop (leases-at n m) b) =
+    rw (drop-drop (12 * n) 16 b, drop-drop (12 * m) (16 + 12 * n) b) at (leased n most-leases (drop (12 * m) (drop (12 * n) (drop 16 b))) (r .1)) in
+    let lo = rw length-drop at (form-long O n (drop 16 b) (o .0)) in
+    let lr = rw length-drop at (form-long R m (drop (16 + 12 * n) b) s) in
+    let ll : length b - leases-at n m ≡ 8 * l .count = rw length-drop at (l .length-is) in
+    let k : l .count ≡ lease-count (leases-at n m) b = omega arith in
     record {
       clear = h;
       head = g;
       objects-are = o .0;
       references-are = s;
-      length-is =
-          omega (
-            arith,
-            z,
-            g .frame .long,
-            rw length-drop at (form-long O n (drop 16 b) (o .0)),
-            rw length-drop at (form-long R m (drop (16 + 12 * n) b) s),
-          );
+      few-leases = omega (arith, l .few);
+      leases-are = rw k at (l .each);
+      length-is = omega (arith, g .frame .long);
     }
 
 module _ (b : List ℕ) (w : Whole b) where
@@ -77,8 +76,10 @@ module _ (b : List ℕ) (w : Whole b) where
   unfolding storeOf
   whole-range =
       let n = n-field b in
-      let l = length-records size-field n (drop 16 b) in
-      let k = length-records pair-field (m-field b) (drop (16 + 12 * n) b) in
+      let l = length-records 12 size-field n (drop 16 b) in
+      let k = length-records 12 pair-field (m-field b) (drop (16 + 12 * n) b) in
+      let at = leases-at n (m-field b) in
+      let c = length-records 8 lease-field (lease-count at b) (drop at b) in
       record {
         some = rw l (w .head .some);
         few = rw l (w .head .few);
@@ -86,4 +87,6 @@ module _ (b : List ℕ) (w : Whole b) where
         index-below = rw l (w .head .index-below);
         sizes-small = form-legal (object-form n) n (drop 16 b) (w .objects-are);
         ends-below = rw l ends;
+        few-leases = rw c (w .few-leases);
+        leases-below = rw l (form-legal (lease-form (w .head .few)) (lease-count at b) (drop at b) (w .leases-are));
       }

@@ -6,18 +6,22 @@ use native.Mathlib.Omega.{arith}
 use borrow.Author.Tests.{lt-ltb, le-ltb, eq-eqb, ne-eqb}
 use lib.ListN.{length}
 use lib.Dec.{eqb, ltb}
-use mathlib.Core.Bool.{false, not, _||_}
+use mathlib.Core.Bool.{true, false, not, _||_}
 use Rattle.refusal.specs.Order.{raise}
 use Rattle.graph.specs.Limits.{most-objects, most-references, largest-size}
 use Rattle.catalogue.specs.Answer.{Heads}
-use Rattle.catalogue.specs.Layout.{header, object, reference}
-use Rattle.catalogue.specs.Reading.{Kind, header-kind, object-kind, reference-kind, unknown, kindOf, lengthOf}
-use Rattle.catalogue.specs.Reading.{length-field, kind-field, size-field, pair-field}
-use Rattle.catalogue.specs.Reading.{misfit, misplaced, miscounted, misnamed, oversized, contentsFault, recordFault}
+use Rattle.catalogue.specs.Layout.{header, object, reference, lease}
+use Rattle.catalogue.specs.Reading.{Kind, header-kind, object-kind, reference-kind, lease-kind, unknown, kindOf, lengthOf}
+use Rattle.catalogue.specs.Reading.{length-field, kind-field, size-field, pair-field, lease-field}
+use Rattle.catalogue.specs.Reading.{misfit, misplaced, overfull, miscounted, misnamed, oversized, contentsFault, recordFault}
 
 -- the faults 4 to 6 of a record
 abbrev pub contents : Kind → ℕ → List ℕ → ℕ
 contents k n b = raise (miscounted k b) 4 (raise (misnamed k n b) 5 (raise (oversized k b) 6 0))
+
+-- the faults from 3 on, by where it stands and what it says
+abbrev pub placed : Kind → ℕ → ℕ → List ℕ → ℕ
+placed k due n b = raise (misplaced due k) 3 (raise (overfull due k) 13 (contents k n b))
 
 -- of each kind, by the numbers that were read
 pub header-told : {b : List ℕ} {n m index : ℕ} → Heads b n m index
@@ -31,11 +35,15 @@ pub reference-told : {from to : ℕ} (n : ℕ) (b : List ℕ) → from ≡ pair-
     → raise (not (ltb from n) || not (ltb to n)) 5 0 ≡ contents reference-kind n b
 reference-told n b e g = rw (e, g)
 
+pub lease-told : {object : ℕ} (n : ℕ) (b : List ℕ) → object ≡ lease-field b → raise (not (ltb object n)) 5 0 ≡ contents lease-kind n b
+lease-told n b e = rw e
+
 -- the number of a kind, and d for an unknown one
 abbrev pub numberFor : Kind → ℕ → ℕ
 numberFor header-kind d = header
 numberFor object-kind d = object
 numberFor reference-kind d = reference
+numberFor lease-kind d = lease
 numberFor unknown d = d
 
 pub kind-number : (x : ℕ) → numberFor (kindOf x) x ≡ x
@@ -43,15 +51,17 @@ kind-number zero = refl
 kind-number (suc zero) = refl
 kind-number (suc (suc zero)) = refl
 kind-number (suc (suc (suc zero))) = refl
-kind-number (suc (suc (suc (suc x)))) = refl
+kind-number (suc (suc (suc (suc zero)))) = refl
+kind-number (suc (suc (suc (suc (suc x))))) = refl
 
--- a number that is none of the three
-pub not-known : (k : ℕ) → (k ≡ 1 → ⊥) → (k ≡ 2 → ⊥) → (k ≡ 3 → ⊥) → kindOf k ≡ unknown
-not-known zero a b c = refl
-not-known (suc zero) a b c = absurd (a refl)
-not-known (suc (suc zero)) a b c = absurd (b refl)
-not-known (suc (suc (suc zero))) a b c = absurd (c refl)
-not-known (suc (suc (suc (suc k)))) a b c = refl
+-- a number that is none of the four
+pub not-known : (k : ℕ) → (k ≡ 1 → ⊥) → (k ≡ 2 → ⊥) → (k ≡ 3 → ⊥) → (k ≡ 4 → ⊥) → kindOf k ≡ unknown
+not-known zero a b c d = refl
+not-known (suc zero) a b c d = absurd (a refl)
+not-known (suc (suc zero)) a b c d = absurd (b refl)
+not-known (suc (suc (suc zero))) a b c d = absurd (c refl)
+not-known (suc (suc (suc (suc zero)))) a b c d = absurd (d refl)
+not-known (suc (suc (suc (suc (suc k))))) a b c d = refl
 
 module _ (due n : ℕ) (b : List ℕ) where
   pub too-short : length b < 4 → 1 ≡ recordFault due n b
@@ -73,16 +83,19 @@ pub record Known (x : ℕ) (k : Kind) : Type 0 where
   pub number-is : (d : ℕ) → numberFor k d ≡ x
   pub four : 4 ≤ lengthOf k
   pub length-by : (b : List ℕ) → misfit k b ≡ not (eqb (length-field b) (lengthOf k))
-  pub place-by : (due : ℕ) → misplaced due k ≡ not (eqb due x)
+  pub in-place : (misplaced x k ≡ false) × (overfull x k ≡ false)
 
 pub as-header : Known header header-kind
-as-header = record { kind-of = refl; number-is = λ d. refl; four = omega arith; length-by = λ b. refl; place-by = λ due. refl }
+as-header = record { kind-of = refl; number-is = λ d. refl; four = omega arith; length-by = λ b. refl; in-place = (refl, refl) }
 
 pub as-object : Known object object-kind
-as-object = record { kind-of = refl; number-is = λ d. refl; four = omega arith; length-by = λ b. refl; place-by = λ due. refl }
+as-object = record { kind-of = refl; number-is = λ d. refl; four = omega arith; length-by = λ b. refl; in-place = (refl, refl) }
 
 pub as-reference : Known reference reference-kind
-as-reference = record { kind-of = refl; number-is = λ d. refl; four = omega arith; length-by = λ b. refl; place-by = λ due. refl }
+as-reference = record { kind-of = refl; number-is = λ d. refl; four = omega arith; length-by = λ b. refl; in-place = (refl, refl) }
+
+pub as-lease : Known lease lease-kind
+as-lease = record { kind-of = refl; number-is = λ d. refl; four = omega arith; length-by = λ b. refl; in-place = (refl, refl) }
 
 -- a record whose kind is that one
 pub record Sort (x : ℕ) (k : Kind) (kind long : ℕ) (b : List ℕ) : Type 0 where
@@ -100,12 +113,21 @@ module _ {x : ℕ} {k : Kind} {kind long : ℕ} {b : List ℕ} (w : Sort x k kin
     fits : misfit k b ≡ false
     fits = rw (w .known .length-by b, eq-eqb (length-field b) (lengthOf k) (sym (w .length-is) ∙ h))
 
-    pub wrong-place : (due ≡ x → ⊥) → 3 ≡ contentsFault (kindOf kind) due n b
-    wrong-place g = rw (w .is, w .known .kind-of, fits, w .known .place-by due, ne-eqb due x g)
+    pub right-length : placed k due n b ≡ contentsFault (kindOf kind) due n b
+    right-length = rw (w .is, w .known .kind-of, fits)
+
+    pub wrong-place : misplaced due k ≡ true → 3 ≡ contentsFault (kindOf kind) due n b
+    wrong-place g = rw g at right-length
 
     pub right-frame : due ≡ x → contents k n b ≡ contentsFault (kindOf kind) due n b
-    right-frame g = rw (w .is, w .known .kind-of, fits, w .known .place-by due, eq-eqb due x g)
+    right-frame g =
+        let e : placed k due n b ≡ contents k n b = rw (g, w .known .in-place .0, w .known .in-place .1) in
+        sym e ∙ right-length
 
--- a kind that is none of the three
+-- another number than the one that is due
+pub other-place : (due x : ℕ) → (due ≡ x → ⊥) → not (eqb due x) ≡ true
+other-place due x h = rw (ne-eqb due x h)
+
+-- a kind that is none of the four
 pub unknown-kind : (due n kind : ℕ) (b : List ℕ) → kindOf kind ≡ unknown → 2 ≡ contentsFault (kindOf kind) due n b
 unknown-kind due n kind b e = rw e

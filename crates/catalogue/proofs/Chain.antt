@@ -1,12 +1,14 @@
--- Chains of the catalogue's references are the chains of the graph that is read from it.
+-- Chains of the catalogue's references are the chains of the graph that is read from it, from the same starts.
 use mathlib.Core.Path.{_≡_, refl, sym, subst}
 use mathlib.Core.List.{List, [], _∷_, map}
-use mathlib.Core.Logic.{_↔_}
+use mathlib.Core.Logic.{_↔_, by-cases}
 use Prim.Native.Nat.{ℕ, zero, suc, _+_, _*_, _≤_, _<_}
+use native.Mathlib.Decide.{decLt}
 use native.Mathlib.Omega.{arith}
+use Rattle.laws.specs.Every.{Every}
 use Rattle.laws.specs.Sum.{sum, hit}
 use Rattle.laws.specs.Grouping.{part, cons-if}
-use Rattle.laws.proofs.Sum.{hit-same, hit-equal, hit-at-most-one}
+use Rattle.laws.proofs.Sum.{hit-equal, hit-at-most-one}
 use Rattle.graph.specs.Graph.{Graph, target, objects as graph-objects, references as graph-references}
 use Rattle.graph.specs.Formed.{Formed}
 use Rattle.graph.specs.Chain.{Reach, here, on}
@@ -33,7 +35,15 @@ among u v [] = refl
 among u v (p ∷ l) =
     rw (among u v l) (chosen (hit u (p .from)) v p (part fromOf u l) (hit-at-most-one u (p .from)))
 
-module _ (s : Store) (r : InRange s) where
+-- a start is an object where each is
+start-below : (n v : ℕ) (l : List ℕ) → Every (λ (x : ℕ). x < n) l → 0 < sum (hit v) l → v < n
+unfolding sum
+start-below n v [] h g = absurd (omega arith)
+start-below n v (x ∷ l) h g =
+    by-cases (decLt 0 (hit v x)) (λ (p : 0 < hit v x). omega (arith, hit-equal v x p, h .0))
+    (λ p. start-below n v l (h .1) (omega (arith, p)))
+
+module _ (s : Store) (r : InRange s) (starts : List ℕ) (inside : Every (λ (x : ℕ). x < objects s) starts) where
   abbrev G : Graph
   G = readGraph s
 
@@ -48,29 +58,26 @@ module _ (s : Store) (r : InRange s) where
   leading-is u v = among u v (s .pairs)
 
   -- chains lead to objects only
-  reaches-object : {v : ℕ} → Reach G (s .index ∷ []) v → v < objects s
-  unfolding sum
-  reaches-object (here {v = v} h) = omega (arith, hit-equal v (s .index) (omega arith), r .index-below)
+  reaches-object : {v : ℕ} → Reach G starts v → v < objects s
+  reaches-object (here {v = v} h) = start-below (objects s) v starts inside h
   reaches-object (on {u = u} e c l) =
-      let inside : e < graph-references G = omega (arith, l .below, after-limit G is-formed u (l .object)) in
-      omega (arith, g .n-is, is-formed .inside e inside)
+      let below : e < graph-references G = omega (arith, l .below, after-limit G is-formed u (l .object)) in
+      omega (arith, g .n-is, is-formed .inside e below)
 
-  chain-reaches : {v : ℕ} → Chain s v → Reach G (s .index ∷ []) v
-  unfolding sum
-  chain-reaches begins = here {v = s .index} (omega (arith, hit-same (s .index)))
+  chain-reaches : {v : ℕ} → Chain s starts v → Reach G starts v
+  chain-reaches (begins h) = here h
   chain-reaches (along {u = u} {v = v} c h) =
       let reached = chain-reaches c in
       let below = reaches-object reached in
-      let inside : u < graph-objects G = omega (arith, g .n-is) in
-      let q = view-only is-formed inside v (rw (g .view u below) (rw (leading-is u v) at h)) in
-      subst (Reach G (s .index ∷ [])) (sym (q .2)) (on (q .0) reached (q .1))
+      let there : u < graph-objects G = omega (arith, g .n-is) in
+      let q = view-only is-formed there v (rw (g .view u below) (rw (leading-is u v) at h)) in
+      subst (Reach G starts) (sym (q .2)) (on (q .0) reached (q .1))
 
-  reach-chains : {v : ℕ} → Reach G (s .index ∷ []) v → Chain s v
-  unfolding sum
-  reach-chains (here {v = v} h) = subst (Chain s) (sym (hit-equal v (s .index) (omega arith))) begins
+  reach-chains : {v : ℕ} → Reach G starts v → Chain s starts v
+  reach-chains (here h) = begins h
   reach-chains (on {u = u} e c l) =
       let below : u < objects s = omega (arith, l .object, g .n-is) in
       along {v = target G e} (reach-chains c) (rw (leading-is u (target G e), ← g .view u below) (view-has is-formed (l .object) l))
 
-  pub chain-is-reach : (v : ℕ) → Chain s v ↔ Reach G (s .index ∷ []) v
+  pub chain-is-reach : (v : ℕ) → Chain s starts v ↔ Reach G starts v
   chain-is-reach v = (λ c. chain-reaches c, λ c. reach-chains c)

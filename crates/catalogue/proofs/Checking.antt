@@ -17,9 +17,11 @@ use Rattle.refusal.specs.Order.{raise, first}
 use Rattle.refusal.proofs.Numbers.{numbered, first-found}
 use Rattle.graph.specs.Limits.{largest-size}
 use Rattle.catalogue.specs.Layout.{header, object, reference}
-use Rattle.catalogue.specs.Reading.{Kind, header-kind, object-kind, reference-kind, unknown, kindOf, lengthOf, nothing, dues, dueAt}
-use Rattle.catalogue.specs.Reading.{kind-field, n-field, m-field, short, contentsFault, recordFault, surplusFault, faults, Clear, catalogueFault}
+use Rattle.catalogue.specs.Reading.{Kind, header-kind, object-kind, reference-kind, lease-kind, unknown, kindOf, lengthOf, dues, dueAt, leases-at}
+use Rattle.catalogue.specs.Reading.{kind-field, n-field, m-field, short, contentsFault, recordFault, leaseFaults, faults, Clear, catalogueFault}
+use Rattle.catalogue.specs.Store.{most-leases}
 use Rattle.catalogue.specs.Answer.{refusal-row, header-values}
+use Rattle.catalogue.specs.Fill.{Listed}
 use Rattle.catalogue.proofs.Faults.{Framed, good-object-record, good-reference-record, clear-object, clear-reference}
 
 -- the fault of a header does not depend on n
@@ -27,6 +29,7 @@ header-kinds : (k : Kind) (n n′ : ℕ) (b : List ℕ) → contentsFault k head
 header-kinds header-kind n n′ b = refl
 header-kinds object-kind n n′ b = refl
 header-kinds reference-kind n n′ b = refl
+header-kinds lease-kind n n′ b = refl
 header-kinds unknown n n′ b = refl
 
 pub header-any : (n n′ : ℕ) (b : List ℕ) → recordFault header n b ≡ recordFault header n′ b
@@ -37,13 +40,6 @@ header-any n n′ b = ap (raise (short b) 1) (header-kinds (kindOf (kind-field b
 pub header-refused : (f : Refusal) (k : ℕ) (b : List ℕ) → number f ≡ k → refusal-row (number f) ≡ header-values k b
 header-refused f zero b h = absurd (omega (arith, h, numbered f))
 header-refused f (suc k) b h = ap refusal-row h
-
--- behind the last reference
-pub surplus-none : (n at : ℕ) (b : List ℕ) → at ≡ length b → 0 ≡ surplusFault n (drop at b)
-surplus-none n at b h = rw (drop-of-length-le b {i = at} (omega (arith, h)))
-
-pub surplus-some : (n at : ℕ) (b : List ℕ) → at < length b → recordFault nothing n (drop at b) ≡ surplusFault n (drop at b)
-surplus-some n at b h = rw (drop-cons b at 0 h)
 
 -- which kind is due
 dues-at : (n m i : ℕ) → i < n + m → getD (dues n m) i 0 ≡ dueAt n i
@@ -105,7 +101,7 @@ module _ {n m : ℕ} {b : List ℕ} {i at : ℕ} (a : Checking n m b i at) (h : 
       }
 
 pub checking-end : {n m : ℕ} {b : List ℕ} {i at : ℕ} → Checking n m b i at → n + m ≤ i
-    → surplusFault n (drop at b) ≡ faults n (dues n m) (drop 16 b)
+    → leaseFaults n most-leases (drop at b) ≡ faults n (dues n m) (drop 16 b)
 unfolding faults
 checking-end {n} {m} {b} {i} {at} a h = rw (drop-of-length-le (dues n m) {i = i} (omega (arith, length-dues n m))) at (a .left)
 
@@ -167,7 +163,7 @@ module _ {n from to : ℕ} {b : List ℕ} {wrong i : ℕ} (a : Looking n from to
   pub looking-end : to ≤ i → wrong ≡ 0 → Clear n from to b
   looking-end h e k g p = a .clear e k g (omega arith)
 
--- all of them, and nothing behind them
+-- all of them
 clear-checking : (n m : ℕ) (b : List ℕ) → 16 ≤ length b → (i : ℕ) → i ≤ n + m → Clear n 0 i b → Checking n m b i (16 + 12 * i)
 clear-checking n m b l zero h c = checking-none n m b l
 clear-checking n m b l (suc i) h c =
@@ -175,10 +171,14 @@ clear-checking n m b l (suc i) h c =
     let q : 16 + 12 * i + 12 ≡ 16 + 12 * suc i = omega arith in
     rw (add-one, q) at (checking-next a (omega arith) (c i (omega arith) (omega arith)))
 
-pub clear-faults : (n m : ℕ) (b : List ℕ) → length b ≡ 16 + 12 * (n + m) → Clear n 0 n b → Clear n n (n + m) b → faults n (dues n m) (drop 16 b) ≡ 0
-clear-faults n m b l o r =
+pub clear-listed : (n m : ℕ) (b : List ℕ) → 16 + 12 * (n + m) ≤ length b → Clear n 0 n b → Clear n n (n + m) b → Listed n m b
+clear-listed n m b l o r =
     let whole : Clear n 0 (n + m) b = λ k g h. by-cases (decLt k n) (λ (p : k < n). o k g p) (λ p. r k (omega (arith, p)) h) in
-    sym (surplus-none n (16 + 12 * (n + m)) b (sym l) ∙ checking-end (clear-checking n m b (omega arith) (n + m) (omega arith) whole) (omega arith))
+    let q : 16 + 12 * (n + m) ≡ leases-at n m = omega arith in
+    record {
+      there = omega arith;
+      left = sym (rw q at (checking-end (clear-checking n m b (omega arith) (n + m) (omega arith) whole) (omega arith)));
+    }
 
 -- the header first, and then the rest
 pub whole-fault : (f : Refusal) (b : List ℕ) → number f ≡ recordFault header 0 b → number f ≡ catalogueFault b

@@ -1,7 +1,7 @@
 -- What it means that no fault is found, record by record.
 use mathlib.Core.Path.{_≡_, refl, ap, sym, subst, _∙_}
 use mathlib.Core.List.{List}
-use mathlib.Core.Bool.{false, not, _||_, true≢false}
+use mathlib.Core.Bool.{Bool, true, false, not, _||_, true≢false}
 use Prim.Native.Nat.{ℕ, _≤_, _<_}
 use native.Mathlib.Omega.{arith}
 use borrow.Author.Tests.{ltb-true, ltb-false, eqb-true, not-false, lt-ltb, le-ltb}
@@ -9,19 +9,20 @@ use lib.ListN.{length}
 use lib.Dec.{eqb, ltb}
 use Rattle.refusal.specs.Order.{raise}
 use Rattle.refusal.proofs.None.{raise-none, or-none}
-use Rattle.catalogue.proofs.Cases.{Known, as-header, as-object, as-reference, numberFor, kind-number, contents, right-frame, whole}
-use Rattle.catalogue.specs.Layout.{header, object, reference}
+use Rattle.catalogue.proofs.Cases.{Known, as-header, as-object, as-reference, as-lease, numberFor, kind-number, contents, placed, right-frame, whole}
+use Rattle.catalogue.specs.Layout.{header, object, reference, lease}
 use Rattle.graph.specs.Limits.{most-objects, most-references, largest-size}
 use Rattle.catalogue.specs.Store.{Ends}
-use Rattle.catalogue.specs.Reading.{Kind, header-kind, object-kind, reference-kind, unknown, kindOf, lengthOf, nothing}
-use Rattle.catalogue.specs.Reading.{length-field, kind-field, n-field, m-field, index-field, size-field, pair-field}
-use Rattle.catalogue.specs.Reading.{short, misfit, misplaced, miscounted, misnamed, oversized, contentsFault, recordFault}
+use Rattle.catalogue.specs.Reading.{Kind, header-kind, object-kind, reference-kind, lease-kind, unknown, kindOf, lengthOf, nothing}
+use Rattle.catalogue.specs.Reading.{length-field, kind-field, n-field, m-field, index-field, size-field, pair-field, lease-field}
+use Rattle.catalogue.specs.Reading.{short, misfit, misplaced, overfull, miscounted, misnamed, oversized, contentsFault, recordFault}
 
--- a record of a kind where one is due, with none of the faults 1 to 6
+-- a record of a kind where one is due, without a fault
 record Faultless (k : Kind) (due n : ℕ) (b : List ℕ) : Type 0 where
   pub whole : length-field b ≤ length b
   pub fits : misfit k b ≡ false
   pub placed : misplaced due k ≡ false
+  pub room : overfull due k ≡ false
   pub contents : contents k n b ≡ 0
 
 faultless : (due n : ℕ) (b : List ℕ) → recordFault due n b ≡ 0 → Faultless (kindOf (kind-field b)) due n b
@@ -29,13 +30,15 @@ unfolding recordFault
 faultless due n b h =
     let k = kindOf (kind-field b) in
     let one = raise-none (short b) 0 (contentsFault k due n b) h in
-    let two = raise-none (misfit k b) 1 (raise (misplaced due k) 3 (contents k n b)) (one .1) in
-    let three = raise-none (misplaced due k) 2 (contents k n b) (two .1) in
+    let two = raise-none (misfit k b) 1 (placed k due n b) (one .1) in
+    let three = raise-none (misplaced due k) 2 (raise (overfull due k) 13 (contents k n b)) (two .1) in
+    let thirteen = raise-none (overfull due k) 12 (contents k n b) (three .1) in
     record {
       whole = ltb-false (length b) (length-field b) (or-none (ltb (length b) 4) (ltb (length b) (length-field b)) (one .0) .1);
       fits = two .0;
       placed = three .0;
-      contents = three .1;
+      room = thirteen .0;
+      contents = thirteen .1;
     }
 
 not-not : (x y : ℕ) → not (eqb x y) ≡ false → x ≡ y
@@ -44,11 +47,17 @@ not-not x y h = eqb-true x y (not-false (eqb x y) h)
 not-less : (x y : ℕ) → not (ltb x y) ≡ false → x < y
 not-less x y h = ltb-true x y (not-false (ltb x y) h)
 
+-- neither at the place of another kind nor behind the last lease
+lease-due : (due : ℕ) (last : Bool) → not (last || eqb due lease) ≡ false → last ≡ false → due ≡ lease
+lease-due due true h g = absurd (true≢false g)
+lease-due due false h g = not-not due lease h
+
 -- a record without a fault is of the kind that is due
 same-kind : (k : Kind) (due n : ℕ) (b : List ℕ) → Faultless k due n b → k ≡ kindOf due
 same-kind header-kind due n b f = sym (ap kindOf (not-not due header (f .placed)))
 same-kind object-kind due n b f = sym (ap kindOf (not-not due object (f .placed)))
 same-kind reference-kind due n b f = sym (ap kindOf (not-not due reference (f .placed)))
+same-kind lease-kind due n b f = sym (ap kindOf (lease-due due (eqb due nothing) (f .placed) (f .room)))
 same-kind unknown due n b f = absurd (true≢false (f .fits))
 
 -- its length and its kind are what they must be
@@ -72,7 +81,7 @@ module _ {x : ℕ} {k : Kind} (w : Known x k) (n : ℕ) (b : List ℕ) where
         g,
       )
 
-  -- so framed, and with none of the faults 4 to 6, it has no fault
+  -- so framed, and with no fault in its contents, it has none
   no-fault : Framed x k b → contents k n b ≡ 0 → recordFault x n b ≡ 0
   no-fault g e =
       whole x n b (omega (arith, g .long, w .four)) (omega (arith, g .long, g .length-is))
@@ -95,6 +104,11 @@ pub record GoodObject (b : List ℕ) : Type 0 where
 pub record GoodReference (n : ℕ) (b : List ℕ) : Type 0 where
   pub frame : Framed reference reference-kind b
   pub ends : Ends n (pair-field b)
+
+-- a lease without a fault
+pub record GoodLease (n : ℕ) (b : List ℕ) : Type 0 where
+  pub frame : Framed lease lease-kind b
+  pub below : lease-field b < n
 
 module _ (n : ℕ) (b : List ℕ) where
   pub good-header-record : recordFault header n b ≡ 0 → GoodHeader b
@@ -126,6 +140,11 @@ module _ (n : ℕ) (b : List ℕ) where
         ends = record { from-below = not-less (pair-field b .from) n (d .0); to-below = not-less (pair-field b .to) n (d .1) };
       }
 
+  pub good-lease-record : recordFault lease n b ≡ 0 → GoodLease n b
+  good-lease-record h =
+      let f = framed as-lease n b h in
+      record { frame = f .0; below = not-less (lease-field b) n (raise-none (misnamed lease-kind n b) 4 0 (f .1 .contents) .0) }
+
   -- where nothing is due, no record is without a fault
   pub never-good : recordFault nothing n b ≡ 0 → ⊥
   never-good h =
@@ -150,3 +169,6 @@ module _ (n : ℕ) (b : List ℕ) where
   clear-reference g =
       no-fault as-reference n b (g .frame)
       (rw (lt-ltb (pair-field b .from) n (g .ends .from-below), lt-ltb (pair-field b .to) n (g .ends .to-below)))
+
+  pub clear-lease : GoodLease n b → recordFault lease n b ≡ 0
+  clear-lease g = no-fault as-lease n b (g .frame) (rw (lt-ltb (lease-field b) n (g .below)))

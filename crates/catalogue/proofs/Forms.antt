@@ -1,65 +1,68 @@
--- The two forms of records behind the header: what a record without a fault says, and how it is written.
+-- The three forms of records behind the header: what a record without a fault says, and how it is written.
 use mathlib.Core.Path.{_≡_, refl, ap, sym, _∙_}
 use mathlib.Core.List.{List, [], _∷_, _++_, flatMap, append-assoc}
-use Prim.Native.Nat.{ℕ, zero, suc, _+_, _*_, _≤_}
+use Prim.Native.Nat.{ℕ, zero, suc, _+_, _*_, _≤_, _<_}
+use native.Mathlib.Nat.{mul-zero}
 use native.Mathlib.Omega.{arith}
-use lib.ListN.{length, take, drop, replicate, length-drop}
-use lib.Seq.{drop-drop}
+use lib.ListN.{length, take, drop, replicate, length-append, length-drop}
+use lib.Seq.{take-add, drop-drop}
 use Rattle.laws.specs.Every.{Every}
 use Rattle.laws.specs.Words.{le, word, Bytes}
 use Rattle.laws.proofs.Words.{word-le, le-field, take-join, bytes-drop}
 use Rattle.refusal.proofs.None.{first-none}
 use Rattle.graph.specs.Limits.{most-objects, largest-size}
 use Rattle.catalogue.specs.Store.{Pair, Ends}
-use Rattle.catalogue.specs.Layout.{object, reference, record-length, recordOf, objectRecord, referenceRecord}
-use Rattle.catalogue.specs.Reading.{kindOf, lengthOf, length-field, kind-field, size-field, pair-field, recordFault, faults, records}
-use Rattle.catalogue.proofs.Faults.{GoodObject, GoodReference, good-object-record, good-reference-record, clear-object, clear-reference}
+use Rattle.catalogue.specs.Layout.{object, reference, lease, recordOf, objectRecord, referenceRecord, leaseRecord}
+use Rattle.catalogue.specs.Reading.{kindOf, lengthOf, length-field, kind-field, size-field, pair-field, lease-field, recordFault, faults, records}
+use Rattle.catalogue.proofs.Faults.{GoodObject, GoodReference, GoodLease, good-object-record, good-reference-record, good-lease-record}
+use Rattle.catalogue.proofs.Faults.{clear-object, clear-reference, clear-lease}
 
--- so many records one after the other, each with a property
-abbrev pub EachRecord : (List ℕ → Type 0) → ℕ → List ℕ → Type 0
-EachRecord G zero b = Unit
-EachRecord G (suc c) b = G b × EachRecord G c (drop record-length b)
+-- so many records of a length one after the other, each with a property
+abbrev pub EachRecord : ℕ → (List ℕ → Type 0) → ℕ → List ℕ → Type 0
+EachRecord width G zero b = Unit
+EachRecord width G (suc c) b = G b × EachRecord width G c (drop width b)
 
--- f reads a record of the kind that is due, `write` writes one, P is what is legal, and G is a record without a fault
-pub record Form {A : Type 0} (f : List ℕ → A) (write : A → List ℕ) (P : A → Type 0) (G : List ℕ → Type 0) (due n : ℕ) : Type 0 where
-  pub twelve : lengthOf (kindOf due) ≡ 12
+-- f reads a record of a length and of the kind that is due, `write` writes one, P is what is legal, and G is a record without a fault
+pub record Form {A : Type 0} (width : ℕ) (f : List ℕ → A) (write : A → List ℕ) (P : A → Type 0) (G : List ℕ → Type 0) (due n : ℕ) : Type 0 where
+  pub width-is : lengthOf (kindOf due) ≡ width
   pub good : (b : List ℕ) → recordFault due n b ≡ 0 → G b
-  pub long : (b : List ℕ) → G b → 12 ≤ length b
+  pub long : (b : List ℕ) → G b → width ≤ length b
   pub legal : (b : List ℕ) → G b → P (f b)
-  pub rewrites : (b : List ℕ) → Bytes b → G b → write (f b) ≡ take 12 b
+  pub rewrites : (b : List ℕ) → Bytes b → G b → write (f b) ≡ take width b
   pub clear : (x : A) (rest : List ℕ) → P x → recordFault due n (write x ++ rest) ≡ 0
   pub reads : (x : A) (rest : List ℕ) → P x → f (write x ++ rest) ≡ x
-  pub behind : (x : A) (rest : List ℕ) → drop 12 (write x ++ rest) ≡ rest
+  pub behind : (x : A) (rest : List ℕ) → drop width (write x ++ rest) ≡ rest
+  pub long-written : (x : A) → length (write x) ≡ width
 
-module _ {A : Type 0} {f : List ℕ → A} {write : A → List ℕ} {P : A → Type 0} {G : List ℕ → Type 0} {due n : ℕ}
-    (F : Form f write P G due n) where
+module _ {A : Type 0} {width : ℕ} {f : List ℕ → A} {write : A → List ℕ} {P : A → Type 0} {G : List ℕ → Type 0} {due n : ℕ}
+    (F : Form width f write P G due n) where
   -- where they have no fault, each record is good, and so is the rest
   pub form-good : (c : ℕ) (later b : List ℕ) → faults n (replicate c due ++ later) b ≡ 0
-      → EachRecord G c b × (faults n later (drop (12 * c) b) ≡ 0)
+      → EachRecord width G c b × (faults n later (drop (width * c) b) ≡ 0)
   unfolding faults
-  form-good zero later b h = (tt, h)
+  form-good zero later b h = (tt, rw mul-zero h)
   form-good (suc c) later b h =
       let p = first-none (recordFault due n b) (faults n (replicate c due ++ later) (drop (lengthOf (kindOf due)) b)) h in
-      let r = form-good c later (drop 12 b) (rw (F .twelve) at (p .1)) in
-      let q : 12 + 12 * c ≡ 12 * suc c = omega arith in
+      let r = form-good c later (drop width b) (rw (F .width-is) at (p .1)) in
+      let q : width + width * c ≡ width * suc c = omega arith in
       ((F .good b (p .0), r .0), rw (drop-drop, q) at (r .1))
 
-  pub form-long : (c : ℕ) (b : List ℕ) → EachRecord G c b → 12 * c ≤ length b
+  pub form-long : (c : ℕ) (b : List ℕ) → EachRecord width G c b → width * c ≤ length b
   form-long zero b r = omega arith
-  form-long (suc c) b r = omega (arith, F .long b (r .0), rw length-drop at (form-long c (drop 12 b) (r .1)))
+  form-long (suc c) b r = omega (arith, F .long b (r .0), rw length-drop at (form-long c (drop width b) (r .1)))
 
-  pub form-legal : (c : ℕ) (b : List ℕ) → EachRecord G c b → Every P (records f c b)
+  pub form-legal : (c : ℕ) (b : List ℕ) → EachRecord width G c b → Every P (records width f c b)
   unfolding records
   form-legal zero b r = tt
-  form-legal (suc c) b r = (F .legal b (r .0), form-legal c (drop 12 b) (r .1))
+  form-legal (suc c) b r = (F .legal b (r .0), form-legal c (drop width b) (r .1))
 
   -- what they say, written, are their bytes
-  pub form-bytes : (c : ℕ) (b : List ℕ) → Bytes b → EachRecord G c b → flatMap write (records f c b) ≡ take (12 * c) b
+  pub form-bytes : (c : ℕ) (b : List ℕ) → Bytes b → EachRecord width G c b → flatMap write (records width f c b) ≡ take (width * c) b
   unfolding records flatMap
-  form-bytes zero b h r = refl
+  form-bytes zero b h r = rw mul-zero
   form-bytes (suc c) b h r =
-      let q : 12 + 12 * c ≡ 12 * suc c = omega arith in
-      rw (F .rewrites b h (r .0), form-bytes c (drop 12 b) (bytes-drop 12 b h) (r .1)) (take-join 0 12 (12 * c) b ∙ rw q)
+      let q : width + width * c ≡ width * suc c = omega arith in
+      rw (F .rewrites b h (r .0), form-bytes c (drop width b) (bytes-drop width b h) (r .1)) (sym (take-add width (width * c) b) ∙ rw q)
 
   -- written records have no fault, read as what was written, and then comes what stands behind them
   pub written-faults : (xs : List A) (later rest : List ℕ) → Every P xs
@@ -68,9 +71,9 @@ module _ {A : Type 0} {f : List ℕ → A} {write : A → List ℕ} {P : A → T
   written-faults [] later rest h = refl
   written-faults (x ∷ xs) later rest h =
       let tail = flatMap write xs ++ rest in
-      rw (append-assoc (write x) (flatMap write xs) rest, F .clear x tail (h .0), F .twelve, F .behind x tail) (written-faults xs later rest (h .1))
+      rw (append-assoc (write x) (flatMap write xs) rest, F .clear x tail (h .0), F .width-is, F .behind x tail) (written-faults xs later rest (h .1))
 
-  pub written-records : (xs : List A) (rest : List ℕ) → Every P xs → records f (length xs) (flatMap write xs ++ rest) ≡ xs
+  pub written-records : (xs : List A) (rest : List ℕ) → Every P xs → records width f (length xs) (flatMap write xs ++ rest) ≡ xs
   unfolding records flatMap
   written-records [] rest h = refl
   written-records (x ∷ xs) rest h =
@@ -78,14 +81,19 @@ module _ {A : Type 0} {f : List ℕ → A} {write : A → List ℕ} {P : A → T
       rw (append-assoc (write x) (flatMap write xs) rest, F .reads x tail (h .0), F .behind x tail)
       (ap (λ (l : List A). x ∷ l) (written-records xs rest (h .1)))
 
-  pub written-behind : (xs : List A) (rest : List ℕ) → drop (12 * length xs) (flatMap write xs ++ rest) ≡ rest
+  pub written-behind : (xs : List A) (rest : List ℕ) → drop (width * length xs) (flatMap write xs ++ rest) ≡ rest
   unfolding flatMap
-  written-behind [] rest = refl
+  written-behind [] rest = rw mul-zero
   written-behind (x ∷ xs) rest =
       let tail = flatMap write xs ++ rest in
-      let q : 12 * suc (length xs) ≡ 12 + 12 * length xs = omega arith in
-      rw (q, ← drop-drop (12 * length xs) 12 (write x ++ flatMap write xs ++ rest), append-assoc (write x) (flatMap write xs) rest, F .behind x tail)
+      let q : width * suc (length xs) ≡ width + width * length xs = omega arith in
+      rw (q, ← drop-drop (width * length xs) width (write x ++ flatMap write xs ++ rest), append-assoc (write x) (flatMap write xs) rest, F .behind x tail)
       (written-behind xs rest)
+
+  pub written-length : (xs : List A) → length (flatMap write xs) ≡ width * length xs
+  unfolding flatMap
+  written-length [] = rw mul-zero
+  written-length (x ∷ xs) = rw length-append (omega (arith, F .long-written x, written-length xs))
 
 -- the bytes of a record are those that its numbers give
 pub record-bytes : (b : List ℕ) → Bytes b → {l k : ℕ} (c : List ℕ) → length-field b ≡ l → kind-field b ≡ k → 4 ≤ length b
@@ -116,10 +124,14 @@ module _ (x : ℕ) (rest : List ℕ) where
   unfolding le
   object-behind = refl
 
-pub object-form : (n : ℕ) → Form size-field objectRecord (λ (x : ℕ). x ≤ largest-size) GoodObject object n
+object-written : (x : ℕ) → length (objectRecord x) ≡ 12
+unfolding le
+object-written x = refl
+
+pub object-form : (n : ℕ) → Form 12 size-field objectRecord (λ (x : ℕ). x ≤ largest-size) GoodObject object n
 object-form n =
     record {
-      twelve = refl;
+      width-is = refl;
       good = λ b. good-object-record n b;
       long = λ b g. g .frame .long;
       legal = λ b g. g .small;
@@ -127,6 +139,7 @@ object-form n =
       clear = λ x rest h. clear-object n (objectRecord x ++ rest) (object-good x rest h);
       reads = object-size;
       behind = object-behind;
+      long-written = object-written;
     }
 
 -- ---- references
@@ -141,6 +154,10 @@ reference-behind : (p : Pair) (rest : List ℕ) → drop 12 (referenceRecord p +
 unfolding le
 reference-behind p rest = refl
 
+reference-written : (p : Pair) → length (referenceRecord p) ≡ 12
+unfolding le
+reference-written p = refl
+
 module _ {n : ℕ} (few : n ≤ most-objects) (p : Pair) (rest : List ℕ) (e : Ends n p) where
   reference-pair : pair-field (referenceRecord p ++ rest) ≡ p
   unfolding le
@@ -152,10 +169,10 @@ module _ {n : ℕ} (few : n ≤ most-objects) (p : Pair) (rest : List ℕ) (e : 
   reference-good =
       record { frame = record { long = omega arith; length-is = refl; kind-is = refl }; ends = rw reference-pair e }
 
-pub reference-form : {n : ℕ} → n ≤ most-objects → Form pair-field referenceRecord (Ends n) (GoodReference n) reference n
+pub reference-form : {n : ℕ} → n ≤ most-objects → Form 12 pair-field referenceRecord (Ends n) (GoodReference n) reference n
 reference-form {n} few =
     record {
-      twelve = refl;
+      width-is = refl;
       good = λ b. good-reference-record n b;
       long = λ b g. g .frame .long;
       legal = λ b g. g .ends;
@@ -163,4 +180,45 @@ reference-form {n} few =
       clear = λ p rest e. clear-reference n (referenceRecord p ++ rest) (reference-good few p rest e);
       reads = λ p rest e. reference-pair few p rest e;
       behind = reference-behind;
+      long-written = reference-written;
+    }
+
+-- ---- leases
+
+lease-bytes : {n : ℕ} (b : List ℕ) → Bytes b → GoodLease n b → leaseRecord (lease-field b) ≡ take 8 b
+lease-bytes b h g =
+    let long = g .frame .long in
+    record-bytes b h (le 4 (lease-field b)) (g .frame .length-is) (g .frame .kind-is) (omega arith)
+    ∙ rw (le-field 4 4 b h (omega arith)) (take-join 0 4 4 b)
+
+lease-behind : (x : ℕ) (rest : List ℕ) → drop 8 (leaseRecord x ++ rest) ≡ rest
+unfolding le
+lease-behind x rest = refl
+
+lease-written : (x : ℕ) → length (leaseRecord x) ≡ 8
+unfolding le
+lease-written x = refl
+
+module _ {n : ℕ} (few : n ≤ most-objects) (x : ℕ) (rest : List ℕ) (h : x < n) where
+  lease-object : lease-field (leaseRecord x ++ rest) ≡ x
+  unfolding le
+  lease-object = word-le 4 x rest (omega arith)
+
+  lease-good : GoodLease n (leaseRecord x ++ rest)
+  unfolding le word
+  lease-good =
+      record { frame = record { long = omega arith; length-is = refl; kind-is = refl }; below = rw lease-object h }
+
+pub lease-form : {n : ℕ} → n ≤ most-objects → Form 8 lease-field leaseRecord (λ (x : ℕ). x < n) (GoodLease n) lease n
+lease-form {n} few =
+    record {
+      width-is = refl;
+      good = λ b. good-lease-record n b;
+      long = λ b g. g .frame .long;
+      legal = λ b g. g .below;
+      rewrites = lease-bytes;
+      clear = λ x rest h. clear-lease n (leaseRecord x ++ rest) (lease-good few x rest h);
+      reads = λ x rest h. lease-object few x rest h;
+      behind = lease-behind;
+      long-written = lease-written;
     }

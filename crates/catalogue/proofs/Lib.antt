@@ -1,8 +1,9 @@
 pub mod Cases
 pub mod Faults
+pub mod Forms
+pub mod Leases
 pub mod Checking
 pub mod Filling
-pub mod Forms
 pub mod Accepted
 pub mod Reader
 pub mod Acceptance

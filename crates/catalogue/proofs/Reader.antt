@@ -1,7 +1,7 @@
 -- The reader's answers, one for each way out.
 use mathlib.Core.Path.{_≡_, ap, sym}
 use mathlib.Core.Bool.{true, false, not, _||_}
-use mathlib.Core.List.{List, map}
+use mathlib.Core.List.{List, _∷_, map}
 use Prim.Native.Nat.{ℕ, zero, suc, _+_, _*_}
 use native.Mathlib.Omega.{arith}
 use borrow.Author.Tests.{eqb-true, not-false}
@@ -12,9 +12,9 @@ use Rattle.refusal.specs.declared.Refusal.{Refusal}
 use Rattle.refusal.specs.Number.{number}
 use Rattle.refusal.proofs.Numbers.{numbered}
 use Rattle.refusal.proofs.None.{or-none}
-use Rattle.catalogue.specs.Store.{Store}
-use Rattle.catalogue.specs.Reading.{refused, accepted, judged, reading, catalogueFault, storeOf, records, size-field, pair-field, n-field, m-field}
-use Rattle.catalogue.specs.Answer.{refusal-row, misfits, taken, Reads, Heads}
+use Rattle.catalogue.specs.Store.{Store, start-words, padded}
+use Rattle.catalogue.specs.Reading.{refused, accepted, judged, reading, catalogueFault, storeOf, records, size-field, pair-field, lease-field, n-field, m-field, leases-at, lease-count, leasesFrom}
+use Rattle.catalogue.specs.Answer.{unread, misfits, taken, Reads, Heads}
 use Rattle.catalogue.specs.Fill.{pairsOf, fromOf, toOf}
 use Rattle.catalogue.proofs.Filling.{length-records}
 
@@ -30,57 +30,66 @@ reading-accepted : (b : List ℕ) → catalogueFault b ≡ 0 → reading b ≡ a
 unfolding reading
 reading-accepted b h = rw h
 
--- n and m of the store are those of the header
+-- n and m of the store are those of the header, and its leases are those that the bytes have
 pub store-objects : (b : List ℕ) → length (storeOf b .sizes) ≡ n-field b
 unfolding storeOf
-store-objects b = length-records size-field (n-field b) (drop 16 b)
+store-objects b = length-records 12 size-field (n-field b) (drop 16 b)
 
 pub store-references : (b : List ℕ) → length (storeOf b .pairs) ≡ m-field b
 unfolding storeOf
-store-references b = length-records pair-field (m-field b) (drop (16 + 12 * n-field b) b)
+store-references b = length-records 12 pair-field (m-field b) (drop (16 + 12 * n-field b) b)
+
+store-leases : (b : List ℕ) → length (storeOf b .leases) ≡ lease-count (leases-at (n-field b) (m-field b)) b
+unfolding storeOf
+store-leases b = length-records 8 lease-field _ _
 
 -- lengths that fit
-pub record Fits (n m o t s : ℕ) : Type 0 where
+pub record Fits (n m o t s w : ℕ) : Type 0 where
   pub offsets : o ≡ n + 1
   pub targets : t ≡ m
   pub sizes : s ≡ n
+  pub starts : w ≡ start-words
 
-pub fits : (n m o t s : ℕ) → misfits n m o t s ≡ false → Fits n m o t s
-fits n m o t s h =
-    let a = or-none (not (eqb o (n + 1)) || not (eqb t m)) (not (eqb s n)) h in
+pub fits : (n m o t s w : ℕ) → misfits n m o t s w ≡ false → Fits n m o t s w
+fits n m o t s w h =
+    let d = or-none (not (eqb o (n + 1)) || not (eqb t m) || not (eqb s n)) (not (eqb w start-words)) h in
+    let a = or-none (not (eqb o (n + 1)) || not (eqb t m)) (not (eqb s n)) (d .0) in
     let c = or-none (not (eqb o (n + 1))) (not (eqb t m)) (a .0) in
     record {
       offsets = eqb-true o (n + 1) (not-false (eqb o (n + 1)) (c .0));
       targets = eqb-true t m (not-false (eqb t m) (c .1));
       sizes = eqb-true s n (not-false (eqb s n) (a .1));
+      starts = eqb-true w start-words (not-false (eqb w start-words) (d .1));
     }
 
-module _ {b o t s : List ℕ} where
+module _ {b o t s w : List ℕ} where
   -- a refusal leaves every lent word
-  unchanged : (k : ℕ) → taken b o t s ≡ refused k → Reads b o t s (refusal-row k) o t s
-  unchanged k e = record { returned = rw e; offsets-are = rw e; targets-are = rw e; sizes-are = rw e }
+  unchanged : (k : ℕ) → taken b o t s w ≡ refused k → Reads b o t s w (unread k) o t s w
+  unchanged k e = record { returned = rw e; offsets-are = rw e; targets-are = rw e; sizes-are = rw e; starts-are = rw e }
 
-  pub read-fault : (f : Refusal) → number f ≡ catalogueFault b → Reads b o t s (refusal-row (number f)) o t s
+  pub read-fault : (f : Refusal) → number f ≡ catalogueFault b → Reads b o t s w (unread (number f)) o t s w
   read-fault f h = unchanged (number f) (rw (reading-refused f b h))
 
   -- a catalogue without a fault, and the lent lengths
   module _ (h : catalogueFault b ≡ 0) {n m index : ℕ} (e : Heads b n m index) where
-    pub read-unfit : misfits n m (length o) (length t) (length s) ≡ true → Reads b o t s (refusal-row 7) o t s
-    read-unfit w =
-        unchanged 7 (rw (reading-accepted b h, store-objects b, store-references b, ← e .n-is, ← e .m-is, w))
+    pub read-unfit : misfits n m (length o) (length t) (length s) (length w) ≡ true → Reads b o t s w (unread 7) o t s w
+    read-unfit x =
+        unchanged 7 (rw (reading-accepted b h, store-objects b, store-references b, ← e .n-is, ← e .m-is, x))
 
-    pub read-filled : misfits n m (length o) (length t) (length s) ≡ false → {o′ t′ s′ : List ℕ}
+    pub read-filled : misfits n m (length o) (length t) (length s) (length w) ≡ false → {o′ t′ s′ w′ : List ℕ} {c at : ℕ}
         → o′ ≡ starts fromOf n (pairsOf n (length t) b) → t′ ≡ map toOf (grouped fromOf n (pairsOf n (length t) b))
-        → s′ ≡ records size-field (length s) (drop 16 b)
-        → Reads b o t s (record { refusal = 0; n = n; m = m; index = index }) o′ t′ s′
+        → s′ ≡ records 12 size-field (length s) (drop 16 b) → at ≡ leases-at n m → c ≡ suc (lease-count at b)
+        → w′ ≡ padded (index ∷ leasesFrom at b)
+        → Reads b o t s w (record { refusal = 0; n = n; m = m; index = index; starts = c }) o′ t′ s′ w′
     unfolding storeOf
-    read-filled w eo et es =
-        let k : taken b o t s ≡ accepted (storeOf b) =
-        rw (reading-accepted b h, store-objects b, store-references b, ← e .n-is, ← e .m-is, w) in
-        let l = fits n m (length o) (length t) (length s) w in
+    read-filled x eo et es ea ec ew =
+        let k : taken b o t s w ≡ accepted (storeOf b) =
+        rw (reading-accepted b h, store-objects b, store-references b, ← e .n-is, ← e .m-is, x) in
+        let l = fits n m (length o) (length t) (length s) (length w) x in
         record {
-          returned = rw (k, store-objects b, store-references b, e .n-is, e .m-is, e .index-is);
+          returned = rw (k, store-objects b, store-references b, store-leases b, ec, ea, e .n-is, e .m-is, e .index-is);
           offsets-are = rw (k, store-objects b, eo, e .n-is, l .targets, e .m-is);
           targets-are = rw (k, store-objects b, et, e .n-is, l .targets, e .m-is);
           sizes-are = rw (k, es, l .sizes, e .n-is);
+          starts-are = rw (k, ew, ea, e .n-is, e .m-is, e .index-is);
         }

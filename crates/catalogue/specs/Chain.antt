@@ -1,4 +1,5 @@
--- SPECIFICATION 3, of the catalogue alone: chains of its references from its index.
+-- SPECIFICATION 3, of the catalogue alone: chains of its references from any of a list of starts.
+use mathlib.Core.List.{List}
 use Prim.Native.Nat.{ℕ, _*_, _<_}
 use Rattle.laws.specs.Sum.{sum, hit}
 use Rattle.catalogue.specs.Store.{Store, Pair}
@@ -7,7 +8,7 @@ use Rattle.catalogue.specs.Store.{Store, Pair}
 abbrev pub leading : Store → ℕ → ℕ → ℕ
 leading s u v = sum (λ (p : Pair). hit u (p .from) * hit v (p .to)) (s .pairs)
 
--- a chain leads from the index to the object
-pub data Chain (s : Store) : ℕ → Type 0 where
-  begins : Chain s (s .index)
-  along : {u v : ℕ} → Chain s u → 0 < leading s u v → Chain s v
+-- a chain leads from one of the starts to the object
+pub data Chain (s : Store) (starts : List ℕ) : ℕ → Type 0 where
+  begins : {v : ℕ} → 0 < sum (hit v) starts → Chain s starts v
+  along : {u v : ℕ} → Chain s starts u → 0 < leading s u v → Chain s starts v

@@ -14,12 +14,18 @@ object = 2
 abbrev pub reference : ℕ
 reference = 3
 
--- the length of a header's record, and of an object's or a reference's
+abbrev pub lease : ℕ
+lease = 4
+
+-- the length of a header's record, of an object's or a reference's, and of a lease's
 abbrev pub header-length : ℕ
 header-length = 16
 
 abbrev pub record-length : ℕ
 record-length = 12
+
+abbrev pub lease-length : ℕ
+lease-length = 8
 
 -- a record is a length (2 bytes, the whole record counted), a kind (2 bytes) and contents
 abbrev pub recordOf : ℕ → ℕ → List ℕ → List ℕ
@@ -37,6 +43,12 @@ objectRecord size = recordOf record-length object (le 8 size)
 abbrev pub referenceRecord : Pair → List ℕ
 referenceRecord p = recordOf record-length reference (le 4 (p .from) ++ le 4 (p .to))
 
--- one header stands first, then n objects, numbered from 0, then m references, then nothing
+-- lease: the object (4)
+abbrev pub leaseRecord : ℕ → List ℕ
+leaseRecord v = recordOf lease-length lease (le 4 v)
+
+-- one header stands first, then n objects, numbered from 0, then m references, then the leases, and there it ends
 unfoldable pub layout : Store → List ℕ
-layout s = headerRecord s ++ (flatMap objectRecord (s .sizes) ++ flatMap referenceRecord (s .pairs))
+layout s =
+    headerRecord s
+    ++ (flatMap objectRecord (s .sizes) ++ (flatMap referenceRecord (s .pairs) ++ flatMap leaseRecord (s .leases)))

@@ -1,9 +1,9 @@
 -- SPECIFICATION 1: what a catalogue says, and the words that the reader makes of it.
-use mathlib.Core.List.{List, map}
-use Prim.Native.Nat.{ℕ, _≤_, _<_}
-use lib.ListN.{length}
+use mathlib.Core.List.{List, _∷_, _++_, map}
+use Prim.Native.Nat.{ℕ, _-_, _≤_, _<_}
+use lib.ListN.{length, replicate}
 use Rattle.laws.specs.Every.{Every}
-use Rattle.graph.specs.Limits.{most-objects, most-references, largest-size}
+use Rattle.graph.specs.Limits.{most-objects, most-references, most-starts, largest-size}
 use Rattle.laws.specs.Grouping.{grouped, starts}
 
 -- a reference leads from one object to another
@@ -11,11 +11,12 @@ pub record Pair : Type 0 where
   pub from : ℕ
   pub to : ℕ
 
--- the index object, the size of each object, and the references in catalogue order
+-- the index object, the size of each object, the references in catalogue order, and the objects with a lease
 pub record Store : Type 0 where
   pub index : ℕ
   pub sizes : List ℕ
   pub pairs : List Pair
+  pub leases : List ℕ
 
 -- n and m
 abbrev pub objects : Store → ℕ
@@ -29,6 +30,10 @@ pub record Ends (n : ℕ) (p : Pair) : Type 0 where
   pub from-below : p .from < n
   pub to-below : p .to < n
 
+-- the most leases
+abbrev pub most-leases : ℕ
+most-leases = 256
+
 -- n is 1 to 65,536, m is 0 to 1,048,576, a size is 0 to 1,099,511,627,776; every object number is below n
 pub record InRange (s : Store) : Type 0 where
   pub some : 1 ≤ objects s
@@ -37,6 +42,8 @@ pub record InRange (s : Store) : Type 0 where
   pub index-below : s .index < objects s
   pub sizes-small : Every (λ (x : ℕ). x ≤ largest-size) (s .sizes)
   pub ends-below : Every (Ends (objects s)) (s .pairs)
+  pub few-leases : length (s .leases) ≤ most-leases
+  pub leases-below : Every (λ (x : ℕ). x < objects s) (s .leases)
 
 -- the n + 1 offsets: offset v says where v's references begin among the targets
 abbrev pub offsetsOf : Store → List ℕ
@@ -45,3 +52,15 @@ offsetsOf s = starts (λ (p : Pair). p .from) (objects s) (s .pairs)
 -- the m targets: the references of object 0, of object 1, .., each object's in catalogue order
 abbrev pub targetsOf : Store → List ℕ
 targetsOf s = map (λ (p : Pair). p .to) (grouped (λ (p : Pair). p .from) (objects s) (s .pairs))
+
+-- the starts: the index, then the leases in catalogue order
+abbrev pub startsOf : Store → List ℕ
+startsOf s = s .index ∷ s .leases
+
+-- the words of the start buffer: the index and the most leases
+abbrev pub start-words : ℕ
+start-words = most-starts
+
+-- so many starts in the buffer, with zeros behind them
+abbrev pub padded : List ℕ → List ℕ
+padded starts = starts ++ replicate (start-words - length starts) 0

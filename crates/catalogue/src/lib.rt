@@ -5,18 +5,32 @@ mod record;
 ghost use mathlib.Core.Path.{_≡_};
 ghost use Prim.Native.Nat.{_≤_};
 ghost use Rattle.graph.specs.Limits.{most-objects};
-ghost use Rattle.catalogue.specs.Answer.{row, headerRow, misfits, Reads};
+ghost use Rattle.catalogue.specs.Answer.{row, foundRow, headerRow, misfits, Reads};
 ghost use Rattle.catalogue.specs.Acceptance.{Acceptance};
 use refusal::Refusal;
 use refusal::Verdict;
 
-// What a call answers: n, m and the index, or why it refuses.
+// The words of the start buffer: the index and the most leases.
+pub const STARTS: usize = graph::MOST_STARTS;
+
+// What the header call answers: n, m and the index, or why it refuses.
 pub enum Answer {
     Read { n: u32, m: u32, index: u32 },
     Refused(Refusal),
 }
 
-// The number of a refusal, 0 where the catalogue was read.
+// What the reader answers: the same, and how many starts there are.
+pub enum Found {
+    Read {
+        n: u32,
+        m: u32,
+        index: u32,
+        starts: u32,
+    },
+    Refused(Refusal),
+}
+
+// The number of a refusal, 0 where the header was read.
 pub fn refusal_of(answer: Answer) -> u8
     ensures { λ r. ⌜ r ≡ row answer .refusal ⌝ }
 {
@@ -27,6 +41,21 @@ pub fn refusal_of(answer: Answer) -> u8
             index: _,
         } => 0,
         Answer::Refused(refusal) => refusal::number_of(refusal),
+    }
+}
+
+// The same of the reader, 0 where the catalogue was read.
+pub fn fault_of(found: Found) -> u8
+    ensures { λ r. ⌜ r ≡ foundRow found .refusal ⌝ }
+{
+    match found {
+        Found::Read {
+            n: _,
+            m: _,
+            index: _,
+            starts: _,
+        } => 0,
+        Found::Refused(refusal) => refusal::number_of(refusal),
     }
 }
 
@@ -48,9 +77,9 @@ pub fn header(bytes: &[u8]) -> Answer
 }
 
 // Whether a lent length is not exactly the catalogue's.
-fn lent_wrong(n: u32, m: u32, offsets: usize, targets: usize, sizes: usize) -> bool
+fn lent_wrong(n: u32, m: u32, offsets: usize, targets: usize, sizes: usize, starts: usize) -> bool
     requires { ⌜ n ≤ most-objects ⌝ }
-    ensures { λ r. ⌜ r ≡ misfits n m offsets targets sizes ⌝ }
+    ensures { λ r. ⌜ r ≡ misfits n m offsets targets sizes starts ⌝ }
 {
     if offsets != n as usize + 1 {
         return true;
@@ -58,30 +87,50 @@ fn lent_wrong(n: u32, m: u32, offsets: usize, targets: usize, sizes: usize) -> b
     if targets != m as usize {
         return true;
     }
-    sizes != n as usize
+    if sizes != n as usize {
+        return true;
+    }
+    starts != STARTS
 }
 
 // Checks the whole catalogue, then the lent lengths, and then fills the buffers.
-pub fn read(bytes: &[u8], offsets: &mut [u32], targets: &mut [u32], sizes: &mut [u64]) -> Answer
+pub fn read(
+    bytes: &[u8],
+    offsets: &mut [u32],
+    targets: &mut [u32],
+    sizes: &mut [u64],
+    starts: &mut [u32],
+) -> Found
     ensures { λ r. ⌜
-        Reads (now (bytes .entry)) (now (offsets .entry)) (now (targets .entry)) (now (sizes .entry)) (row r)
-        (now (offsets .exit)) (now (targets .exit)) (now (sizes .exit)) ⌝ }
-    ensures { λ r. ⌜ Acceptance (now (bytes .entry)) (row r) (now (offsets .exit)) (now (targets .exit)) (now (sizes .exit)) ⌝ }
+        Reads (now (bytes .entry)) (now (offsets .entry)) (now (targets .entry)) (now (sizes .entry)) (now (starts .entry)) (foundRow r)
+        (now (offsets .exit)) (now (targets .exit)) (now (sizes .exit)) (now (starts .exit)) ⌝ }
+    ensures { λ r. ⌜ Acceptance (now (bytes .entry)) (foundRow r)
+        (now (offsets .exit)) (now (targets .exit)) (now (sizes .exit)) (now (starts .exit)) ⌝ }
 {
     if let Verdict::Faulty(refusal) = record::catalogue_fault(bytes) {
-        return Answer::Refused(refusal);
+        return Found::Refused(refusal);
     }
     let head = record::header_of(bytes);
     let n = head.n;
     let m = head.m;
-    if lent_wrong(n, m, offsets.len(), targets.len(), sizes.len()) {
-        return Answer::Refused(Refusal::Buffer);
+    let index = head.index;
+    if lent_wrong(
+        n,
+        m,
+        offsets.len(),
+        targets.len(),
+        sizes.len(),
+        starts.len(),
+    ) {
+        return Found::Refused(Refusal::Buffer);
     }
     fill::fill_sizes(bytes, sizes);
     fill::fill_graph(bytes, n, offsets, targets);
-    Answer::Read {
+    let count = fill::fill_starts(bytes, record::leases_place(n, m), index, starts);
+    Found::Read {
         n,
         m,
-        index: head.index,
+        index,
+        starts: count,
     }
 }

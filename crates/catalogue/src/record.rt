@@ -1,14 +1,16 @@
-// The checks 1 to 6 of SPECIFICATION 2, record by record.
+// The checks 1 to 6 and 13 of SPECIFICATION 2, record by record.
 ghost use mathlib.Core.Path.{_≡_};
 ghost use mathlib.Core.Bool.{true};
 ghost use Prim.Native.Nat.{_+_, _*_, _≤_};
 ghost use lib.ListN.{length, drop};
-ghost use Rattle.catalogue.specs.Reading.{kindOf, header-kind, object-kind, reference-kind, length-field, dueAt, dues};
-ghost use Rattle.catalogue.specs.Reading.{miscounted, misnamed, oversized, contentsFault, recordFault, surplusFault, faults, Clear, catalogueFault};
+ghost use Rattle.catalogue.specs.Reading.{kindOf, header-kind, object-kind, reference-kind, lease-kind, length-field, dueAt, dues, leases-at};
+ghost use Rattle.catalogue.specs.Reading.{misplaced, overfull, miscounted, misnamed, oversized, contentsFault, recordFault, surplusFault, leaseFaults, faults, Clear, catalogueFault};
+ghost use Rattle.catalogue.specs.Store.{most-leases};
 ghost use Rattle.refusal.specs.Order.{raise};
 ghost use Rattle.refusal.specs.Number.{numberOf};
 ghost use Rattle.graph.specs.Limits.{most-objects, most-references};
 ghost use Rattle.catalogue.specs.Answer.{Heads};
+ghost use Rattle.catalogue.specs.Fill.{Listed};
 use graph::LARGEST_SIZE;
 use graph::MOST_OBJECTS;
 use graph::MOST_REFERENCES;
@@ -27,10 +29,17 @@ const OBJECT: u16 = 2;
 
 const REFERENCE: u16 = 3;
 
-// The length of a header's record, and of an object's or a reference's.
+const LEASE: u16 = 4;
+
+// The most leases.
+const MOST_LEASES: u32 = 256;
+
+// The length of a header's record, of an object's or a reference's, and of a lease's.
 pub const HEADER_LENGTH: usize = 16;
 
 pub const RECORD_LENGTH: usize = 12;
+
+pub const LEASE_LENGTH: usize = 8;
 
 // The length and the kind of an object as one word, and of a reference.
 const OBJECT_HEAD: u32 = 131084;
@@ -67,25 +76,33 @@ pub fn catalogue_fault(bytes: &[u8]) -> Verdict
     records_fault(bytes, head.n, head.m)
 }
 
-// The first fault after the header, where n objects and then m references are due. Most catalogues
-// have none, so a quick look comes first.
+// Where the leases begin, behind n objects and m references.
+pub fn leases_place(n: u32, m: u32) -> usize
+    requires { ⌜ (n ≤ most-objects) × (m ≤ most-references) ⌝ }
+    ensures { λ r. ⌜ r ≡ leases-at n m ⌝ }
+{
+    HEADER_LENGTH + RECORD_LENGTH * (n as usize) + RECORD_LENGTH * (m as usize)
+}
+
+// The first fault after the header, where n objects and then m references are due, and then leases.
+// Most catalogues have none up to the leases, so a quick look comes first.
 fn records_fault(bytes: &[u8], n: u32, m: u32) -> Verdict
     requires { ⌜ (16 ≤ length (now bytes)) × ((n ≤ most-objects) × (m ≤ most-references)) ⌝ }
     ensures { λ r. ⌜ numberOf r ≡ faults n (dues n m) (drop 16 (now (bytes .entry))) ⌝ }
 {
     if records_right(bytes, n, m) {
-        return Verdict::Fine;
+        return leases_fault(bytes, leases_place(n, m), n);
     }
     first_fault(bytes, n, m)
 }
 
-// The quick look: true only where there is no fault after the header.
+// The quick look: true only where the n objects and the m references are there and have no fault.
 fn records_right(bytes: &[u8], n: u32, m: u32) -> bool
     requires { ⌜ (n ≤ most-objects) × (m ≤ most-references) ⌝ }
-    ensures { λ r. ⌜ (r ≡ true → faults n (dues n m) (drop 16 (now (bytes .entry))) ≡ 0) ⌝ }
+    ensures { λ r. ⌜ (r ≡ true → Listed n m (now (bytes .entry))) ⌝ }
 {
     let end = n as usize + m as usize;
-    if bytes.len() != HEADER_LENGTH + RECORD_LENGTH * end {
+    if bytes.len() < HEADER_LENGTH + RECORD_LENGTH * end {
         return false;
     }
     if !objects_right(bytes, n as usize) {
@@ -161,7 +178,7 @@ fn first_fault(bytes: &[u8], n: u32, m: u32) -> Verdict
         at += RECORD_LENGTH;
         i += 1;
     }
-    surplus_fault(bytes, at, n)
+    leases_fault(bytes, at, n)
 }
 
 // The kind of the record after the header with this number.
@@ -171,7 +188,27 @@ fn due_at(i: u32, n: u32) -> u16
     if i < n { OBJECT } else { REFERENCE }
 }
 
-// What still stands behind the last reference.
+// The leases, which go to the end of the bytes.
+fn leases_fault(bytes: &[u8], from: usize, n: u32) -> Verdict
+    requires { ⌜ from ≤ length (now bytes) ⌝ }
+    ensures { λ r. ⌜ numberOf r ≡ leaseFaults n most-leases (drop from (now (bytes .entry))) ⌝ }
+{
+    let mut at = from;
+    let mut left = MOST_LEASES;
+    while left > 0 {
+        if at == bytes.len() {
+            return Verdict::Fine;
+        }
+        if let Verdict::Faulty(refusal) = fault_at(bytes, at, LEASE, n) {
+            return Verdict::Faulty(refusal);
+        }
+        at += LEASE_LENGTH;
+        left -= 1;
+    }
+    surplus_fault(bytes, at, n)
+}
+
+// What still stands behind the most leases.
 fn surplus_fault(bytes: &[u8], at: usize, n: u32) -> Verdict
     requires { ⌜ at ≤ length (now bytes) ⌝ }
     ensures { λ r. ⌜ numberOf r ≡ surplusFault n (drop at (now (bytes .entry))) ⌝ }
@@ -238,7 +275,13 @@ fn kind_fault(bytes: &[u8], long: usize, kind: u16, due: u16, n: u32) -> Verdict
             }
             reference_fault(bytes, n)
         }
-        0 | 4..=65535 => Verdict::Faulty(Refusal::Kind),
+        LEASE => {
+            if long != LEASE_LENGTH {
+                return Verdict::Faulty(Refusal::Kind);
+            }
+            lease_fault(bytes, due, n)
+        }
+        0 | 5..=65535 => Verdict::Faulty(Refusal::Kind),
     }
 }
 
@@ -284,6 +327,25 @@ fn reference_fault(bytes: &[u8], n: u32) -> Verdict
         return Verdict::Faulty(Refusal::Object);
     }
     if word4(bytes, 8) >= n {
+        return Verdict::Faulty(Refusal::Object);
+    }
+    Verdict::Fine
+}
+
+// 3, 13 and 5 of a lease. Behind the most leases one more is too many, and not out of its place.
+fn lease_fault(bytes: &[u8], due: u16, n: u32) -> Verdict
+    requires { ⌜ 8 ≤ length (now bytes) ⌝ }
+    ensures { λ r. ⌜ numberOf r ≡ raise (misplaced due lease-kind) 3
+        (raise (overfull due lease-kind) 13 (raise (misnamed lease-kind n (now (bytes .entry))) 5 0)) ⌝ }
+{
+    if due == NOTHING {
+        return Verdict::Faulty(Refusal::Starts);
+    }
+    if due != LEASE {
+        return Verdict::Faulty(Refusal::Place);
+    }
+    let object = word4(bytes, 4);
+    if object >= n {
         return Verdict::Faulty(Refusal::Object);
     }
     Verdict::Fine

@@ -8,7 +8,7 @@ use lib.ListN.{length}
 use lib.Dec.{eqb}
 use Rattle.laws.specs.Choice.{pick}
 use Rattle.graph.specs.Graph.{graph, partStart, partLength}
-use Rattle.catalogue.specs.Answer.{Row, headerRow, taken, readRow, offsetsAfter, targetsAfter, sizesAfter}
+use Rattle.catalogue.specs.Answer.{Row, ReadRow, headerRow, taken, readRow, offsetsAfter, targetsAfter, sizesAfter, startsAfter}
 use Rattle.catalogue.specs.Reading.{Reading, refused}
 use Rattle.machine.specs.declared.Counts.{Counts}
 use Rattle.machine.specs.Row.{Row as MarkRow, counts-number, countWords}
@@ -32,22 +32,27 @@ headerAnswer bytes result = answerIn 3 result (headerRow bytes .refusal)
 abbrev pub headerWords : Row → List ℕ
 headerWords r = r .n ∷ r .m ∷ r .index ∷ []
 
--- ---- read: n, m, index
+-- ---- read: n, m, index, starts
+
+abbrev pub readWords : ReadRow → List ℕ
+readWords r = r .n ∷ r .m ∷ r .index ∷ r .starts ∷ []
 
 -- what the reader makes of the bytes; no reading where the result words are too few or too many
-abbrev pub readIn : List ℕ → List ℕ → List ℕ → List ℕ → List ℕ → Reading
-readIn bytes offsets targets sizes result = pick (eqb (length result) 3) (taken bytes offsets targets sizes) (refused 7)
+abbrev pub readIn : List ℕ → List ℕ → List ℕ → List ℕ → List ℕ → List ℕ → Reading
+readIn bytes offsets targets sizes starts result =
+    pick (eqb (length result) 4) (taken bytes offsets targets sizes starts) (refused 7)
 
 -- the number answered and every lent word afterwards, by that reading
-pub record ReadsIn (bytes offsets targets sizes result offsets′ targets′ sizes′ result′ : List ℕ) (answer : ℕ) : Type 0 where
-  pub answers : answer ≡ readRow (readIn bytes offsets targets sizes result) .refusal
-  pub fills-offsets : offsets′ ≡ offsetsAfter (readIn bytes offsets targets sizes result) offsets
-  pub fills-targets : targets′ ≡ targetsAfter (readIn bytes offsets targets sizes result) targets
-  pub fills-sizes : sizes′ ≡ sizesAfter (readIn bytes offsets targets sizes result) sizes
+pub record ReadsIn (bytes offsets targets sizes starts result offsets′ targets′ sizes′ starts′ result′ : List ℕ) (answer : ℕ) : Type 0 where
+  pub answers : answer ≡ readRow (readIn bytes offsets targets sizes starts result) .refusal
+  pub fills-offsets : offsets′ ≡ offsetsAfter (readIn bytes offsets targets sizes starts result) offsets
+  pub fills-targets : targets′ ≡ targetsAfter (readIn bytes offsets targets sizes starts result) targets
+  pub fills-sizes : sizes′ ≡ sizesAfter (readIn bytes offsets targets sizes starts result) sizes
+  pub fills-starts : starts′ ≡ startsAfter (readIn bytes offsets targets sizes starts result) starts
   pub fills-result :
       result′
-      ≡ wordsFor (readRow (readIn bytes offsets targets sizes result) .refusal)
-      (headerWords (readRow (readIn bytes offsets targets sizes result)))
+      ≡ wordsFor (readRow (readIn bytes offsets targets sizes starts result) .refusal)
+      (readWords (readRow (readIn bytes offsets targets sizes starts result)))
       result
 
 -- ---- references: start, length

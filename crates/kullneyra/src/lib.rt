@@ -1,20 +1,34 @@
 // The calls of the library as C functions. Each answers a number, 0 for no fault, and writes its
 // results to lent words; runtime/include/kullneyra.h says which word is which.
 use catalogue::Answer;
+use catalogue::Found;
 use machine::COUNTS;
 use machine::Counts;
 use marker::Marked;
 use sweep::Swept;
 ghost use mathlib.Core.Path.{_≡_};
+ghost use mathlib.Core.List.{[], _∷_};
+ghost use Prim.Native.Nat.{_≤_};
 ghost use lib.ListN.{length};
-ghost use Rattle.catalogue.specs.Answer.{row, headerRow};
+ghost use lib.Seq.{sets};
+ghost use Rattle.catalogue.specs.Answer.{row, foundRow, headerRow};
 ghost use Rattle.marker.specs.Answer.{callOf, row as markRow};
-ghost use Rattle.kullneyra.specs.Calls.{ReadsIn, headerAnswer, headerWords, wordsFor, partAnswer, partWords, sweepAnswer, sweepWords, sweepList, mark-words, resultWords, markWords, MarksIn};
+ghost use Rattle.kullneyra.specs.Calls.{ReadsIn, headerAnswer, headerWords, readWords, wordsFor, partAnswer, partWords, sweepAnswer, sweepWords, sweepList, mark-words, resultWords, markWords, MarksIn};
 
 // Result words of the marker: finished, and the counts.
 const MARK_WORDS: usize = 1 + COUNTS;
 
-// An answer of the catalogue: its number, and n, m and the index in the result words.
+// The first three result words of the catalogue's calls.
+fn give_head(n: u32, m: u32, index: u32, result: &mut [u32])
+    requires { ⌜ 3 ≤ length (now result) ⌝ }
+    ensures { λ _. ⌜ now (result .exit) ≡ sets (now (result .entry)) 0 (n ∷ m ∷ index ∷ []) ⌝ }
+{
+    result[0] = n;
+    result[1] = m;
+    result[2] = index;
+}
+
+// An answer of the header call: its number, and n, m and the index in the result words.
 fn give(answer: Answer, result: &mut [u32]) -> u32
     requires { ⌜ length (now result) ≡ 3 ⌝ }
     ensures { λ r. ⌜ r ≡ row answer .refusal ⌝ }
@@ -22,12 +36,31 @@ fn give(answer: Answer, result: &mut [u32]) -> u32
 {
     match answer {
         Answer::Read { n, m, index } => {
-            result[0] = n;
-            result[1] = m;
-            result[2] = index;
+            give_head(n, m, index, result);
             0
         }
         Answer::Refused(refusal) => refusal::number_of(refusal) as u32,
+    }
+}
+
+// An answer of the reader: the same, and how many starts there are.
+fn give_found(found: Found, result: &mut [u32]) -> u32
+    requires { ⌜ length (now result) ≡ 4 ⌝ }
+    ensures { λ r. ⌜ r ≡ foundRow found .refusal ⌝ }
+    ensures { λ r. ⌜ now (result .exit) ≡ wordsFor (foundRow found .refusal) (readWords (foundRow found)) (now (result .entry)) ⌝ }
+{
+    match found {
+        Found::Read {
+            n,
+            m,
+            index,
+            starts,
+        } => {
+            give_head(n, m, index, result);
+            result[3] = starts;
+            0
+        }
+        Found::Refused(refusal) => refusal::number_of(refusal) as u32,
     }
 }
 
@@ -43,21 +76,25 @@ pub extern "C" fn kullneyra_header(bytes: &[u8], result: &mut [u32]) -> u32
     give(catalogue::header(bytes), result)
 }
 
-// The reader; result words: n, m, index.
+// The reader; result words: n, m, index, starts.
 #[no_mangle]
 pub extern "C" fn kullneyra_read(
     bytes: &[u8],
     offsets: &mut [u32],
     targets: &mut [u32],
     sizes: &mut [u64],
+    starts: &mut [u32],
     result: &mut [u32],
 ) -> u32
-    ensures { λ r. ⌜ ReadsIn (now (bytes .entry)) (now (offsets .entry)) (now (targets .entry)) (now (sizes .entry)) (now (result .entry)) (now (offsets .exit)) (now (targets .exit)) (now (sizes .exit)) (now (result .exit)) r ⌝ }
+    ensures { λ r. ⌜ ReadsIn (now (bytes .entry)) (now (offsets .entry)) (now (targets .entry)) (now (sizes .entry)) (now (starts .entry)) (now (result .entry)) (now (offsets .exit)) (now (targets .exit)) (now (sizes .exit)) (now (starts .exit)) (now (result .exit)) r ⌝ }
 {
-    if result.len() != 3 {
+    if result.len() != 4 {
         return 7;
     }
-    give(catalogue::read(bytes, offsets, targets, sizes), result)
+    give_found(
+        catalogue::read(bytes, offsets, targets, sizes, starts),
+        result,
+    )
 }
 
 // The view, as where the part starts and how long it is; result words: start, length.

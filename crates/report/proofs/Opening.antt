@@ -48,8 +48,8 @@ told : {n m i : ℕ} (b : List ℕ) → row (Read n m i) ≡ headerRow b → (n 
 unfolding headerRow storeOf
 told b e =
     let f = fields (recordFault header (n-field b) b) b e in (
-      f .0 ∙ sym (length-records size-field (n-field b) (drop header-length b)),
-      f .1 ∙ sym (length-records pair-field (m-field b) (drop (header-length + record-length * n-field b) b)),
+      f .0 ∙ sym (length-records record-length size-field (n-field b) (drop header-length b)),
+      f .1 ∙ sym (length-records record-length pair-field (m-field b) (drop (header-length + record-length * n-field b) b)),
     )
 
 module _ (f : Files) where

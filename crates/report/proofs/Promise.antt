@@ -60,11 +60,11 @@ module _ (b : List ℕ) (clear : catalogueFault b ≡ 0) (o : Order) (schedule :
 
   -- the dead are the objects to which no chain of the catalogue leads
   dead-are : result (final call) .finished ≡ true
-      → (v : ℕ) → (0 < sum (hit v) (dead (final call .marks))) ↔ ((v < objects s) × (Chain s v → ⊥))
+      → (v : ℕ) → (0 < sum (hit v) (dead (final call .marks))) ↔ ((v < objects s) × (Chain s (s .index ∷ []) v → ⊥))
   dead-are e v =
       let d = dead-exactly (finished-marks e) v in
       let n = read-graph s range .n-is in
-      let c = chain-is-reach s range v in (
+      let c = chain-is-reach s range (s .index ∷ []) (range .index-below, tt) v in (
         λ h. (let i = d .0 h .0 in omega arith, λ q. d .0 h .1 (c .0 q)),
         λ p. d .1 (let i = p .0 in omega arith, λ q. p .1 (c .1 q)),
       )

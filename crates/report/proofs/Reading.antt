@@ -13,12 +13,12 @@ use Rattle.refusal.specs.Number.{number}
 use Rattle.refusal.proofs.Numbers.{numbered, first-found}
 use Rattle.graph.specs.Graph.{objects as graph-objects, allBelow}
 use Rattle.graph.specs.Limits.{most-objects, most-references, largest-size}
-use Rattle.catalogue.specs.declared.Answer.{Answer}
-use Rattle.catalogue.specs.declared.Answer.the-variants.{Read, Refused}
-use Rattle.catalogue.specs.Store.{Store, InRange, objects, references, offsetsOf, targetsOf}
+use Rattle.catalogue.specs.declared.Found.{Found}
+use Rattle.catalogue.specs.declared.Found.the-variants.{Read, Refused}
+use Rattle.catalogue.specs.Store.{Store, InRange, objects, references, offsetsOf, targetsOf, start-words}
 use Rattle.catalogue.specs.Reading.{Reading, accepted, judged, reading, catalogueFault, storeOf}
 use Rattle.catalogue.specs.ReadGraph.{ReadGraph, readGraph}
-use Rattle.catalogue.specs.Answer.{Row, row, refusal-row, lent, taken, readRow, offsetsAfter, targetsAfter, sizesAfter, Reads}
+use Rattle.catalogue.specs.Answer.{ReadRow, foundRow, unread, lent, taken, readRow, offsetsAfter, targetsAfter, sizesAfter, Reads}
 use Rattle.catalogue.proofs.Accepted.{whole-bytes, whole-range}
 use Rattle.catalogue.proofs.ReadGraph.{read-graph}
 use Rattle.sweep.specs.Sweep.{allFit}
@@ -54,42 +54,43 @@ passing b z =
     }
 
 -- rows of a reading
-row-refused : (k f : ℕ) (s : Store) → 0 < k → refusal-row k ≡ readRow (judged f s) → k ≡ f
-row-refused k zero s h e = let z = ap (λ (r : Row). r .refusal) e in absurd (omega arith)
-row-refused k (suc f) s h e = ap (λ (r : Row). r .refusal) e
+row-refused : (k f : ℕ) (s : Store) → 0 < k → unread k ≡ readRow (judged f s) → k ≡ f
+row-refused k zero s h e = let z = ap (λ (r : ReadRow). r .refusal) e in absurd (omega arith)
+row-refused k (suc f) s h e = ap (λ (r : ReadRow). r .refusal) e
 
-row-read : {n m i : ℕ} (f : ℕ) (s : Store) → row (Read n m i) ≡ readRow (judged f s) → (f ≡ 0) × (i ≡ s .index)
-row-read zero s e = (refl, ap (λ (x : Row). x .index) e)
-row-read (suc f) s e = let q = ap (λ (x : Row). x .refusal) e in absurd (omega arith)
+row-read : {n m i c : ℕ} (f : ℕ) (s : Store) → foundRow (Read n m i c) ≡ readRow (judged f s) → (f ≡ 0) × (i ≡ s .index)
+row-read zero s e = (refl, ap (λ (x : ReadRow). x .index) e)
+row-read (suc f) s e = let q = ap (λ (x : ReadRow). x .refusal) e in absurd (omega arith)
 
-module _ {b order o t s : List ℕ} {l : Lent} (ready : Readable b order o t s l) where
-  taken-by : (k : ℕ) → lent (judged k (storeOf b)) (length o) (length t) (length s) ≡ judged k (storeOf b)
+module _ {b order o t s w : List ℕ} {l : Lent} (ready : Readable b order o t s w l) where
+  taken-by : (k : ℕ) → lent (judged k (storeOf b)) (length o) (length t) (length s) (length w) ≡ judged k (storeOf b)
   taken-by zero =
       rw (
         eq-eqb (length o) (objects (storeOf b) + 1) (ready .all-offsets),
         eq-eqb (length t) (references (storeOf b)) (ready .all-targets),
         eq-eqb (length s) (objects (storeOf b)) (ready .all-sizes),
+        eq-eqb (length w) start-words (ready .all-starts),
       )
   taken-by (suc k) = refl
 
   -- no other fault than the catalogue's own
-  taken-is : taken b o t s ≡ judged (catalogueFault b) (storeOf b)
+  taken-is : taken b o t s w ≡ judged (catalogueFault b) (storeOf b)
   unfolding reading
   taken-is = taken-by (catalogueFault b)
 
-  module _ {a : Answer} {o′ t′ s′ : List ℕ} (d : Reads b o t s (row a) o′ t′ s′) where
-    pub due-catalogue : {v : ℕ} {r : Refusal} → a ≡ Refused r → v ≡ row a .refusal → refusalLine v ≡ laterText b order
+  module _ {a : Found} {o′ t′ s′ w′ : List ℕ} (d : Reads b o t s w (foundRow a) o′ t′ s′ w′) where
+    pub due-catalogue : {v : ℕ} {r : Refusal} → a ≡ Refused r → v ≡ foundRow a .refusal → refusalLine v ≡ laterText b order
     due-catalogue {r = r} e h =
-        let f = row-refused (number r) _ (storeOf b) (numbered r) (ap row (sym e) ∙ d .returned ∙ ap readRow taken-is) in
+        let f = row-refused (number r) _ (storeOf b) (numbered r) (ap foundRow (sym e) ∙ d .returned ∙ ap readRow taken-is) in
         printed-refusal (contentsOf (storeOf b)) (orderOf order) (scheduleOf order) r
-        (h ∙ ap (λ (x : Answer). row x .refusal) e)
+        (h ∙ ap (λ (x : Found). foundRow x .refusal) e)
         (first-found r (catalogueFault b) _ f)
 
-    module _ {n m i : ℕ} (e : a ≡ Read n m i) where
+    module _ {n m i c : ℕ} (e : a ≡ Read n m i c) where
       clean : (catalogueFault b ≡ 0) × (i ≡ storeOf b .index)
-      clean = row-read (catalogueFault b) (storeOf b) (ap row (sym e) ∙ d .returned ∙ ap readRow taken-is)
+      clean = row-read (catalogueFault b) (storeOf b) (ap foundRow (sym e) ∙ d .returned ∙ ap readRow taken-is)
 
-      whole : taken b o t s ≡ accepted (storeOf b)
+      whole : taken b o t s w ≡ accepted (storeOf b)
       whole = taken-is ∙ ap (λ (k : ℕ). judged k (storeOf b)) (clean .0)
 
       same : contents o′ t′ s′ (i ∷ []) ≡ contentsOf (storeOf b)

@@ -10,7 +10,7 @@ use Rattle.laws.specs.Grouping.{starts, below, under, grouped, part}
 use Rattle.graph.specs.Chain.{marksAt}
 use Rattle.catalogue.specs.Examples.{bytesOfS}
 use Rattle.catalogue.specs.Answer.{headerRow}
-use Rattle.catalogue.specs.Reading.{catalogueFault, faults, recordFault, storeOf, records}
+use Rattle.catalogue.specs.Reading.{catalogueFault, faults, leaseFaults, recordFault, storeOf, records}
 use Rattle.machine.specs.Drawings.{turnsA, naming0}
 use Rattle.machine.specs.Run.{carried, keep, rest}
 use Rattle.machine.specs.Machine.{turns, start, startRuns, entries, allEnded, live}
@@ -42,5 +42,5 @@ pub listings :
     ∷ codes "refusal 9\n"
     ∷ codes "refusal 1\n"
     ∷ []
-unfolding turnsA naming0 word sum hit starts below under grouped part marksAt headerRow catalogueFault faults recordFault storeOf records turns start startRuns entries allEnded live carried keep rest scheduleFits deadFrom sizesOf digitsIn decimal countLines deadLines
+unfolding turnsA naming0 word sum hit starts below under grouped part marksAt headerRow catalogueFault faults leaseFaults recordFault storeOf records turns start startRuns entries allEnded live carried keep rest scheduleFits deadFrom sizesOf digitsIn decimal countLines deadLines
 listings = refl

@@ -2,7 +2,7 @@
 -- the catalogue's own references leads from its index. It is in the contract of `report::answer`, for any two files.
 use mathlib.Core.Path.{_≡_}
 use mathlib.Core.Bool.{true, false}
-use mathlib.Core.List.{List, _++_}
+use mathlib.Core.List.{List, [], _∷_, _++_}
 use mathlib.Core.Logic.{_⊎_, _↔_}
 use Prim.Native.Nat.{ℕ, _<_}
 use Rattle.laws.specs.Sum.{sum, hit}
@@ -20,7 +20,7 @@ pub record FinishedText (s : Store) (text : List ℕ) : Type 0 where
   pub counts : Counts
   pub numbers : List ℕ
   pub upwards : UpwardsFrom 0 numbers
-  pub exactly : (v : ℕ) → (0 < sum (hit v) numbers) ↔ ((v < objects s) × (Chain s v → ⊥))
+  pub exactly : (v : ℕ) → (0 < sum (hit v) numbers) ↔ ((v < objects s) × (Chain s (s .index ∷ []) v → ⊥))
   pub lines-are : text ≡ countLines true counts ++ (deadLines (s .sizes) numbers ++ freedLine (sizesOf (s .sizes) numbers))
 
 -- an unfinished one: the counts and nothing more

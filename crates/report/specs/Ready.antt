@@ -5,7 +5,7 @@ use mathlib.Core.List.{List, _++_}
 use Prim.Native.Nat.{ℕ, _+_, _*_, _≤_, _<_}
 use lib.ListN.{length, getD, drop}
 use Rattle.graph.specs.Graph.{graph, objects as graph-objects}
-use Rattle.catalogue.specs.Store.{objects, references}
+use Rattle.catalogue.specs.Store.{objects, references, start-words}
 use Rattle.catalogue.specs.Reading.{storeOf}
 use Rattle.machine.specs.Machine.{stretchLength}
 use Rattle.machine.specs.Call.{settingFault, countFault, graphFault, startsFault, objectFault}
@@ -70,10 +70,11 @@ pub record Orderly (s : Contents) (order : List ℕ) (l : Lent) : Type 0 where
   pub much-work : work-room ≤ length (l .work)
 
 -- buffers of exactly the lengths of the store that the bytes tell, if they tell one
-pub record Readable (store order offsets targets sizes : List ℕ) (l : Lent) : Type 0 where
+pub record Readable (store order offsets targets sizes starts : List ℕ) (l : Lent) : Type 0 where
   pub all-offsets : length offsets ≡ objects (storeOf store) + 1
   pub all-targets : length targets ≡ references (storeOf store)
   pub all-sizes : length sizes ≡ objects (storeOf store)
+  pub all-starts : length starts ≡ start-words
   pub fitting : Fitting sizes (l .marks) (l .list) (l .out)
   pub whole-order : order-length ≤ length order
   pub much-work : work-room ≤ length (l .work)

@@ -1,6 +1,7 @@
 // The program's own memory, cut to the store's lengths.
 use crate::limits;
 use crate::store;
+use catalogue::STARTS;
 ghost use Rattle.text.specs.Text.{Put};
 ghost use Rattle.report.specs.Report.{laterText};
 ghost use Rattle.report.specs.Ready.{Holding};
@@ -13,6 +14,7 @@ pub fn put_in_buffers(store: &[u8], order: &[u8], n: usize, m: usize, out: &mut 
     let mut offsets = [0u32; limits::MOST_OBJECTS + 1];
     let mut targets = [0u32; limits::MOST_REFERENCES];
     let mut sizes = [0u64; limits::MOST_OBJECTS];
+    let mut starts = [0u32; STARTS];
     let mut marks = [0u8; limits::MOST_OBJECTS];
     let mut work = [0u32; limits::WORK_ROOM];
     let mut list = [0u32; limits::MOST_OBJECTS];
@@ -23,6 +25,7 @@ pub fn put_in_buffers(store: &[u8], order: &[u8], n: usize, m: usize, out: &mut 
         &mut offsets[..end],
         &mut targets[..m],
         &mut sizes[..n],
+        &mut starts,
         &mut marks[..n],
         &mut work,
         &mut list[..n],

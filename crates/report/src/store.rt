@@ -3,7 +3,7 @@ use crate::collection;
 use crate::limits::ORDER_LENGTH;
 use crate::lines;
 use crate::order;
-use catalogue::Answer;
+use catalogue::Found;
 use refusal::Verdict;
 ghost use Rattle.text.specs.Text.{Put};
 ghost use Rattle.report.specs.Report.{contents, orderText, laterText};
@@ -53,17 +53,24 @@ pub fn put_store(
     offsets: &mut [u32],
     targets: &mut [u32],
     sizes: &mut [u64],
+    starts: &mut [u32],
     marks: &mut [u8],
     work: &mut [u32],
     list: &mut [u32],
     out: &mut [u8],
 ) -> usize
-    requires { ⌜ Readable (now store) (now order) (now offsets) (now targets) (now sizes) (lent (now marks) (now work) (now list) (now out)) ⌝ }
+    requires { ⌜ Readable (now store) (now order) (now offsets) (now targets) (now sizes) (now starts) (lent (now marks) (now work) (now list) (now out)) ⌝ }
     ensures { λ r. ⌜ Put (now (out .entry)) 0 (laterText (now (store .entry)) (now (order .entry))) (now (out .exit)) r ⌝ }
 {
-    let found = catalogue::read(store, offsets, targets, sizes);
-    let Answer::Read { n: _, m: _, index } = found else {
-        return lines::put_refusal(out, 0, catalogue::refusal_of(found));
+    let found = catalogue::read(store, offsets, targets, sizes, starts);
+    let Found::Read {
+        n: _,
+        m: _,
+        index,
+        starts: _,
+    } = found
+    else {
+        return lines::put_refusal(out, 0, catalogue::fault_of(found));
     };
     let starts = [index];
     put_ordered(

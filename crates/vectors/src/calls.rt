@@ -81,27 +81,36 @@ fn copy_longs(cells: &[u64], places: &[usize; 512], list: u8, to: &mut [u64]) ->
 }
 
 fn read(cells: &[u64], places: &[usize; 512]) {
-    let mut bytes = [0u8; 512];
+    let mut bytes = [0u8; 2560];
     let mut offsets = [0u32; 64];
     let mut targets = [0u32; 64];
     let mut sizes = [0u64; 64];
+    let mut starts = [0u32; 264];
     let b = copy_bytes(cells, places, 0, &mut bytes);
     let o = copy_words(cells, places, 1, &mut offsets);
     let t = copy_words(cells, places, 2, &mut targets);
     let s = copy_longs(cells, places, 3, &mut sizes);
+    let w = copy_words(cells, places, 4, &mut starts);
     read_into(
         &bytes[..b],
         &mut offsets[..o],
         &mut targets[..t],
         &mut sizes[..s],
+        &mut starts[..w],
     );
 }
 
-fn read_into(bytes: &[u8], offsets: &mut [u32], targets: &mut [u32], sizes: &mut [u64]) {
+fn read_into(
+    bytes: &[u8],
+    offsets: &mut [u32],
+    targets: &mut [u32],
+    sizes: &mut [u64],
+    starts: &mut [u32],
+) {
     show::answer(catalogue::header(bytes));
     io::write_all(1, b" |");
-    show::answer(catalogue::read(bytes, offsets, targets, sizes));
-    show::store(offsets, targets, sizes);
+    show::found(catalogue::read(bytes, offsets, targets, sizes, starts));
+    show::store(offsets, targets, sizes, starts);
 }
 
 fn view(cells: &[u64], places: &[usize; 512]) {

@@ -1,6 +1,7 @@
 // What a call answers and leaves, as text.
 use crate::scan;
 use catalogue::Answer;
+use catalogue::Found;
 use machine::COUNTS;
 use machine::Counts;
 use marker::Marked;
@@ -25,6 +26,23 @@ pub fn answer(a: Answer) {
             number(index as u64);
         }
         Answer::Refused(r) => refused(r),
+    }
+}
+
+pub fn found(f: Found) {
+    match f {
+        Found::Read {
+            n,
+            m,
+            index,
+            starts,
+        } => {
+            number(n as u64);
+            number(m as u64);
+            number(index as u64);
+            number(starts as u64);
+        }
+        Found::Refused(r) => refused(r),
     }
 }
 
@@ -133,10 +151,11 @@ fn longs(numbers: &[u64]) {
     list(&[], &[], numbers, numbers.len());
 }
 
-pub fn store(offsets: &[u32], targets: &[u32], sizes: &[u64]) {
+pub fn store(offsets: &[u32], targets: &[u32], sizes: &[u64], starts: &[u32]) {
     words(offsets);
     words(targets);
     longs(sizes);
+    words(starts);
 }
 
 pub fn memory(marks: &[u8], work: &[u32]) {

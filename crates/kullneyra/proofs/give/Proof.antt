@@ -1,4 +1,5 @@
--- By the answer: the three words are written one by one (`sets-all`), or a refusal writes none of them (`kept`).
+-- By the answer: the three words are written (`sets-all`), or a refusal writes none of them (`kept`).
+use mathlib.Core.Path.{_∙_}
 use mathlib.Core.List.{[], _∷_}
 use Rattle.laws.proofs.Stores.{sets-all}
 use Rattle.kullneyra.proofs.Results.{kept}
@@ -8,10 +9,12 @@ use Rattle.kullneyra.proofs.give.Tie as tie
 
 returns : tie.Need-returns
 returns c =
-    let at-answer = c .before in
+    let at-head = c .before .before in
+    let at-answer = at-head .before .before .before in
     let start = at-answer .before .before .before in
     let v = at-answer .answer .given in
-    (rw (v .1), rw (v .1) (sets-all (v .0 .0 ∷ v .0 .1 .0 ∷ v .0 .1 .1 .0 ∷ []) (start .args .result .now) (start .pre)))
+    let all = sets-all (v .0 .0 ∷ v .0 .1 .0 ∷ v .0 .1 .1 .0 ∷ []) (start .args .result .now) (start .pre) in
+    (rw (v .1), rw (v .1) (at-head .give-head .ensures ∙ all))
 
 returns-2 : tie.Need-returns-2
 returns-2 c =
@@ -23,5 +26,5 @@ returns-2 c =
 pub give-spec : {M : Type 1} → statement M
 give-spec =
     tie.close
-    (tie.spec (λ c. search needs) (λ c. search needs) (λ c. search needs) (λ c. search needs) (λ c. search needs)
-    (λ c κs. search needs) (λ c. search needs) (λ c. search needs) returns returns-2)
+    (tie.spec (λ c. search needs) (λ c κs. search needs) (λ c. search needs) (λ c κs. search needs) (λ c. search needs)
+    (λ c. search needs) returns returns-2)

@@ -11,6 +11,7 @@ pub struct Buffers {
     offsets: Vec<u32>,
     targets: Vec<u32>,
     sizes: Vec<u64>,
+    starts: Vec<u32>,
     marks: Vec<u8>,
     work: Vec<u32>,
     list: Vec<u32>,
@@ -27,6 +28,7 @@ impl Buffers {
             offsets: vec![1; n + 1],
             targets: vec![1; m],
             sizes: vec![1; n],
+            starts: vec![1; kullneyra::STARTS],
             marks: vec![1; n],
             work: vec![1; work],
             list: vec![1; n],
@@ -56,13 +58,16 @@ impl Times {
 /// The reader on the whole catalogue.
 pub fn read(graph: &Graph, repetitions: usize) -> Times {
     let proved = |b: &mut Buffers| {
-        black_box(kullneyra::read(&graph.catalogue, &mut b.offsets, &mut b.targets, &mut b.sizes)).expect("a store");
+        let Buffers { offsets, targets, sizes, starts, .. } = b;
+        black_box(kullneyra::read(&graph.catalogue, offsets, targets, sizes, starts)).expect("a store");
     };
     let reference = |b: &mut Buffers| {
-        black_box(reference::read(&graph.catalogue, &mut b.offsets, &mut b.targets, &mut b.sizes)).expect("a store");
+        let Buffers { offsets, targets, sizes, starts, .. } = b;
+        black_box(reference::read(&graph.catalogue, offsets, targets, sizes, starts)).expect("a store");
     };
     let tuned = |b: &mut Buffers| {
-        black_box(tuned::read(&graph.catalogue, &mut b.offsets, &mut b.targets, &mut b.sizes)).expect("a store");
+        let Buffers { offsets, targets, sizes, starts, .. } = b;
+        black_box(tuned::read(&graph.catalogue, offsets, targets, sizes, starts)).expect("a store");
     };
     let mut buffers = Buffers::new(graph, 0);
     Times::of(&medians(&mut buffers, repetitions, [&proved, &reference, &tuned]))

@@ -58,7 +58,8 @@ impl Graph {
 
         let mut graph = Graph { name, offsets: vec![0; n + 1], targets: vec![0; pairs.len()], sizes, catalogue };
         let mut sizes = vec![0; n];
-        reference::read(&graph.catalogue, &mut graph.offsets, &mut graph.targets, &mut sizes).expect("a store");
+        let (offsets, targets) = (&mut graph.offsets, &mut graph.targets);
+        reference::read(&graph.catalogue, offsets, targets, &mut sizes, &mut [0; reference::STARTS]).expect("a store");
         graph
     }
 

@@ -6,7 +6,7 @@ use std::fmt;
 #[derive(Clone, Debug, PartialEq, Eq)]
 pub enum Call {
     Header { bytes: Vec<u8> },
-    Read { bytes: Vec<u8>, offsets: usize, targets: usize, sizes: usize },
+    Read { bytes: Vec<u8>, offsets: usize, targets: usize, sizes: usize, starts: usize },
     References { offsets: Vec<u32>, targets: Vec<u32>, object: u32 },
     Mark(Mark),
     Sweep { marks: Vec<u8>, sizes: Vec<u64>, list: usize },
@@ -69,13 +69,13 @@ impl Call {
 
     /// The right length of the result buffer.
     pub fn result_words(&self) -> usize {
-        [3, 3, 2, reference::Outcome::WORDS, 2][self.place()]
+        [3, 4, 2, reference::Outcome::WORDS, 2][self.place()]
     }
 
     /// The answers that the specification has for this call.
     pub fn answers(place: usize) -> &'static [u32] {
         const ANSWERS: [&[u32]; 5] =
-            [&[0, 1, 2, 3, 4, 5, 7], &[0, 1, 2, 3, 4, 5, 6, 7], &[0, 7], &[0, 4, 5, 7, 8, 9, 10, 13], &[0, 4, 6, 7]];
+            [&[0, 1, 2, 3, 4, 5, 7], &[0, 1, 2, 3, 4, 5, 6, 7, 13], &[0, 7], &[0, 4, 5, 7, 8, 9, 10, 13], &[0, 4, 6, 7]];
         ANSWERS[place]
     }
 }
@@ -138,9 +138,9 @@ impl fmt::Display for Case {
         writeln!(f, "call {}", Call::NAMES[self.call.place()])?;
         match &self.call {
             Call::Header { bytes } => catalogue(f, bytes)?,
-            Call::Read { bytes, offsets, targets, sizes } => {
+            Call::Read { bytes, offsets, targets, sizes, starts } => {
                 catalogue(f, bytes)?;
-                writeln!(f, "  lengths: offsets {offsets}, targets {targets}, sizes {sizes}")?;
+                writeln!(f, "  lengths: offsets {offsets}, targets {targets}, sizes {sizes}, starts {starts}")?;
             }
             Call::References { offsets, targets, object } => {
                 list(f, "offsets", offsets)?;

@@ -3,7 +3,7 @@
 use crate::case::Mark;
 use crate::rng::Rng;
 use crate::store::Record;
-use reference::{LARGEST_SIZE, MOST_OBJECTS, MOST_REFERENCES, MOST_STARTS};
+use reference::{LARGEST_SIZE, MOST_OBJECTS, MOST_REFERENCES, STARTS};
 
 /// A length that is most likely wrong: one short, one long, empty, or another.
 pub fn length(rng: &mut Rng, right: usize) -> usize {
@@ -62,6 +62,7 @@ fn field(rng: &mut Rng, record: &mut Record, n: u32) {
             let size = rng.pick(&[LARGEST_SIZE, LARGEST_SIZE + 1, u64::MAX, LARGEST_SIZE << 8, 1 << 63]);
             put(contents, 0, &size.to_le_bytes());
         }
+        4 => put(contents, 0, &number(rng, n - 1, n - 1).to_le_bytes()),
         _ => {
             let at = 4 * rng.below(2);
             put(contents, at, &number(rng, n - 1, n - 1).to_le_bytes());
@@ -83,12 +84,12 @@ pub fn records(rng: &mut Rng, records: &mut Vec<Record>, n: u32) {
     let j = rng.below(records.len());
     match rng.below(8) {
         0 | 1 => field(rng, &mut records[i], n),
-        2 => records[i].kind = rng.pick(&[0, 1, 2, 3, 4, 255, 256, 512, 768, u16::MAX]),
+        2 => records[i].kind = rng.pick(&[0, 1, 2, 3, 4, 5, 255, 256, 512, 768, 1024, u16::MAX]),
         3 => records[i].length = rng.pick(&[0, 1, 3, 4, 8, 11, 12, 13, 15, 16, 17, 24, 0x0c00, 0x1000, u16::MAX]),
         4 => records.swap(i, j),
         5 => drop(records.remove(i)),
         6 => records.insert(j, records[i].clone()),
-        _ => records.push(Record::new(rng.pick(&[1, 2, 3, 4]), vec![0; rng.pick(&[0, 8, 12])])),
+        _ => records.push(Record::new(rng.pick(&[1, 2, 3, 4, 4, 5]), vec![0; rng.pick(&[0, 4, 8, 12])])),
     }
 }
 
@@ -142,7 +143,7 @@ fn starts(rng: &mut Rng, starts: &mut Vec<u32>, n: u32) {
     let first = starts.first().copied().unwrap_or(0);
     match rng.below(5) {
         0 => starts.clear(),
-        1 => starts.resize(rng.pick(&[MOST_STARTS, MOST_STARTS + 1, 2 * MOST_STARTS]), first),
+        1 => starts.resize(rng.pick(&[STARTS, STARTS + 1, 2 * STARTS]), first),
         2 => starts.push(number(rng, n, n)),
         _ if starts.is_empty() => starts.push(number(rng, n, n)),
         _ => {

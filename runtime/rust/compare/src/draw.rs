@@ -5,7 +5,7 @@ use crate::damage;
 use crate::judge::reached;
 use crate::rng::Rng;
 use crate::store::{self, Store};
-use reference::{LARGEST_SIZE, MOST_STARTS};
+use reference::{LARGEST_SIZE, MOST_LEASES, STARTS};
 
 /// A small case.
 pub fn small(rng: &mut Rng) -> Case {
@@ -32,7 +32,16 @@ fn small_store(rng: &mut Rng) -> Store {
     if rng.once_in(2) {
         rng.shuffle(&mut store.pairs);
     }
+    store.leases = leases(rng, n);
     store
+}
+
+/// The objects of the leases: none, a few, repeated ones, or about as many as there may be.
+fn leases(rng: &mut Rng, n: usize) -> Vec<u32> {
+    let few = rng.between(1, 5);
+    let count = rng.pick(&[0, 0, few, few, few, few, MOST_LEASES - 1, MOST_LEASES, MOST_LEASES + 1]);
+    let below = rng.pick(&[n, n, 1]);
+    (0..count).map(|_| rng.below(below) as u32).collect()
 }
 
 /// A catalogue, often damaged, and the n and m that its buffers are made for.
@@ -58,6 +67,7 @@ fn read(rng: &mut Rng) -> Call {
         offsets: damage::length_once_in(rng, once_in, n + 1),
         targets: damage::length_once_in(rng, once_in, m),
         sizes: damage::length_once_in(rng, once_in, n),
+        starts: damage::length_once_in(rng, once_in, STARTS),
     }
 }
 
@@ -121,12 +131,12 @@ pub fn starts(rng: &mut Rng, index: u32, n: usize) -> Vec<u32> {
     let leases = match rng.below(6) {
         0 | 1 => rng.between(1, 4),
         2 => rng.between(1, n),
-        3 => rng.pick(&[MOST_STARTS - 2, MOST_STARTS - 1]),
+        3 => rng.pick(&[STARTS - 2, STARTS - 1]),
         _ => 0,
     };
     let below = rng.pick(&[n, n, 2.min(n)]);
     let mut starts = vec![index];
-    starts.extend((0..leases.min(MOST_STARTS - 1)).map(|_| rng.below(below) as u32));
+    starts.extend((0..leases.min(STARTS - 1)).map(|_| rng.below(below) as u32));
     starts
 }
 

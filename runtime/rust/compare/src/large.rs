@@ -4,7 +4,7 @@ use crate::case::{Call, Case, Mark};
 use crate::draw;
 use crate::rng::Rng;
 use crate::store;
-use reference::{LARGEST_SIZE, MOST_OBJECTS, MOST_REFERENCES};
+use reference::{LARGEST_SIZE, MOST_LEASES, MOST_OBJECTS, MOST_REFERENCES, STARTS};
 
 /// How many there are: the first numbers of every run.
 pub const LARGE: u64 = 24;
@@ -26,7 +26,10 @@ fn large_read(rng: &mut Rng, number: u64) -> Call {
         1 => (MOST_OBJECTS, 0),
         _ => (MOST_OBJECTS, MOST_REFERENCES),
     };
-    let store = store::store(rng, 0, n, m);
+    let mut store = store::store(rng, 0, n, m);
+    if number == 2 {
+        store.leases = vec![n as u32 - 1; MOST_LEASES];
+    }
     let sizes = store::sizes(rng, n);
     let mut bytes = store::bytes(&store.records(&sizes));
     let end = bytes.len();
@@ -41,7 +44,7 @@ fn large_read(rng: &mut Rng, number: u64) -> Call {
         6 => bytes[8..12].copy_from_slice(&(m as u32 + 1).to_le_bytes()),
         _ => {}
     }
-    Call::Read { bytes, offsets: n + 1, targets: m, sizes: n }
+    Call::Read { bytes, offsets: n + 1, targets: m, sizes: n, starts: STARTS }
 }
 
 fn large_sweep(rng: &mut Rng, n: usize) -> Call {

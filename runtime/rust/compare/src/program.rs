@@ -84,7 +84,7 @@ fn covers(tally: &BTreeMap<String, u64>) -> Result<(), String> {
     for (line, count) in tally {
         println!("  {line}: {count}");
     }
-    let refusals = [1, 2, 3, 4, 5, 6, 8, 9, 11, 12].map(|number| format!("refusal {number}"));
+    let refusals = [1, 2, 3, 4, 5, 6, 8, 9, 11, 12, 13].map(|number| format!("refusal {number}"));
     let all = refusals.into_iter().chain(["finished".to_string(), "unfinished".to_string()]);
     match all.into_iter().find(|line| !tally.contains_key(line)) {
         Some(line) => Err(format!("no pair of files was answered with: {line}")),

@@ -13,6 +13,7 @@ pub trait Side {
         offsets: &mut [u32],
         targets: &mut [u32],
         sizes: &mut [u64],
+        starts: &mut [u32],
         result: &mut [u32],
     ) -> u32;
     fn references(&self, offsets: &[u32], targets: &[u32], object: u32, result: &mut [u64]) -> u32;
@@ -34,9 +35,10 @@ impl Side for Proved {
         offsets: &mut [u32],
         targets: &mut [u32],
         sizes: &mut [u64],
+        starts: &mut [u32],
         result: &mut [u32],
     ) -> u32 {
-        raw::read(bytes, offsets, targets, sizes, result)
+        raw::read(bytes, offsets, targets, sizes, starts, result)
     }
 
     fn references(&self, offsets: &[u32], targets: &[u32], object: u32, result: &mut [u64]) -> u32 {
@@ -64,16 +66,12 @@ fn written<T: Copy, const N: usize, E>(answer: Result<[T; N], E>, result: &mut [
     }
 }
 
-fn header_words(head: kullneyra::Header) -> [u32; 3] {
-    [head.objects, head.references, head.index]
-}
-
 /// The proved library by the functions with Rust's own types. The result buffer has the right length.
 pub struct Typed;
 
 impl Side for Typed {
     fn header(&self, bytes: &[u8], result: &mut [u32]) -> u32 {
-        written(kullneyra::header(bytes).map(header_words), result, Refusal::number)
+        written(kullneyra::header(bytes).map(|h| [h.objects, h.references, h.index]), result, Refusal::number)
     }
 
     fn read(
@@ -82,9 +80,11 @@ impl Side for Typed {
         offsets: &mut [u32],
         targets: &mut [u32],
         sizes: &mut [u64],
+        starts: &mut [u32],
         result: &mut [u32],
     ) -> u32 {
-        written(kullneyra::read(bytes, offsets, targets, sizes).map(header_words), result, Refusal::number)
+        let answer = kullneyra::read(bytes, offsets, targets, sizes, starts);
+        written(answer.map(|s| [s.objects, s.references, s.index, s.starts]), result, Refusal::number)
     }
 
     fn references(&self, offsets: &[u32], targets: &[u32], object: u32, result: &mut [u64]) -> u32 {
@@ -125,9 +125,10 @@ impl Side for Reference {
         offsets: &mut [u32],
         targets: &mut [u32],
         sizes: &mut [u64],
+        starts: &mut [u32],
         result: &mut [u32],
     ) -> u32 {
-        read_by(reference::read, bytes, offsets, targets, sizes, result)
+        read_by(reference::read, bytes, offsets, targets, sizes, starts, result)
     }
 
     fn references(&self, offsets: &[u32], targets: &[u32], object: u32, result: &mut [u64]) -> u32 {
@@ -167,9 +168,10 @@ impl Side for Tuned {
         offsets: &mut [u32],
         targets: &mut [u32],
         sizes: &mut [u64],
+        starts: &mut [u32],
         result: &mut [u32],
     ) -> u32 {
-        read_by(tuned::read, bytes, offsets, targets, sizes, result)
+        read_by(tuned::read, bytes, offsets, targets, sizes, starts, result)
     }
 
     fn references(&self, offsets: &[u32], targets: &[u32], object: u32, result: &mut [u64]) -> u32 {
@@ -186,7 +188,7 @@ impl Side for Tuned {
 }
 
 /// The reader and the marker in plain Rust.
-type Reader = fn(&[u8], &mut [u32], &mut [u32], &mut [u64]) -> Result<reference::Header, u8>;
+type Reader = fn(&[u8], &mut [u32], &mut [u32], &mut [u64], &mut [u32]) -> Result<reference::Contents, u8>;
 type Marker = fn(reference::Call<'_>, &mut [u8], &mut [u32]) -> Result<Outcome, u8>;
 
 fn read_by(
@@ -195,12 +197,14 @@ fn read_by(
     offsets: &mut [u32],
     targets: &mut [u32],
     sizes: &mut [u64],
+    starts: &mut [u32],
     result: &mut [u32],
 ) -> u32 {
-    if result.len() != 3 {
+    if result.len() != 4 {
         return WRONG_LENGTH;
     }
-    written(reader(bytes, offsets, targets, sizes).map(|h| [h.n, h.m, h.index]), result, u32::from)
+    let answer = reader(bytes, offsets, targets, sizes, starts);
+    written(answer.map(|c| [c.head.n, c.head.m, c.head.index, c.starts]), result, u32::from)
 }
 
 fn marked_by(marker: Marker, c: &Mark, marks: &mut [u8], work: &mut [u32], result: &mut [u64]) -> u32 {
@@ -218,7 +222,7 @@ impl Side for Untouched {
         0
     }
 
-    fn read(&self, _: &[u8], _: &mut [u32], _: &mut [u32], _: &mut [u64], _: &mut [u32]) -> u32 {
+    fn read(&self, _: &[u8], _: &mut [u32], _: &mut [u32], _: &mut [u64], _: &mut [u32], _: &mut [u32]) -> u32 {
         0
     }
 
@@ -347,7 +351,9 @@ pub fn after(case: &Case, side: &dyn Side) -> After {
             let number = side.header(bytes, result.part());
             After { number, buffers: vec![("result", Whole::Words(result.0))] }
         }
-        Call::Read { bytes, offsets, targets, sizes } => after_read(case, side, bytes, [*offsets, *targets, *sizes]),
+        Call::Read { bytes, offsets, targets, sizes, starts } => {
+            after_read(case, side, bytes, [*offsets, *targets, *sizes, *starts])
+        }
         Call::References { offsets, targets, object } => {
             let mut result = longs(case.result, case.fill(0));
             let number = side.references(offsets, targets, *object, result.part());
@@ -362,15 +368,17 @@ pub fn after(case: &Case, side: &dyn Side) -> After {
     }
 }
 
-fn after_read(case: &Case, side: &dyn Side, bytes: &[u8], lengths: [usize; 3]) -> After {
-    let [offsets, targets, sizes] = lengths;
+fn after_read(case: &Case, side: &dyn Side, bytes: &[u8], lengths: [usize; 4]) -> After {
+    let [offsets, targets, sizes, starts] = lengths;
     let (mut offsets, mut targets) = (words(offsets, case.fill(1)), words(targets, case.fill(2)));
-    let (mut sizes, mut result) = (longs(sizes, case.fill(3)), words(case.result, case.fill(0)));
-    let number = side.read(bytes, offsets.part(), targets.part(), sizes.part(), result.part());
+    let (mut sizes, mut starts) = (longs(sizes, case.fill(3)), words(starts, case.fill(4)));
+    let mut result = words(case.result, case.fill(0));
+    let number = side.read(bytes, offsets.part(), targets.part(), sizes.part(), starts.part(), result.part());
     let buffers = vec![
         ("offsets", Whole::Words(offsets.0)),
         ("targets", Whole::Words(targets.0)),
         ("sizes", Whole::Longs(sizes.0)),
+        ("starts", Whole::Words(starts.0)),
         ("result", Whole::Words(result.0)),
     ];
     After { number, buffers }

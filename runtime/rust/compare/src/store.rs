@@ -8,6 +8,8 @@ pub struct Store {
     pub index: u32,
     /// From, to: in catalogue order.
     pub pairs: Vec<(u32, u32)>,
+    /// Objects with a lease, in catalogue order.
+    pub leases: Vec<u32>,
 }
 
 /// As many objects and about as many references as asked for, in the shape of this number.
@@ -23,7 +25,7 @@ pub fn store(rng: &mut Rng, shape: usize, n: usize, m: usize) -> Store {
         6 => (0..n as u32).map(|v| (v, (v + 1) % n as u32)).collect(),
         _ => (0..m).map(|_| (rng.below(n).min(rng.below(n)) as u32, rng.below(n.min(3)) as u32)).collect(),
     };
-    Store { n, index: 0, pairs }
+    Store { n, index: 0, pairs, leases: Vec::new() }
 }
 
 pub const SHAPES: usize = 8;
@@ -68,6 +70,7 @@ impl Store {
         for &(from, to) in &self.pairs {
             records.push(Record::new(3, [from.to_le_bytes(), to.to_le_bytes()].concat()));
         }
+        records.extend(self.leases.iter().map(|object| Record::new(4, object.to_le_bytes().to_vec())));
         records
     }
 }

@@ -12,6 +12,8 @@ enum Fault {
     None,
     /// The list's zeros are left out.
     ListNotPadded,
+    /// So are those behind the starts.
+    StartsNotPadded,
     /// Marks are cleared before the schedule is checked.
     MarksClearedBesideRefusal,
     /// One word too far is written.
@@ -30,8 +32,21 @@ impl Side for Fault {
         }
     }
 
-    fn read(&self, bytes: &[u8], o: &mut [u32], t: &mut [u32], s: &mut [u64], result: &mut [u32]) -> u32 {
-        let number = Reference.read(bytes, o, t, s, result);
+    fn read(
+        &self,
+        bytes: &[u8],
+        o: &mut [u32],
+        t: &mut [u32],
+        s: &mut [u64],
+        starts: &mut [u32],
+        result: &mut [u32],
+    ) -> u32 {
+        let before = starts.to_vec();
+        let number = Reference.read(bytes, o, t, s, starts, result);
+        if *self == Fault::StartsNotPadded && number == 0 {
+            let count = result[3] as usize;
+            starts[count..].copy_from_slice(&before[count..]);
+        }
         if *self == Fault::PastTheEnd && number == 0 {
             // SAFETY: a guard follows every lent buffer.
             unsafe { *o.as_mut_ptr().add(o.len()) ^= 1 };
@@ -78,6 +93,7 @@ fn found(fault: Fault) -> Option<u64> {
 fn faults_are_found() {
     assert_eq!(found(Fault::None), None);
     assert!(found(Fault::ListNotPadded).is_some());
+    assert!(found(Fault::StartsNotPadded).is_some());
     assert!(found(Fault::MarksClearedBesideRefusal).is_some());
     assert!(found(Fault::PastTheEnd).is_some());
     assert!(found(Fault::LongResultTaken).is_some());

@@ -20,7 +20,7 @@
 //! # One collection
 //!
 //! ```
-//! use kullneyra::{header, mark, read, references, sweep, work_words, Schedule, Settings, Turn};
+//! use kullneyra::{header, mark, read, references, sweep, work_words, Schedule, Settings, Turn, STARTS};
 //!
 //! // Two objects, 0 and 1, and the reference 0→0: object 1 hangs on nothing.
 //! let catalogue = [
@@ -32,8 +32,9 @@
 //! let head = header(&catalogue)?;
 //! assert_eq!((head.objects, head.references, head.index), (2, 1, 0));
 //!
-//! let (mut offsets, mut targets, mut sizes) = ([0; 3], [0; 1], [0; 2]);
-//! read(&catalogue, &mut offsets, &mut targets, &mut sizes)?;
+//! let (mut offsets, mut targets, mut sizes, mut starts) = ([0; 3], [0; 1], [0; 2], [0; STARTS]);
+//! let store = read(&catalogue, &mut offsets, &mut targets, &mut sizes, &mut starts)?;
+//! assert_eq!(starts[..store.starts as usize], [0]);
 //! assert_eq!(references(&offsets, &targets, 0), [0]);
 //!
 //! let settings = Settings { workers: 1, batch: 64, cutoff: 64 };
@@ -58,8 +59,10 @@ pub const MOST_OBJECTS: usize = 65_536;
 pub const MOST_REFERENCES: usize = 1_048_576;
 /// The largest size of an object.
 pub const LARGEST_SIZE: u64 = 1_099_511_627_776;
-/// The most starts of a marking: the index and 256 leases.
-pub const MOST_STARTS: usize = 257;
+/// The most leases that a store has.
+pub const MOST_LEASES: usize = 256;
+/// The words of the start buffer: the index and the most leases.
+pub const STARTS: usize = MOST_LEASES + 1;
 /// The most workers of a marking.
 pub const MOST_WORKERS: u32 = 16;
 /// The largest batch and the largest cutoff of a marking.
@@ -89,7 +92,7 @@ pub enum Refusal {
     Schedule,
     /// 10: offsets and targets that are no graph.
     Graph,
-    /// 13: no start, or more than [`MOST_STARTS`].
+    /// 13: no start, or more than [`MOST_LEASES`] leases.
     Starts,
     /// A number that this crate has no name for: the library is newer than the crate.
     Other(u32),
@@ -128,7 +131,7 @@ impl Refusal {
             Refusal::Setting => (8, "workers, batch or cutoff out of range"),
             Refusal::Schedule => (9, "half an entry at the schedule's end, or one for a worker that is not there"),
             Refusal::Graph => (10, "offsets and targets that are no graph"),
-            Refusal::Starts => (13, "no start, or too many"),
+            Refusal::Starts => (13, "no start, or too many leases"),
             Refusal::Other(number) => (number, "a number newer than this crate"),
         }
     }
@@ -165,6 +168,20 @@ pub struct Header {
     pub references: u32,
     /// The index object.
     pub index: u32,
+}
+
+/// What a catalogue holds.
+#[derive(Clone, Copy, Debug, Default, PartialEq, Eq)]
+#[non_exhaustive]
+pub struct Store {
+    /// n, 1 to 65,536.
+    pub objects: u32,
+    /// m, up to 1,048,576.
+    pub references: u32,
+    /// The index object, which is the first start.
+    pub index: u32,
+    /// How many starts the start buffer holds: the index and the leases.
+    pub starts: u32,
 }
 
 /// The settings of a marking.
@@ -256,24 +273,27 @@ pub const fn work_words(objects: usize, workers: usize) -> usize {
     workers * (2 * objects + 4)
 }
 
-impl Header {
-    fn of([objects, references, index]: [u32; 3]) -> Self {
-        Header { objects, references, index }
-    }
-}
-
 /// Reads only the catalogue's header record.
 pub fn header(catalogue: &[u8]) -> Result<Header, Refusal> {
     let mut result = [0; 3];
     answer(raw::header(catalogue, &mut result))?;
-    Ok(Header::of(result))
+    let [objects, references, index] = result;
+    Ok(Header { objects, references, index })
 }
 
-/// Checks the whole catalogue and fills n + 1 offsets, m targets and n sizes.
-pub fn read(catalogue: &[u8], offsets: &mut [u32], targets: &mut [u32], sizes: &mut [u64]) -> Result<Header, Refusal> {
-    let mut result = [0; 3];
-    answer(raw::read(catalogue, offsets, targets, sizes, &mut result))?;
-    Ok(Header::of(result))
+/// Checks the whole catalogue and fills n + 1 offsets, m targets, n sizes and [`STARTS`] words of starts: the index,
+/// the leases in catalogue order, and zeros behind them.
+pub fn read(
+    catalogue: &[u8],
+    offsets: &mut [u32],
+    targets: &mut [u32],
+    sizes: &mut [u64],
+    starts: &mut [u32],
+) -> Result<Store, Refusal> {
+    let mut result = [0; 4];
+    answer(raw::read(catalogue, offsets, targets, sizes, starts, &mut result))?;
+    let [objects, references, index, starts] = result;
+    Ok(Store { objects, references, index, starts })
 }
 
 /// The references of one object: that part of the targets, or the empty part.
@@ -286,7 +306,7 @@ pub fn references<'a>(offsets: &[u32], targets: &'a [u32], object: u32) -> &'a [
 }
 
 /// Marks what the starts reach, by the turns of the schedule. The starts are the index and then the
-/// leases, 1 to [`MOST_STARTS`] in all; a repeated one adds nothing. Marks are n bytes, and work is
+/// leases, 1 to [`STARTS`] in all; a repeated one adds nothing. Marks are n bytes, and work is
 /// [`work_words`] words; both may hold anything before.
 pub fn mark(
     offsets: &[u32],
@@ -344,6 +364,8 @@ mod tests {
     #[test]
     fn zeros_beside_a_refusal() {
         assert_eq!(header(&[]).unwrap_or_default(), Header { objects: 0, references: 0, index: 0 });
+        let store = read(&[], &mut [], &mut [], &mut [], &mut []).unwrap_or_default();
+        assert_eq!(store, Store { objects: 0, references: 0, index: 0, starts: 0 });
         let settings = Settings { workers: 0, batch: 1, cutoff: 1 };
         let marked = mark(&[0, 0], &[], &[0], settings, Schedule::new(&[]), &mut [0], &mut []).unwrap_or_default();
         assert_eq!(marked.words(), [0; Marked::WORDS]);
@@ -365,14 +387,30 @@ mod tests {
         let mut alone = |starts: usize, workers: u32, setting| {
             let settings = Settings { workers, batch: setting, cutoff: setting };
             let words = work_words(1, workers.min(MOST_WORKERS) as usize);
-            let starts = &[0; MOST_STARTS + 1][..starts];
+            let starts = &[0; STARTS + 1][..starts];
             mark(&[0, 0], &[], starts, settings, Schedule::new(&[]), &mut marks, &mut work[..words])
         };
         assert_eq!(alone(1, MOST_WORKERS, MOST_SETTING).map(|marked| marked.live), Ok(1));
         assert_eq!(alone(1, MOST_WORKERS + 1, 1), Err(Refusal::Setting));
         assert_eq!(alone(1, 1, MOST_SETTING + 1), Err(Refusal::Setting));
-        assert_eq!(alone(MOST_STARTS, 1, 1).map(|marked| marked.live), Ok(1));
-        assert_eq!(alone(MOST_STARTS + 1, 1, 1), Err(Refusal::Starts));
+        assert_eq!(alone(STARTS, 1, 1).map(|marked| marked.live), Ok(1));
+        assert_eq!(alone(STARTS + 1, 1, 1), Err(Refusal::Starts));
         assert_eq!(alone(0, 1, 1), Err(Refusal::Starts));
+    }
+
+    #[test]
+    fn leases_to_the_most() {
+        let mut catalogue =
+            std::vec![16, 0, 1, 0, 1, 0, 0, 0, 0, 0, 0, 0, 0, 0, 0, 0, 12, 0, 2, 0, 5, 0, 0, 0, 0, 0, 0, 0];
+        let leased = |catalogue: &[u8]| {
+            let (mut offsets, mut starts) = ([0; 2], [7; STARTS]);
+            let store = read(catalogue, &mut offsets, &mut [], &mut [0], &mut starts);
+            (store.map(|store| store.starts), starts[STARTS - 1])
+        };
+        assert_eq!(leased(&catalogue), (Ok(1), 0));
+        catalogue.extend([8, 0, 4, 0, 0, 0, 0, 0].repeat(MOST_LEASES));
+        assert_eq!(leased(&catalogue), (Ok(STARTS as u32), 0));
+        catalogue.extend([8, 0, 4, 0, 1, 0, 0, 0]);
+        assert_eq!(leased(&catalogue), (Err(Refusal::Starts), 7));
     }
 }

@@ -15,6 +15,8 @@ mod c {
             targets_len: usize,
             sizes: *mut u64,
             sizes_len: usize,
+            starts: *mut u32,
+            starts_len: usize,
             result: *mut u32,
             result_len: usize,
         ) -> u32;
@@ -65,8 +67,16 @@ pub fn header(bytes: &[u8], result: &mut [u32]) -> u32 {
     unsafe { c::kullneyra_header(bytes.as_ptr(), bytes.len(), result.as_mut_ptr(), result.len()) }
 }
 
-/// Checks the whole catalogue and fills offsets, targets and sizes. Result words: n, m, index.
-pub fn read(bytes: &[u8], offsets: &mut [u32], targets: &mut [u32], sizes: &mut [u64], result: &mut [u32]) -> u32 {
+/// Checks the whole catalogue and fills offsets, targets, sizes and starts. Result words: n, m, index and the number
+/// of starts.
+pub fn read(
+    bytes: &[u8],
+    offsets: &mut [u32],
+    targets: &mut [u32],
+    sizes: &mut [u64],
+    starts: &mut [u32],
+    result: &mut [u32],
+) -> u32 {
     // SAFETY: as in `header`.
     unsafe {
         c::kullneyra_read(
@@ -78,6 +88,8 @@ pub fn read(bytes: &[u8], offsets: &mut [u32], targets: &mut [u32], sizes: &mut 
             targets.len(),
             sizes.as_mut_ptr(),
             sizes.len(),
+            starts.as_mut_ptr(),
+            starts.len(),
             result.as_mut_ptr(),
             result.len(),
         )

@@ -2,13 +2,21 @@
 
 use std::ops::Range;
 
-use crate::{LARGEST_SIZE, MOST_OBJECTS, MOST_REFERENCES};
+use crate::{LARGEST_SIZE, MOST_LEASES, MOST_OBJECTS, MOST_REFERENCES, STARTS};
 
 #[derive(Clone, Copy, Debug, PartialEq, Eq)]
 pub struct Header {
     pub n: u32,
     pub m: u32,
     pub index: u32,
+}
+
+/// What the reader answers.
+#[derive(Clone, Copy, Debug, PartialEq, Eq)]
+pub struct Contents {
+    pub head: Header,
+    /// How many starts there are.
+    pub starts: u32,
 }
 
 fn u16_at(bytes: &[u8], at: usize) -> u16 {
@@ -28,6 +36,8 @@ enum Due {
     Header,
     Object,
     Reference,
+    Lease,
+    /// No lease either: there have been the most.
     Nothing,
 }
 
@@ -35,9 +45,10 @@ enum Record {
     Header(Header),
     Object(u64),
     Reference(u32, u32),
+    Lease(u32),
 }
 
-/// The record at the front of `rest`, or the first of the faults 1 to 6. `n` is the number of
+/// The record at the front of `rest`, or the first of the faults 1 to 3, 13 and 4 to 6. `n` is the number of
 /// objects, once the header told it.
 fn record(rest: &[u8], due: Due, n: u32) -> Result<(Record, usize), u8> {
     if rest.len() < 4 {
@@ -52,10 +63,14 @@ fn record(rest: &[u8], due: Due, n: u32) -> Result<(Record, usize), u8> {
         1 => (16, Due::Header),
         2 => (12, Due::Object),
         3 => (12, Due::Reference),
+        4 => (8, Due::Lease),
         _ => return Err(2),
     };
     if length != wanted {
         return Err(2);
+    }
+    if place == Due::Lease && due == Due::Nothing {
+        return Err(13);
     }
     if place != due {
         return Err(3);
@@ -78,12 +93,19 @@ fn record(rest: &[u8], due: Due, n: u32) -> Result<(Record, usize), u8> {
             }
             Record::Object(size)
         }
-        _ => {
+        Due::Reference => {
             let (from, to) = (u32_at(rest, 4), u32_at(rest, 8));
             if from >= n || to >= n {
                 return Err(5);
             }
             Record::Reference(from, to)
+        }
+        Due::Lease | Due::Nothing => {
+            let object = u32_at(rest, 4);
+            if object >= n {
+                return Err(5);
+            }
+            Record::Lease(object)
         }
     };
     Ok((record, length))
@@ -97,33 +119,43 @@ pub fn header(bytes: &[u8]) -> Result<Header, u8> {
     }
 }
 
-/// Reads the whole catalogue into the three lent buffers.
-pub fn read(bytes: &[u8], offsets: &mut [u32], targets: &mut [u32], sizes: &mut [u64]) -> Result<Header, u8> {
+/// Reads the whole catalogue into the four lent buffers.
+pub fn read(
+    bytes: &[u8],
+    offsets: &mut [u32],
+    targets: &mut [u32],
+    sizes: &mut [u64],
+    starts: &mut [u32],
+) -> Result<Contents, u8> {
     let head = header(bytes)?;
     let mut rest = &bytes[16..];
     let mut all_sizes = Vec::new();
     let mut pairs = Vec::new();
+    let mut leases = Vec::new();
     loop {
         let due = if all_sizes.len() < head.n as usize {
             Due::Object
         } else if pairs.len() < head.m as usize {
             Due::Reference
+        } else if leases.len() < MOST_LEASES {
+            Due::Lease
         } else {
             Due::Nothing
         };
-        if due == Due::Nothing && rest.is_empty() {
+        if matches!(due, Due::Lease | Due::Nothing) && rest.is_empty() {
             break;
         }
         let (found, length) = record(rest, due, head.n)?;
         match found {
             Record::Object(size) => all_sizes.push(size),
             Record::Reference(from, to) => pairs.push((from, to)),
+            Record::Lease(object) => leases.push(object),
             Record::Header(_) => unreachable!(),
         }
         rest = &rest[length..];
     }
     let n = head.n as usize;
-    if offsets.len() != n + 1 || targets.len() != pairs.len() || sizes.len() != n {
+    if offsets.len() != n + 1 || targets.len() != pairs.len() || sizes.len() != n || starts.len() != STARTS {
         return Err(7);
     }
     sizes.copy_from_slice(&all_sizes);
@@ -139,7 +171,11 @@ pub fn read(bytes: &[u8], offsets: &mut [u32], targets: &mut [u32], sizes: &mut 
         targets[next[from as usize] as usize] = to;
         next[from as usize] += 1;
     }
-    Ok(head)
+    let count = 1 + leases.len();
+    starts[0] = head.index;
+    starts[1..count].copy_from_slice(&leases);
+    starts[count..].fill(0);
+    Ok(Contents { head, starts: count as u32 })
 }
 
 /// The two offsets of an object, where they bound a part of so many targets.

@@ -8,12 +8,14 @@ mod machine;
 mod report;
 mod sweep;
 
-pub use catalogue::{header, part, read, references, Header};
+pub use catalogue::{header, part, read, references, Contents, Header};
 pub use machine::{depth_first, mark, Call, Outcome};
 pub use report::report;
 pub use sweep::{sweep, Swept};
 
 pub const MOST_OBJECTS: usize = 65_536;
 pub const MOST_REFERENCES: usize = 1_048_576;
-pub const MOST_STARTS: usize = 257;
 pub const LARGEST_SIZE: u64 = 1_099_511_627_776;
+pub const MOST_LEASES: usize = 256;
+/// The words of the start buffer.
+pub const STARTS: usize = 257;

@@ -1,6 +1,6 @@
 //! The machine, SPECIFICATION 4: workers that a schedule steps.
 
-use crate::{MOST_OBJECTS, MOST_REFERENCES, MOST_STARTS};
+use crate::{MOST_OBJECTS, MOST_REFERENCES, STARTS};
 
 /// What the marker is given, beside the buffers that it writes.
 #[derive(Clone, Copy)]
@@ -232,7 +232,7 @@ pub fn mark(call: Call<'_>, marks: &mut [u8], work: &mut [u32]) -> Result<Outcom
     if !is_graph(offsets, targets) {
         return Err(10);
     }
-    if starts.is_empty() || starts.len() > MOST_STARTS {
+    if starts.is_empty() || starts.len() > STARTS {
         return Err(13);
     }
     if starts.iter().any(|&start| start as usize >= n) {

@@ -1,6 +1,6 @@
 //! The program's text, SPECIFICATION 7.
 
-use crate::{header, mark, read, sweep, Call};
+use crate::{header, mark, read, sweep, Call, STARTS};
 use std::fmt::Write;
 
 const MOST_STORE_BYTES: usize = 60_016;
@@ -27,7 +27,7 @@ fn collection(store: &[u8], order: &[u8]) -> Result<String, u8> {
     }
     let (n, m) = (head.n as usize, head.m as usize);
     let (mut offsets, mut targets, mut sizes) = (vec![0; n + 1], vec![0; m], vec![0; n]);
-    read(store, &mut offsets, &mut targets, &mut sizes)?;
+    read(store, &mut offsets, &mut targets, &mut sizes, &mut [0; STARTS])?;
     let (workers, batch, cutoff) = (u32::from(order[0]), number(&order[1..]), number(&order[3..]));
     let settings = [(workers, 16), (batch, 65_535), (cutoff, 65_535)];
     if settings.iter().any(|&(setting, most)| setting < 1 || setting > most) {

@@ -1,6 +1,6 @@
 //! The marker's checks. Each loop looks at everything, so that it is compiled without a jump out of it.
 
-use reference::{Call, MOST_OBJECTS, MOST_REFERENCES, MOST_STARTS};
+use reference::{Call, MOST_OBJECTS, MOST_REFERENCES, STARTS};
 
 fn rising(offsets: &[u32]) -> bool {
     offsets.iter().zip(&offsets[1..]).fold(true, |rising, (one, next)| rising & (one <= next))
@@ -36,7 +36,7 @@ pub fn call(call: Call<'_>, marks: usize, work: usize) -> Result<(), u8> {
     if !is_graph(offsets, targets) {
         return Err(10);
     }
-    if !(1..=MOST_STARTS).contains(&starts.len()) {
+    if !(1..=STARTS).contains(&starts.len()) {
         return Err(13);
     }
     if !all_below(starts, n as u32) {

@@ -2,7 +2,7 @@
 //! `match` on a refusal that must have a way for those still to come.
 #![deny(unreachable_patterns)]
 
-use kullneyra::{header, mark, read, sweep, work_words, Refusal, Schedule, Settings, Turn};
+use kullneyra::{header, mark, read, sweep, work_words, Refusal, Schedule, Settings, Turn, STARTS};
 use std::error::Error;
 
 /// What to do about a refusal.
@@ -19,6 +19,7 @@ pub fn advice(refusal: Refusal) -> Advice {
         Refusal::Short | Refusal::Kind | Refusal::Place | Refusal::Count | Refusal::Object | Refusal::Size => {
             Advice::FetchAgain
         }
+        Refusal::Starts => Advice::FetchAgain,
         Refusal::Buffer | Refusal::Setting | Refusal::Schedule | Refusal::Graph => Advice::MendCaller,
         Refusal::Other(_) => Advice::Update,
         _ => Advice::Update,
@@ -30,7 +31,8 @@ pub fn dead(catalogue: &[u8]) -> Result<Vec<u32>, Box<dyn Error>> {
     let head = header(catalogue)?;
     let (n, m) = (head.objects as usize, head.references as usize);
     let (mut offsets, mut targets, mut sizes) = (vec![0; n + 1], vec![0; m], vec![0; n]);
-    read(catalogue, &mut offsets, &mut targets, &mut sizes)?;
+    let mut starts = [0; STARTS];
+    read(catalogue, &mut offsets, &mut targets, &mut sizes, &mut starts)?;
     let settings = Settings { workers: 1, batch: 64, cutoff: 64 };
     let turns = vec![Turn { worker: 0, asked: 0 }; 7 * m + 1];
     let (mut marks, mut work) = (vec![0; n], vec![0; work_words(n, 1)]);
@@ -76,6 +78,6 @@ mod tests {
         let refusal = told.downcast_ref::<Refusal>().copied().unwrap();
         assert_eq!((refusal, refusal.number()), (Refusal::Short, 1));
         assert_eq!(advice(refusal), Advice::FetchAgain);
-        assert_eq!(advice(Refusal::Other(13)), Advice::Update);
+        assert_eq!(advice(Refusal::Other(18)), Advice::Update);
     }
 }

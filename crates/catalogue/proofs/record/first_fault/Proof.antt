@@ -52,4 +52,4 @@ first-fault-spec =
     (λ c κs. search needs) (λ c κs. c .before .before .loop .inv .there) (λ c. search needs) returns
     (λ c. search needs) (λ c. omega (arith, loop-again c .there)) (λ c. omega arith) (λ c. omega arith) loop-again
     (λ c κs. c .before .loop .inv .there)
-    (λ c. c .surplus-fault .ensures ∙ checking-end (c .before .before .loop .inv) (c .before .loop-test .left)))
+    (λ c. c .leases-fault .ensures ∙ checking-end (c .before .before .loop .inv) (c .before .loop-test .left)))

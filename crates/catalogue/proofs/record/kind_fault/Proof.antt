@@ -1,9 +1,10 @@
--- `catalogue::record::kind_fault` meets its contract: one law of `Cases` for each way out, the same three for each known kind.
+-- `catalogue::record::kind_fault` meets its contract: one law of `Cases` for each way out, the same for each known kind.
 use mathlib.Core.Path.{_∙_}
 use native.Mathlib.Omega.{arith}
-use Rattle.catalogue.specs.Layout.{header, object, reference}
-use Rattle.catalogue.specs.Reading.{header-kind, object-kind, reference-kind}
-use Rattle.catalogue.proofs.Cases.{Sort, as-header, as-object, as-reference, wrong-length, wrong-place, right-frame, unknown-kind, not-known}
+use Rattle.catalogue.specs.Layout.{header, object, reference, lease}
+use Rattle.catalogue.specs.Reading.{header-kind, object-kind, reference-kind, lease-kind}
+use Rattle.catalogue.proofs.Cases.{Sort, as-header, as-object, as-reference, as-lease, not-known}
+use Rattle.catalogue.proofs.Cases.{wrong-length, right-length, other-place, wrong-place, right-frame, unknown-kind}
 use borrow.Author.Needs.{needs}
 use Rattle.catalogue.proofs.record.kind_fault.Statement.{statement}
 use Rattle.catalogue.proofs.record.kind_fault.Tie as tie
@@ -18,23 +19,27 @@ object-sort c = record { known = as-object; is = omega (arith, c .match .keys2);
 reference-sort : (c : tie.At-match-keys3) → let a = c .before .before .args in Sort reference reference-kind (a .kind) (a .long) (a .bytes .now)
 reference-sort c = record { known = as-reference; is = omega (arith, c .match .keys3); length-is = c .before .before .pre .0 }
 
-returns-11 : tie.Need-returns-11
-returns-11 c =
+lease-sort : (c : tie.At-match-keys4) → let a = c .before .before .args in Sort lease lease-kind (a .kind) (a .long) (a .bytes .now)
+lease-sort c = record { known = as-lease; is = omega (arith, c .match .keys4); length-is = c .before .before .pre .0 }
+
+returns-13 : tie.Need-returns-13
+returns-13 c =
     let a = c .before .before .args in
     let r = c .match .rest .0 in
-    unknown-kind (a .due) (a .n) (a .kind) (a .bytes .now) (not-known (a .kind) (r .0 .0 .1) (r .0 .1) (r .1))
+    unknown-kind (a .due) (a .n) (a .kind) (a .bytes .now) (not-known (a .kind) (r .0 .0 .0 .1) (r .0 .0 .1) (r .0 .1) (r .1))
 
 pub kind-fault-spec : {M : Type 1} → statement M
 kind-fault-spec =
     tie.close
     (tie.spec (λ c. wrong-length (header-sort (c .before)) _ _ (c .if1 .taken))
-    (λ c. wrong-place (header-sort (c .before .before)) _ _ (c .before .if1 .left) (c .if2 .taken))
+    (λ c. wrong-place (header-sort (c .before .before)) _ _ (c .before .if1 .left) (other-place _ _ (c .if2 .taken)))
     (λ c κs. search needs) (λ c. wrong-length (object-sort (c .before)) _ _ (c .if3 .taken))
-    (λ c. wrong-place (object-sort (c .before .before)) _ _ (c .before .if3 .left) (c .if4 .taken))
+    (λ c. wrong-place (object-sort (c .before .before)) _ _ (c .before .if3 .left) (other-place _ _ (c .if4 .taken)))
     (λ c κs. search needs) (λ c. wrong-length (reference-sort (c .before)) _ _ (c .if5 .taken))
-    (λ c. wrong-place (reference-sort (c .before .before)) _ _ (c .before .if5 .left) (c .if6 .taken))
-    (λ c κs. search needs)
+    (λ c. wrong-place (reference-sort (c .before .before)) _ _ (c .before .if5 .left) (other-place _ _ (c .if6 .taken)))
+    (λ c κs. search needs) (λ c. wrong-length (lease-sort (c .before)) _ _ (c .if7 .taken)) (λ c κs. search needs)
     (λ c. c .header-fault .ensures ∙ right-frame (header-sort (c .before .before .before)) _ _ (c .before .before .if1 .left) (c .before .if2 .left))
     (λ c. c .object-fault .ensures ∙ right-frame (object-sort (c .before .before .before)) _ _ (c .before .before .if3 .left) (c .before .if4 .left))
     (λ c. c .reference-fault .ensures ∙ right-frame (reference-sort (c .before .before .before)) _ _ (c .before .before .if5 .left) (c .before .if6 .left))
-    (λ c. search needs) returns-11)
+    (λ c. c .lease-fault .ensures ∙ right-length (lease-sort (c .before .before)) _ _ (c .before .if7 .left))
+    (λ c. search needs) returns-13)

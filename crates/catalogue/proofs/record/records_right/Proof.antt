@@ -2,7 +2,7 @@
 use mathlib.Core.Bool.{true≢false}
 use mathlib.Core.Path.{sym}
 use borrow.Author.Tests.{not-false}
-use Rattle.catalogue.proofs.Checking.{clear-faults}
+use Rattle.catalogue.proofs.Checking.{clear-listed}
 use borrow.Author.Needs.{needs}
 use Rattle.catalogue.proofs.record.records_right.Statement.{statement}
 use Rattle.catalogue.proofs.record.records_right.Tie as tie
@@ -11,7 +11,7 @@ returns-3 : tie.Need-returns-3
 returns-3 c e =
     let two = c .before in
     let one = two .before .before in
-    clear-faults _ _ _ (one .if1 .left) (two .before .objects-right .ensures (not-false _ (two .if2 .left))) (c .references-right .ensures e)
+    clear-listed _ _ _ (one .if1 .left) (two .before .objects-right .ensures (not-false _ (two .if2 .left))) (c .references-right .ensures e)
 
 pub records-right-spec : {M : Type 1} → statement M
 records-right-spec =

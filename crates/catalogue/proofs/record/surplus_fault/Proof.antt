@@ -1,5 +1,5 @@
 -- `catalogue::record::surplus_fault` meets its contract: nothing is left, or a record where none is due.
-use Rattle.catalogue.proofs.Checking.{surplus-none, surplus-some}
+use Rattle.catalogue.proofs.Leases.{surplus-none, surplus-some}
 use mathlib.Core.Path.{_∙_}
 use native.Mathlib.Omega.{arith}
 use borrow.Author.Needs.{needs}

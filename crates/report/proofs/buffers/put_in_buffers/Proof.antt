@@ -4,6 +4,7 @@ use Prim.Native.Nat.{ℕ, _+_, _≤_}
 use native.Mathlib.Omega.{arith}
 use lib.ListN.{length, take, replicate, length-replicate}
 use lib.Seq.{length-take-le}
+use Rattle.catalogue.specs.Store.{start-words}
 use Rattle.report.specs.Limits.{most-objects, most-references, work-room}
 use borrow.Author.Needs.{needs}
 use Rattle.report.proofs.buffers.put_in_buffers.Statement.{statement}
@@ -35,21 +36,22 @@ slice-aggregate-put-store-2 c = sym (targets (entry (c .before)))
 slice-aggregate-put-store-3 : tie.Need-slice-aggregate-put-store-3
 slice-aggregate-put-store-3 c = sym (each (entry (c .before .before)))
 
-slice-aggregate-put-store-4 : tie.Need-slice-aggregate-put-store-4
-slice-aggregate-put-store-4 c = sym (each (entry (c .before .before .before)))
+slice-aggregate-put-store-5 : tie.Need-slice-aggregate-put-store-5
+slice-aggregate-put-store-5 c = sym (each (entry (c .before .before .before .before)))
 
-slice-aggregate-put-store-6 : tie.Need-slice-aggregate-put-store-6
-slice-aggregate-put-store-6 c = sym (each (entry (c .before .before .before .before .before)))
+slice-aggregate-put-store-7 : tie.Need-slice-aggregate-put-store-7
+slice-aggregate-put-store-7 c = sym (each (entry (c .before .before .before .before .before .before)))
 
 put-store-requires : tie.Need-put-store-requires
 put-store-requires c κs =
-    let s = entry (c .before .before .before .before .before .before) in
+    let s = entry (c .before .before .before .before .before .before .before) in
     let p = s .pre in
     let e = each s in
     record {
       all-offsets = omega (arith, offsets s);
       all-targets = targets s ∙ p .references-are;
       all-sizes = e ∙ p .objects-are;
+      all-starts = length-replicate {A = ℕ} start-words 0;
       fitting = record { few = omega arith; all-marks = omega arith; all-list = omega arith; room = p .room };
       whole-order = p .whole-order;
       much-work = omega (arith, length-replicate {A = ℕ} work-room 0);
@@ -60,5 +62,6 @@ put-in-buffers-spec =
     tie.close
     (tie.spec (λ c. search needs) (λ c. search needs) slice-aggregate-put-store (λ c. search needs)
     slice-aggregate-put-store-2 (λ c. search needs) slice-aggregate-put-store-3 (λ c. search needs)
-    slice-aggregate-put-store-4 (λ c. search needs) (λ c. search needs) slice-aggregate-put-store-6 put-store-requires
+    (λ c. search needs) slice-aggregate-put-store-5 (λ c. search needs) (λ c. search needs) slice-aggregate-put-store-7
+    put-store-requires
     (λ c. search needs) (λ c. search needs))

@@ -5,18 +5,24 @@ use borrow.Author.Needs.{needs}
 use Rattle.report.proofs.store.put_store.Statement.{statement}
 use Rattle.report.proofs.store.put_store.Tie as tie
 
-abbrev entry : tie.After-read → tie.Start
-entry c = c .before .before .before .before .before .before .before .before .before .before .before .before .before
+abbrev at-start : tie.After-slice-known4 → tie.Start
+at-start c = c .before .before .before .before .before .before
 
-abbrev at-read : tie.After-slice-known10 → tie.After-read
-at-read c = c .before .before .before .before .before .before
+abbrev lent : tie.After-read → tie.After-slice-known8
+lent c = c .before .before .before .before .before
+
+abbrev entry : tie.After-read → tie.Start
+entry c = at-start (lent c .before .before .before .before)
+
+abbrev at-read : tie.After-slice-known12 → tie.After-read
+at-read c = c .before .before .before .before .before .before .before .before
 
 returns : tie.Need-returns
 returns c =
     let at-refusal = c .before .before in
     let at-told = at-refusal .before .before .before in
     let r = at-read (at-told .before .before) in
-    as-text (due-catalogue (entry r .pre) (r .read .ensures .0) (at-told .enum-told .given .1) (at-refusal .before .refusal-of .ensures))
+    as-text (due-catalogue (entry r .pre) (r .read .ensures .0) (at-told .enum-told .given .1) (at-refusal .before .fault-of .ensures))
     (at-refusal .put-refusal .ensures .put)
 
 put-ordered-requires : tie.Need-put-ordered-requires
@@ -36,6 +42,6 @@ pub put-store-spec : {M : Type 1} → statement M
 put-store-spec =
     tie.close
     (tie.spec (λ c κs. search needs) (λ c. search needs) (λ c. search needs) (λ c κs. search needs)
-    (λ c κs. search needs) (λ c. search needs) (λ c. search needs) (λ c. search needs) (λ c. search needs) returns
-    (λ c. search needs) put-ordered-requires (λ c. search needs) (λ c. search needs) (λ c. search needs) (λ c. search needs)
-    (λ c. search needs) (λ c. search needs) (λ c. search needs) returns-2)
+    (λ c κs. search needs) (λ c. search needs) (λ c. search needs) (λ c. search needs) (λ c. search needs)
+    (λ c. search needs) returns put-ordered-requires (λ c. search needs) (λ c. search needs) (λ c. search needs)
+    (λ c. search needs) (λ c. search needs) (λ c. search needs) (λ c. search needs) (λ c. search needs) returns-2)
