@@ -74,8 +74,13 @@ impl Call {
 
     /// The answers that the specification has for this call.
     pub fn answers(place: usize) -> &'static [u32] {
-        const ANSWERS: [&[u32]; 5] =
-            [&[0, 1, 2, 3, 4, 5, 7], &[0, 1, 2, 3, 4, 5, 6, 7, 13], &[0, 7], &[0, 4, 5, 7, 8, 9, 10, 13], &[0, 4, 6, 7]];
+        const ANSWERS: [&[u32]; 5] = [
+            &[0, 1, 2, 3, 4, 5, 7],
+            &[0, 1, 2, 3, 4, 5, 6, 7, 13],
+            &[0, 7],
+            &[0, 4, 5, 7, 8, 9, 10, 13],
+            &[0, 4, 6, 7],
+        ];
         ANSWERS[place]
     }
 }

@@ -264,19 +264,8 @@ pub fn mark(call: Call<'_>, marks: &mut [u8], work: &mut [u32]) -> Result<Outcom
         }
         marks[v] = 1;
     }
-    let mut machine = Machine {
-        offsets,
-        targets,
-        batch,
-        cutoff,
-        marks,
-        carried: all[0].carried.into(),
-        workers: all,
-        followed: 0,
-        handed: 0,
-        refused: 0,
-        moved: 0,
-    };
+    let mut machine =
+        Machine { offsets, targets, batch, cutoff, marks, workers: all, followed: 0, handed: 0, refused: 0, moved: 0 };
     for entry in schedule.chunks_exact(2) {
         if machine.turn(entry[0] as usize, entry[1] as usize) {
             machine.moved += 1;
@@ -372,9 +361,9 @@ mod tests {
 
     #[test]
     fn starts() {
-        assert_eq!(run_from(&[3, 0, 5], &OFFSETS, &TARGETS, [2, 1, 1], &[]), [0, 3, 0, 0, 0, 0]);
-        assert_eq!(run_from(&[5, 0, 5, 0, 0], &OFFSETS, &TARGETS, [1, 1, 1], &[]), [0, 2, 0, 0, 0, 0]);
-        assert_eq!(run_from(&[4, 4], &OFFSETS, &TARGETS, [2, 1, 1], &[0, 1]), [1, 1, 0, 0, 0, 2]);
-        assert_eq!(run_from(&[0, 5], &OFFSETS, &TARGETS, [1, 6, 1], &[0; 13]), [1, 6, 6, 0, 0, 13]);
+        assert_eq!(run_from(&[3, 0, 5], &OFFSETS, &TARGETS, [2, 1, 1], &[]), [0, 3, 0, 0, 0, 0, 1]);
+        assert_eq!(run_from(&[5, 0, 5, 0, 0], &OFFSETS, &TARGETS, [1, 1, 1], &[]), [0, 2, 0, 0, 0, 0, 1]);
+        assert_eq!(run_from(&[4, 4], &OFFSETS, &TARGETS, [2, 1, 1], &[0, 1]), [1, 1, 0, 0, 0, 2, 0]);
+        assert_eq!(run_from(&[0, 5], &OFFSETS, &TARGETS, [1, 6, 1], &[0; 13]), [1, 6, 6, 0, 0, 13, 0]);
     }
 }
