@@ -9,8 +9,9 @@ SAMPLE = case.load_text(TOP / "samples" / "a.txt")
 LARGEST = 1 << 40
 
 
-def store(sizes, references=(), index=0):
-    return case.store_bytes(case.Case(index=index, sizes=list(sizes), references=list(references)))
+def store(sizes, references=(), index=0, leases=()):
+    made = case.Case(index=index, sizes=list(sizes), references=list(references), leases=list(leases))
+    return case.store_bytes(made)
 
 
 def order(workers, batch, cutoff, turns=()):
@@ -28,7 +29,7 @@ NO_TURNS = order(1, 1, 1)
 A = asking_0(0, 1, 0, 0, 0, 1, 1, 0, 1, 0, 0, 0, 1, 0, 1, 1, 0, 1)
 LONE = order(1, 2, 1, asking_0(*[0] * 12))
 SHARED = asking_0(0, 1, 0, 0, 0, 0, 0, 0, 1, 0, 0)
-LONG_STORE, LONG_ORDER = bytes(60017), bytes(65537)
+LONG_STORE, LONG_ORDER = bytes(62065), bytes(65537)
 
 
 def written(at, form, *values, length=160):
@@ -197,7 +198,8 @@ def target(reference):
 
 MOST = [LARGEST] * 1001
 SIZES = [1000 + 7 * v for v in range(1000)]
-FULL = store(SIZES, [(e % 1000, target(e)) for e in range(4000)])
+# The leases name the index, which adds nothing.
+FULL = store(SIZES, [(e % 1000, target(e)) for e in range(4000)], leases=[0] * 256)
 ROUNDS = order(4, 4, 2, [(i % 4, i // 4 % 4) for i in range(32766)])
 TO_ITSELF = order(1, 65535, 1, asking_0(*[0] * 4002))
 
@@ -212,17 +214,24 @@ LARGE = [
     ("4000 references", store([5], [(0, 0)] * 4000), TO_ITSELF, told("finished", 1, 4000, 0, 0, 4002, 0)),
     ("4001 references", store([5], [(0, 0)] * 4001), TO_ITSELF, 11),
     (
-        "60016 and 65535 bytes",
+        "62064 and 65535 bytes",
         FULL,
         ROUNDS[:65535],
         told("finished", 990, 3960, 10, 2, 5976, 0, dead=[(v, SIZES[v]) for v in range(99, 1000, 100)]),
     ),
-    ("60016 and 4005 bytes", FULL, ROUNDS[:4005], told("unfinished", 677, 1028, 3, 0, 1973, 4)),
-    ("60017 and 65535 bytes", FULL + b"\0", ROUNDS[:65535], 11),
-    ("60016 and 65536 bytes", FULL, ROUNDS[:65536], 9),
-    ("60016 and 65537 bytes", FULL, ROUNDS, 11),
-    ("60017 and 4 bytes", FULL + b"\0", ROUNDS[:4], 12),
-    ("60016 bytes of a longer store.cat", FULL + bytes(60000), ROUNDS[:65535], 11),
+    ("62064 and 4005 bytes", FULL, ROUNDS[:4005], told("unfinished", 677, 1028, 3, 0, 1973, 4)),
+    ("62065 and 65535 bytes", FULL + b"\0", ROUNDS[:65535], 11),
+    ("62064 and 65536 bytes", FULL, ROUNDS[:65536], 9),
+    ("62064 and 65537 bytes", FULL, ROUNDS, 11),
+    ("62065 and 4 bytes", FULL + b"\0", ROUNDS[:4], 12),
+    ("62064 bytes of a longer store.cat", FULL + bytes(60000), ROUNDS[:65535], 11),
+    # Two objects that nothing refers to, one of them with a lease: its own references are followed too.
+    (
+        "a lease holds what hangs on it",
+        store([1, 2, 4, 8], [(0, 1), (2, 1), (2, 2)], leases=[2]),
+        order(1, 4, 4, asking_0(*[0] * 22)),
+        told("finished", 3, 3, 0, 0, 6, 0, dead=[(3, 8)]),
+    ),
     ("65536 bytes of a longer order.run", FULL, ROUNDS + bytes(60000), 11),
 ]
 
@@ -242,7 +251,7 @@ class Cases(test_program.Folder):
                 self.assertEqual(self.run_program(), text)
 
     def test_lengths(self):
-        self.assertEqual((len(S), len(FULL), len(ROUNDS)), (160, 60016, 65537))
+        self.assertEqual((len(S), len(FULL), len(ROUNDS)), (160, 62064, 65537))
 
     def test_drawings(self):
         self.check(DRAWINGS)

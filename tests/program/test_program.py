@@ -85,9 +85,9 @@ class Program(Folder):
             (self.folder / name).chmod(0o644)
 
     def test_limits(self):
-        self.write("store.cat", self.store + bytes(60016 - len(self.store)))
+        self.write("store.cat", self.store + bytes(62064 - len(self.store)))
         self.assertEqual(self.run_program(), "refusal 2\n")
-        self.write("store.cat", self.store + bytes(60017 - len(self.store)))
+        self.write("store.cat", self.store + bytes(62065 - len(self.store)))
         self.assertEqual(self.run_program(), "refusal 11\n")
         self.write("store.cat", self.store)
         self.write("order.run", self.order + bytes(65536 - len(self.order)))

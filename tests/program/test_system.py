@@ -11,7 +11,7 @@ import unittest
 from test_program import FILES, Folder
 
 WHOLE = "finished\nlive 4\nfollowed 5\nhanded 1\nrefused 0\nmoved 18\ncarrying 0\ndead 4 500\ndead 5 600\nfreed 1100\n"
-LIMITS = {"store.cat": 60_016, "order.run": 65_536}
+LIMITS = {"store.cat": 62_064, "order.run": 65_536}
 
 # What is refused where a file is filled up with zeros to its limit.
 AT_LIMIT = {"store.cat": "refusal 2\n", "order.run": "refusal 9\n"}

@@ -1,7 +1,7 @@
 -- The reader's promise, demand 2 and the lines in one: what is printed as dead, by the catalogue alone.
 use mathlib.Core.Path.{_≡_, refl, sym, subst, _∙_}
 use mathlib.Core.Bool.{Bool, true, false}
-use mathlib.Core.List.{List, [], _∷_, append-nil}
+use mathlib.Core.List.{List, append-nil}
 use mathlib.Core.Logic.{_⊎_, inl, inr, _↔_}
 use Prim.Native.Nat.{ℕ, _*_, _≤_, _<_}
 use native.Mathlib.Omega.{arith}
@@ -10,7 +10,7 @@ use lib.Seq.{take-at}
 use Rattle.laws.specs.Words.{Bytes}
 use Rattle.laws.specs.Sum.{sum, hit}
 use Rattle.refusal.proofs.None.{first-none}
-use Rattle.catalogue.specs.Store.{Store, InRange, objects}
+use Rattle.catalogue.specs.Store.{Store, InRange, objects, startsOf}
 use Rattle.catalogue.specs.Reading.{catalogueFault, storeOf}
 use Rattle.catalogue.specs.Answer.{headerRow}
 use Rattle.catalogue.specs.ReadGraph.{readGraph}
@@ -45,7 +45,7 @@ module _ (b : List ℕ) (clear : catalogueFault b ≡ 0) (o : Order) (schedule :
   range : InRange s
   range = whole-range b (whole-bytes b clear)
 
-  finished-marks : result (final call) .finished ≡ true → FinishedMarks (readGraph s) (s .index ∷ []) (final call .marks)
+  finished-marks : result (final call) .finished ≡ true → FinishedMarks (readGraph s) (startsOf s) (final call .marks)
   finished-marks e =
       let f = first-none (orderFault o) _ fine in
       let free = passing-fault o (passing b clear) (first-none _ _ (f .0) .0) refl refl schedule ∙ f .1 in
@@ -60,11 +60,11 @@ module _ (b : List ℕ) (clear : catalogueFault b ≡ 0) (o : Order) (schedule :
 
   -- the dead are the objects to which no chain of the catalogue leads
   dead-are : result (final call) .finished ≡ true
-      → (v : ℕ) → (0 < sum (hit v) (dead (final call .marks))) ↔ ((v < objects s) × (Chain s (s .index ∷ []) v → ⊥))
+      → (v : ℕ) → (0 < sum (hit v) (dead (final call .marks))) ↔ ((v < objects s) × (Chain s (startsOf s) v → ⊥))
   dead-are e v =
       let d = dead-exactly (finished-marks e) v in
       let n = read-graph s range .n-is in
-      let c = chain-is-reach s range (s .index ∷ []) (range .index-below, tt) v in (
+      let c = chain-is-reach s range (startsOf s) (range .index-below, range .leases-below) v in (
         λ h. (let i = d .0 h .0 in omega arith, λ q. d .0 h .1 (c .0 q)),
         λ p. d .1 (let i = p .0 in omega arith, λ q. p .1 (c .1 q)),
       )

@@ -3,22 +3,23 @@
 use mathlib.Core.Path.{_≡_, refl, sym, ap, subst, _∙_}
 use mathlib.Core.Bool.{true}
 use mathlib.Core.List.{List, [], _∷_}
-use Prim.Native.Nat.{ℕ, zero, suc, _+_, _≤_, _<_}
+use Prim.Native.Nat.{ℕ, zero, suc, _+_, _-_, _≤_, _<_}
 use native.Mathlib.Omega.{arith}
-use lib.ListN.{length}
+use lib.ListN.{length, take, replicate, length-append}
+use lib.Seq.{take-append-seam}
 use borrow.Author.Tests.{lt-ltb, le-ltb, le-leb, eq-eqb}
 use Rattle.laws.specs.Every.{Every}
 use Rattle.refusal.specs.declared.Refusal.{Refusal}
 use Rattle.refusal.specs.Number.{number}
 use Rattle.refusal.proofs.Numbers.{numbered, first-found}
 use Rattle.graph.specs.Graph.{objects as graph-objects, allBelow}
-use Rattle.graph.specs.Limits.{most-objects, most-references, largest-size}
+use Rattle.graph.specs.Limits.{most-objects, most-references, largest-size, most-starts}
 use Rattle.catalogue.specs.declared.Found.{Found}
 use Rattle.catalogue.specs.declared.Found.the-variants.{Read, Refused}
-use Rattle.catalogue.specs.Store.{Store, InRange, objects, references, offsetsOf, targetsOf, start-words}
+use Rattle.catalogue.specs.Store.{Store, InRange, objects, references, offsetsOf, targetsOf, startsOf}
 use Rattle.catalogue.specs.Reading.{Reading, accepted, judged, reading, catalogueFault, storeOf}
 use Rattle.catalogue.specs.ReadGraph.{ReadGraph, readGraph}
-use Rattle.catalogue.specs.Answer.{ReadRow, foundRow, unread, lent, taken, readRow, offsetsAfter, targetsAfter, sizesAfter, Reads}
+use Rattle.catalogue.specs.Answer.{ReadRow, foundRow, unread, lent, taken, readRow, offsetsAfter, targetsAfter, sizesAfter, startsAfter, Reads}
 use Rattle.catalogue.proofs.Accepted.{whole-bytes, whole-range}
 use Rattle.catalogue.proofs.ReadGraph.{read-graph}
 use Rattle.sweep.specs.Sweep.{allFit}
@@ -32,9 +33,13 @@ unfolding allFit
 every-fits [] h = refl
 every-fits (x ∷ l) h = rw (le-leb x largest-size (h .0)) (every-fits l (h .1))
 
+every-below : (n : ℕ) (l : List ℕ) → Every (λ (x : ℕ). x < n) l → allBelow n l ≡ true
+unfolding allBelow
+every-below n [] h = refl
+every-below n (x ∷ l) h = rw (lt-ltb x n (h .0)) (every-below n l (h .1))
+
 -- a store that was read passes
 pub passing : (b : List ℕ) → catalogueFault b ≡ 0 → Passing (contentsOf (storeOf b))
-unfolding allBelow
 passing b z =
     let range : InRange (storeOf b) = whole-range b (whole-bytes b z) in
     let g : ReadGraph (storeOf b) (readGraph (storeOf b)) = read-graph (storeOf b) range in
@@ -46,8 +51,12 @@ passing b z =
             le-ltb most-references (length (targetsOf (storeOf b))) (omega arith),
           );
       formed = rw (g .passes);
-      some-starts = refl;
-      starts-below = rw (lt-ltb (storeOf b .index) (graph-objects (readGraph (storeOf b))) (omega arith));
+      some-starts =
+          rw (
+            le-ltb (length (startsOf (storeOf b))) 1 (omega arith),
+            le-ltb most-starts (length (startsOf (storeOf b))) (omega (arith, range .few-leases)),
+          );
+      starts-below = rw (g .n-is, every-below (objects (storeOf b)) (startsOf (storeOf b)) (range .index-below, range .leases-below));
       objects-are = g .n-is;
       some = range .some;
       sizes-fit = every-fits (storeOf b .sizes) (range .sizes-small);
@@ -58,8 +67,8 @@ row-refused : (k f : ℕ) (s : Store) → 0 < k → unread k ≡ readRow (judged
 row-refused k zero s h e = let z = ap (λ (r : ReadRow). r .refusal) e in absurd (omega arith)
 row-refused k (suc f) s h e = ap (λ (r : ReadRow). r .refusal) e
 
-row-read : {n m i c : ℕ} (f : ℕ) (s : Store) → foundRow (Read n m i c) ≡ readRow (judged f s) → (f ≡ 0) × (i ≡ s .index)
-row-read zero s e = (refl, ap (λ (x : ReadRow). x .index) e)
+row-read : {n m i c : ℕ} (f : ℕ) (s : Store) → foundRow (Read n m i c) ≡ readRow (judged f s) → (f ≡ 0) × (c ≡ length (startsOf s))
+row-read zero s e = (refl, ap (λ (x : ReadRow). x .starts) e)
 row-read (suc f) s e = let q = ap (λ (x : ReadRow). x .refusal) e in absurd (omega arith)
 
 module _ {b order o t s w : List ℕ} {l : Lent} (ready : Readable b order o t s w l) where
@@ -69,7 +78,7 @@ module _ {b order o t s w : List ℕ} {l : Lent} (ready : Readable b order o t s
         eq-eqb (length o) (objects (storeOf b) + 1) (ready .all-offsets),
         eq-eqb (length t) (references (storeOf b)) (ready .all-targets),
         eq-eqb (length s) (objects (storeOf b)) (ready .all-sizes),
-        eq-eqb (length w) start-words (ready .all-starts),
+        eq-eqb (length w) most-starts (ready .all-starts),
       )
   taken-by (suc k) = refl
 
@@ -87,23 +96,29 @@ module _ {b order o t s w : List ℕ} {l : Lent} (ready : Readable b order o t s
         (first-found r (catalogueFault b) _ f)
 
     module _ {n m i c : ℕ} (e : a ≡ Read n m i c) where
-      clean : (catalogueFault b ≡ 0) × (i ≡ storeOf b .index)
+      clean : (catalogueFault b ≡ 0) × (c ≡ length (startsOf (storeOf b)))
       clean = row-read (catalogueFault b) (storeOf b) (ap foundRow (sym e) ∙ d .returned ∙ ap readRow taken-is)
 
       whole : taken b o t s w ≡ accepted (storeOf b)
       whole = taken-is ∙ ap (λ (k : ℕ). judged k (storeOf b)) (clean .0)
 
-      same : contents o′ t′ s′ (i ∷ []) ≡ contentsOf (storeOf b)
+      same : contents o′ t′ s′ (take c w′) ≡ contentsOf (storeOf b)
       same =
           let eo = d .offsets-are ∙ ap (λ (x : Reading). offsetsAfter x o) whole in
           let et = d .targets-are ∙ ap (λ (x : Reading). targetsAfter x t) whole in
           let es = d .sizes-are ∙ ap (λ (x : Reading). sizesAfter x s) whole in
-          rw (eo, et, es, clean .1)
+          let ew = d .starts-are ∙ ap (λ (x : Reading). startsAfter x w) whole in
+          rw (eo, et, es, ew, clean .1, take-append-seam (startsOf (storeOf b)) (replicate (most-starts - length (startsOf (storeOf b))) 0))
 
-      pub due-read : orderText (contents o′ t′ s′ (i ∷ [])) order ≡ laterText b order
+      pub starts-fit : c ≤ length w′
+      starts-fit =
+          let ew = d .starts-are ∙ ap (λ (x : Reading). startsAfter x w) whole in
+          rw (ew, clean .1, length-append) (omega arith)
+
+      pub due-read : orderText (contents o′ t′ s′ (take c w′)) order ≡ laterText b order
       due-read = ap (λ (x : Contents). orderText x order) same ∙ rw (clean .0)
 
-      pub orderly : Orderly (contents o′ t′ s′ (i ∷ [])) order l
+      pub orderly : Orderly (contents o′ t′ s′ (take c w′)) order l
       orderly =
           let n : length s′ ≡ length s = ap (λ (x : Contents). length (x .sizes)) same ∙ sym (ready .all-sizes) in
           let f = ready .fitting in

@@ -1,14 +1,14 @@
 -- What the program prints, computed from the bytes of both files: SPECIFICATION 7's listing, an unfinished collection,
 -- and the drawings K and L.
 use mathlib.Core.Path.{_≡_, refl}
-use mathlib.Core.List.{List, [], _∷_, map}
+use mathlib.Core.List.{List, [], _∷_, _++_, map}
 use Prim.Native.Nat.{ℕ}
 use lib.ListN.{take}
 use Rattle.laws.specs.Words.{word}
 use Rattle.laws.specs.Sum.{sum, hit}
 use Rattle.laws.specs.Grouping.{starts, below, under, grouped, part}
 use Rattle.graph.specs.Chain.{marksAt}
-use Rattle.catalogue.specs.Examples.{bytesOfS}
+use Rattle.catalogue.specs.Examples.{bytesOfS, bytesOfLeased}
 use Rattle.catalogue.specs.Answer.{headerRow}
 use Rattle.catalogue.specs.Reading.{catalogueFault, faults, leaseFaults, recordFault, storeOf, records}
 use Rattle.machine.specs.Drawings.{turnsA, naming0}
@@ -29,18 +29,21 @@ readWhole store order = files Whole store Whole order
 abbrev pub ordering : List ℕ → List ℕ
 ordering schedule = 2 ∷ 1 ∷ 0 ∷ 1 ∷ 0 ∷ schedule
 
--- store S with the turns of A, with its first five, and with an entry for worker 2; an empty catalogue
+-- store S with the turns of A, with its first five, and with an entry for worker 2; an empty catalogue; S with leases for 5
+-- and 0, by which all of it lives, and the turns of A twice
 pub listings :
     map programText
     (readWhole bytesOfS (ordering turnsA)
     ∷ readWhole bytesOfS (ordering (take 10 turnsA))
     ∷ readWhole bytesOfS (ordering (naming0 (2 ∷ [])))
     ∷ readWhole [] (ordering turnsA)
+    ∷ readWhole bytesOfLeased (ordering (turnsA ++ turnsA))
     ∷ [])
     ≡ codes "finished\nlive 4\nfollowed 5\nhanded 1\nrefused 0\nmoved 18\ncarrying 0\ndead 4 500\ndead 5 600\nfreed 1100\n"
     ∷ codes "unfinished\nlive 2\nfollowed 1\nhanded 1\nrefused 0\nmoved 5\ncarrying 2\n"
     ∷ codes "refusal 9\n"
     ∷ codes "refusal 1\n"
+    ∷ codes "finished\nlive 6\nfollowed 6\nhanded 2\nrefused 0\nmoved 22\ncarrying 0\nfreed 0\n"
     ∷ []
 unfolding turnsA naming0 word sum hit starts below under grouped part marksAt headerRow catalogueFault faults leaseFaults recordFault storeOf records turns start startRuns entries allEnded live carried keep rest scheduleFits deadFrom sizesOf digitsIn decimal countLines deadLines
 listings = refl

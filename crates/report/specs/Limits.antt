@@ -3,7 +3,7 @@ use Prim.Native.Nat.{ℕ, _+_, _*_}
 
 -- bytes of `store.cat`
 abbrev pub most-store-bytes : ℕ
-most-store-bytes = 60016
+most-store-bytes = 62064
 
 -- bytes of `order.run`
 abbrev pub most-order-bytes : ℕ

@@ -1,12 +1,13 @@
 -- From the bytes of the two files to the text: a finished collection prints as dead exactly the objects to which no chain of
--- the catalogue's own references leads from its index. It is in the contract of `report::answer`, for any two files.
+-- the catalogue's own references leads from one of its starts, the index and the leases. It is in the contract of
+-- `report::answer`, for any two files.
 use mathlib.Core.Path.{_≡_}
 use mathlib.Core.Bool.{true, false}
-use mathlib.Core.List.{List, [], _∷_, _++_}
+use mathlib.Core.List.{List, _++_}
 use mathlib.Core.Logic.{_⊎_, _↔_}
 use Prim.Native.Nat.{ℕ, _<_}
 use Rattle.laws.specs.Sum.{sum, hit}
-use Rattle.catalogue.specs.Store.{Store, objects}
+use Rattle.catalogue.specs.Store.{Store, objects, startsOf}
 use Rattle.catalogue.specs.Acceptance.{Lays}
 use Rattle.catalogue.specs.Chain.{Chain}
 use Rattle.machine.specs.declared.Counts.{Counts}
@@ -20,7 +21,7 @@ pub record FinishedText (s : Store) (text : List ℕ) : Type 0 where
   pub counts : Counts
   pub numbers : List ℕ
   pub upwards : UpwardsFrom 0 numbers
-  pub exactly : (v : ℕ) → (0 < sum (hit v) numbers) ↔ ((v < objects s) × (Chain s (s .index ∷ []) v → ⊥))
+  pub exactly : (v : ℕ) → (0 < sum (hit v) numbers) ↔ ((v < objects s) × (Chain s (startsOf s) v → ⊥))
   pub lines-are : text ≡ countLines true counts ++ (deadLines (s .sizes) numbers ++ freedLine (sizesOf (s .sizes) numbers))
 
 -- an unfinished one: the counts and nothing more

@@ -1,14 +1,14 @@
 -- SPECIFICATION 7: from the two files to what is printed.
 use Prim.Native.Nat.{ℕ, zero, suc}
 use mathlib.Core.Bool.{Bool, true, false, _||_}
-use mathlib.Core.List.{List, [], _∷_, _++_}
+use mathlib.Core.List.{List, [], _++_}
 use lib.ListN.{length, drop}
 use lib.Dec.{ltb}
 use Rattle.laws.specs.Words.{word}
 use Rattle.refusal.specs.declared.Refusal.the-variants.{Large, File}
 use Rattle.refusal.specs.Number.{number}
 use Rattle.refusal.specs.Order.{raise, first}
-use Rattle.catalogue.specs.Store.{Store, offsetsOf, targetsOf}
+use Rattle.catalogue.specs.Store.{Store, offsetsOf, targetsOf, startsOf}
 use Rattle.catalogue.specs.Answer.{headerRow}
 use Rattle.catalogue.specs.Reading.{catalogueFault, storeOf}
 use Rattle.machine.specs.Row.{Row}
@@ -105,7 +105,7 @@ contents offsets targets sizes starts = record { offsets = offsets; targets = ta
 
 -- what is left of this store
 abbrev pub contentsOf : Store → Contents
-contentsOf s = contents (offsetsOf s) (targetsOf s) (s .sizes) (s .index ∷ [])
+contentsOf s = contents (offsetsOf s) (targetsOf s) (s .sizes) (startsOf s)
 
 -- the marker's call on it
 abbrev pub callOf : Contents → Order → List ℕ → Call

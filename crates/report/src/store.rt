@@ -66,18 +66,18 @@ pub fn put_store(
     let Found::Read {
         n: _,
         m: _,
-        index,
-        starts: _,
+        index: _,
+        starts: count,
     } = found
     else {
         return lines::put_refusal(out, 0, catalogue::fault_of(found));
     };
-    let starts = [index];
+    let end = count as usize;
     put_ordered(
         offsets,
         targets,
         sizes,
-        &starts,
+        &starts[..end],
         order,
         marks,
         work,

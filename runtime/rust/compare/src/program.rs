@@ -18,7 +18,7 @@ fn store_file(rng: &mut Rng) -> Vec<u8> {
     let sizes = store::sizes(rng, n);
     let mut bytes = store::bytes(&drawn.records(&sizes));
     if rng.once_in(3) {
-        bytes.resize(rng.pick(&[60_016, 60_017, 60_100]), 0);
+        bytes.resize(rng.pick(&[62_064, 62_065, 62_100]), 0);
     }
     bytes
 }

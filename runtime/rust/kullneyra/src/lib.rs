@@ -34,13 +34,14 @@
 //!
 //! let (mut offsets, mut targets, mut sizes, mut starts) = ([0; 3], [0; 1], [0; 2], [0; STARTS]);
 //! let store = read(&catalogue, &mut offsets, &mut targets, &mut sizes, &mut starts)?;
-//! assert_eq!(starts[..store.starts as usize], [0]);
+//! let starts = &starts[..store.starts as usize];
+//! assert_eq!(starts, [0]);
 //! assert_eq!(references(&offsets, &targets, 0), [0]);
 //!
 //! let settings = Settings { workers: 1, batch: 64, cutoff: 64 };
 //! let turns = [Turn { worker: 0, asked: 0 }; 3];
 //! let (mut marks, mut work) = ([0; 2], [0; work_words(2, 1)]);
-//! let marked = mark(&offsets, &targets, &[head.index], settings, Schedule::new(&turns), &mut marks, &mut work)?;
+//! let marked = mark(&offsets, &targets, starts, settings, Schedule::new(&turns), &mut marks, &mut work)?;
 //! assert!(marked.finished);
 //!
 //! let mut list = [0; 2];

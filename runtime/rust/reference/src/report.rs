@@ -3,7 +3,7 @@
 use crate::{header, mark, read, sweep, Call, STARTS};
 use std::fmt::Write;
 
-const MOST_STORE_BYTES: usize = 60_016;
+const MOST_STORE_BYTES: usize = 62_064;
 const MOST_ORDER_BYTES: usize = 65_536;
 const MOST_OBJECTS: u32 = 1_000;
 const MOST_REFERENCES: u32 = 4_000;
@@ -27,7 +27,8 @@ fn collection(store: &[u8], order: &[u8]) -> Result<String, u8> {
     }
     let (n, m) = (head.n as usize, head.m as usize);
     let (mut offsets, mut targets, mut sizes) = (vec![0; n + 1], vec![0; m], vec![0; n]);
-    read(store, &mut offsets, &mut targets, &mut sizes, &mut [0; STARTS])?;
+    let mut starts = [0; STARTS];
+    let count = read(store, &mut offsets, &mut targets, &mut sizes, &mut starts)?.starts;
     let (workers, batch, cutoff) = (u32::from(order[0]), number(&order[1..]), number(&order[3..]));
     let settings = [(workers, 16), (batch, 65_535), (cutoff, 65_535)];
     if settings.iter().any(|&(setting, most)| setting < 1 || setting > most) {
@@ -38,7 +39,8 @@ fn collection(store: &[u8], order: &[u8]) -> Result<String, u8> {
     }
     let (mut marks, mut work) = (vec![0; n], vec![0; workers as usize * (2 * n + 4)]);
     let schedule = &order[5..];
-    let call = Call { offsets: &offsets, targets: &targets, starts: &[head.index], workers, batch, cutoff, schedule };
+    let starts = &starts[..count as usize];
+    let call = Call { offsets: &offsets, targets: &targets, starts, workers, batch, cutoff, schedule };
     let outcome = mark(call, &mut marks, &mut work)?;
     let mut text = if outcome.finished { "finished\n" } else { "unfinished\n" }.to_string();
     let counts = [

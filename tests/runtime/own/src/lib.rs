@@ -32,11 +32,12 @@ pub fn dead(catalogue: &[u8]) -> Result<Vec<u32>, Box<dyn Error>> {
     let (n, m) = (head.objects as usize, head.references as usize);
     let (mut offsets, mut targets, mut sizes) = (vec![0; n + 1], vec![0; m], vec![0; n]);
     let mut starts = [0; STARTS];
-    read(catalogue, &mut offsets, &mut targets, &mut sizes, &mut starts)?;
+    let store = read(catalogue, &mut offsets, &mut targets, &mut sizes, &mut starts)?;
+    let starts = &starts[..store.starts as usize];
     let settings = Settings { workers: 1, batch: 64, cutoff: 64 };
     let turns = vec![Turn { worker: 0, asked: 0 }; 7 * m + 1];
     let (mut marks, mut work) = (vec![0; n], vec![0; work_words(n, 1)]);
-    let marked = mark(&offsets, &targets, &[head.index], settings, Schedule::new(&turns), &mut marks, &mut work)?;
+    let marked = mark(&offsets, &targets, starts, settings, Schedule::new(&turns), &mut marks, &mut work)?;
     assert!(marked.finished);
     let mut list = vec![0; n];
     let swept = sweep(&marks, &sizes, &mut list)?;

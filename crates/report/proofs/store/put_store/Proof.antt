@@ -1,6 +1,8 @@
 -- The reader's answer decides; what it read passes every later check of it.
+use mathlib.Core.Path.{sym}
+use lib.Seq.{length-take-le}
 use Rattle.text.proofs.Written.{as-text}
-use Rattle.report.proofs.Reading.{due-catalogue, due-read, orderly}
+use Rattle.report.proofs.Reading.{due-catalogue, due-read, starts-fit, orderly}
 use borrow.Author.Needs.{needs}
 use Rattle.report.proofs.store.put_store.Statement.{statement}
 use Rattle.report.proofs.store.put_store.Tie as tie
@@ -25,6 +27,16 @@ returns c =
     as-text (due-catalogue (entry r .pre) (r .read .ensures .0) (at-told .enum-told .given .1) (at-refusal .before .fault-of .ensures))
     (at-refusal .put-refusal .ensures .put)
 
+-- the starts are the first words of their buffer
+slice-reshare-prefix-put-ordered : tie.Need-slice-reshare-prefix-put-ordered
+slice-reshare-prefix-put-ordered c =
+    let at-found = c .before .before .before .before in
+    let r = at-read (at-found .before .before) in
+    starts-fit (entry r .pre) (r .read .ensures .0) (at-found .found .given .1)
+
+slice-aggregate-put-ordered : tie.Need-slice-aggregate-put-ordered
+slice-aggregate-put-ordered c = sym (length-take-le _ _ (slice-reshare-prefix-put-ordered (c .before)))
+
 put-ordered-requires : tie.Need-put-ordered-requires
 put-ordered-requires c κs =
     let at-found = c .before .before .before .before .before .before .before .before .before in
@@ -43,5 +55,5 @@ put-store-spec =
     tie.close
     (tie.spec (λ c κs. search needs) (λ c. search needs) (λ c. search needs) (λ c κs. search needs)
     (λ c κs. search needs) (λ c. search needs) (λ c. search needs) (λ c. search needs) (λ c. search needs)
-    (λ c. search needs) returns put-ordered-requires (λ c. search needs) (λ c. search needs) (λ c. search needs)
-    (λ c. search needs) (λ c. search needs) (λ c. search needs) (λ c. search needs) (λ c. search needs) returns-2)
+    (λ c. search needs) returns (λ c. search needs) slice-reshare-prefix-put-ordered slice-aggregate-put-ordered put-ordered-requires (λ c. search needs) (λ c. search needs)
+    (λ c. search needs) (λ c. search needs) (λ c. search needs) (λ c. search needs) (λ c. search needs) (λ c. search needs) returns-2)
