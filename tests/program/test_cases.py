@@ -1,6 +1,7 @@
 """The program on many pairs of files: what it prints, which number it refuses with, and which fault it tells first."""
 
 import struct
+from dataclasses import replace
 
 import test_program
 from test_program import TOP, case
@@ -236,6 +237,15 @@ LARGE = [
 ]
 
 
+DOWNLOAD = case.load_text(TOP / "samples" / "download.txt")
+KEPT = [(6, 700)]
+LOST = [(3, 400), (4, 5000), (5, 6000), (6, 700)]
+IN_PROGRESS = [
+    ("a lease keeps a download", DOWNLOAD, told("finished", 6, 4, 1, 1, 18, 0, dead=KEPT)),
+    ("without it the download is dead", replace(DOWNLOAD, leases=[]), told("finished", 3, 2, 0, 2, 12, 0, dead=LOST)),
+]
+
+
 class Cases(test_program.Folder):
     def put(self, name, data):
         (self.folder / name).unlink(missing_ok=True)
@@ -272,6 +282,9 @@ class Cases(test_program.Folder):
 
     def test_first_of_several(self):
         self.check(SEVERAL)
+
+    def test_download_in_progress(self):
+        self.check([(name, case.store_bytes(one), case.order_bytes(one), text) for name, one, text in IN_PROGRESS])
 
     def test_large(self):
         self.check(LARGE)
