@@ -3,6 +3,8 @@
 
     case.py make CASE.txt FOLDER    writes FOLDER/store.cat and FOLDER/order.run
     case.py show FOLDER             prints the case that the two files hold
+    case.py show FOLDER --marks M   the same, with who claimed each object: M holds the marks that a
+                                    marking of the case left, a byte for each object
 
 A case is lines of words. '#' begins a comment, blank lines are skipped.
 
@@ -163,10 +165,26 @@ def read(store: bytes, order: bytes) -> Case:
     return case
 
 
-def show(case: Case) -> str:
-    """The case as text, which `parse` reads back."""
+def owner(starts: set[int], number: int, mark: int) -> str:
+    """Who claimed an object, by its mark; that of a start is 1, as of what box 0 claimed."""
+    if mark == 0:
+        return "nobody"
+    return "start" if mark == 1 and number in starts else f"box {mark - 1}"
+
+
+def owners(case: Case, marks: bytes) -> list[str]:
+    """Who claimed each object."""
+    if len(marks) != len(case.sizes):
+        raise Fault(f"{len(marks)} marks for {len(case.sizes)} objects")
+    starts = {case.index, *case.leases}
+    return [owner(starts, number, mark) for number, mark in enumerate(marks)]
+
+
+def show(case: Case, marks: Optional[bytes] = None) -> str:
+    """The case as text, which `parse` reads back; owners are comments."""
+    names = [""] * len(case.sizes) if marks is None else [f" # {name}" for name in owners(case, marks)]
     lines = [f"index {case.index}"]
-    lines += [f"object {size}" for size in case.sizes]
+    lines += [f"object {size}{name}" for size, name in zip(case.sizes, names)]
     lines += [f"reference {a} {b}" for a, b in case.references]
     lines += [f"lease {lease}" for lease in case.leases]
     lines += [f"{name} {case.settings[name]}" for name in SETTINGS]
@@ -207,6 +225,7 @@ def arguments(words: list[str]) -> argparse.Namespace:
     make.add_argument("folder", type=Path, metavar="FOLDER")
     shown = commands.add_parser("show", help="prints the case that the two files hold")
     shown.add_argument("folder", type=Path, metavar="FOLDER")
+    shown.add_argument("--marks", type=Path, metavar="M", help="the marks that a marking of the case left")
     return parser.parse_args(words)
 
 
@@ -216,7 +235,8 @@ def main(words: list[str]) -> int:
         if chosen.command == "make":
             save(load_text(chosen.case), chosen.folder)
         else:
-            sys.stdout.write(show(load(chosen.folder)))
+            marks = chosen.marks.read_bytes() if chosen.marks else None
+            sys.stdout.write(show(load(chosen.folder), marks))
     except (Fault, OSError, UnicodeDecodeError) as fault:
         sys.stderr.write(f"case.py: {fault}\n")
         return 1

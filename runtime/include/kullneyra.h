@@ -129,7 +129,8 @@ uint32_t kullneyra_references(const uint32_t *offsets, size_t offsets_len, const
 
 /* Marks what the starts reach, by the turns of the schedule: two bytes for each, the worker and whom it
  * asks. The starts are the index and then the leases; a repeated one adds nothing. Only when the
- * collection is finished are the objects with mark 0 unreachable. */
+ * collection is finished are the objects with mark 0 unreachable. A mark tells who claimed the object:
+ * b + 1 for worker b; a start has mark 1. */
 uint32_t kullneyra_mark(const uint32_t *offsets, size_t offsets_len, const uint32_t *targets, size_t targets_len,
                         const uint32_t *starts, size_t starts_len, uint32_t workers, uint32_t batch,
                         uint32_t cutoff, const uint8_t *schedule, size_t schedule_len, uint8_t *marks,

@@ -119,6 +119,8 @@ int main(void) {
              marked);
     expect("mark, finished", 1, marked.finished);
     expect("mark, live", 1, marked.live);
+    expect("mark, the index's mark", 1, marks[0]);
+    expect("mark, nobody's mark", 0, marks[1]);
     expect("mark, followed", 1, marked.followed);
     expect("mark, handed", 0, marked.handed);
     expect("mark, refused", 0, marked.refused);

@@ -55,6 +55,16 @@ class Cases(unittest.TestCase):
             self.assertEqual(back, made)
             self.assertEqual(case.parse(case.show(made)), made)
 
+    def test_owners(self):
+        sample = case.load_text(SAMPLE)
+        shown = case.show(sample, bytes([1, 1, 1, 2, 0, 0]))
+        told = [line.split("# ")[1] for line in shown.splitlines() if line.startswith("object")]
+        self.assertEqual(told, ["start", "box 0", "box 0", "box 1", "nobody", "nobody"])
+        self.assertEqual(case.parse(shown), sample)
+        for count in (0, 5, 7):
+            with self.assertRaises(case.Fault):
+                case.show(sample, bytes(count))
+
     def test_refused_texts(self):
         good = case.show(case.load_text(SAMPLE))
         for line in ("object -1", "object", "object x", "reference 1", "lease", "lease 1 2", "turn 256 0", "batch 1", "boxes 2", "index 0", "turns 0 1", "word 1"):
@@ -88,6 +98,14 @@ class Cases(unittest.TestCase):
             shown = self.command("show", folder)
             self.assertEqual((shown.returncode, shown.stderr), (0, ""))
             self.assertEqual(case.parse(shown.stdout), case.load_text(SAMPLE))
+            marks = Path(work) / "marks"
+            marks.write_bytes(bytes([1, 16, 0, 0, 0, 0]))
+            shown = self.command("show", folder, "--marks", marks)
+            self.assertEqual((shown.returncode, shown.stderr), (0, ""))
+            self.assertIn("object 100 # start\nobject 200 # box 15\nobject 300 # nobody\n", shown.stdout)
+            marks.write_bytes(b"")
+            short = self.command("show", folder, "--marks", marks)
+            self.assertEqual((short.returncode, short.stdout, short.stderr), (1, "", "case.py: 0 marks for 6 objects\n"))
         missing = self.command("show", folder)
         self.assertEqual((missing.returncode, missing.stdout), (1, ""))
         self.assertTrue(missing.stderr.startswith("case.py: "))

@@ -2,6 +2,7 @@
 use mathlib.Core.Path.{_≡_, ap}
 use mathlib.Core.Bool.{true}
 use mathlib.Core.List.{List}
+use mathlib.Core.Logic.{_↔_}
 use Prim.Native.Nat.{ℕ}
 use lib.ListN.{take}
 use Rattle.laws.specs.Sum.{sum, hit}
@@ -11,7 +12,7 @@ use Rattle.graph.specs.Chain.{Reach, here, on}
 use Rattle.machine.specs.Machine.{Setting, State, Entry, ended, allEnded, result}
 use Rattle.machine.specs.Accepted.{Accepted}
 use Rattle.machine.specs.Sound.{Marked, runsSum, heldSum, Sound}
-use Rattle.machine.specs.Demand2.{outcome, Demand2}
+use Rattle.machine.specs.Demand2.{outcome, FinishedMarks, Demand2}
 use Rattle.machine.proofs.Ended.{ended-at}
 use Rattle.machine.proofs.Start.{sound, fresh}
 
@@ -37,3 +38,7 @@ demand2 A xs =
       live-marks = sound A xs .live-is;
       sums = λ k. sound A (take k xs) .total;
     }
+
+-- of the marks that a finished collection leaves
+pub marked-is : {G : Graph} {starts marks : List ℕ} (m : FinishedMarks G starts marks) (v : ℕ) → Marked marks v ↔ Reach G starts v
+marked-is m v = rw (m .marks-are) (demand2 (m .accepted) (m .turns) .marked-exactly (m .finished) v)

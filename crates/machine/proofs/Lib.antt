@@ -9,6 +9,7 @@ pub mod Kept
 pub mod Start
 pub mod Ended
 pub mod Demand2
+pub mod Owners
 pub mod Events
 pub mod Progress
 pub mod Demand3

@@ -4,6 +4,7 @@ use mathlib.Core.List.{List, [], _∷_, _++_, append-assoc, append-nil}
 use Prim.Native.Nat.{ℕ, zero, suc, _+_, _-_, _≤_, _<_}
 use native.Mathlib.Omega.{arith}
 use lib.ListN.{length, getD, set, take, replicate, length-set, length-append, length-replicate}
+use lib.Seq.{getD-set-other}
 use Rattle.laws.specs.Every.{Every}
 use Rattle.laws.specs.Sum.{sum, hit}
 use Rattle.laws.proofs.Every.{every-append}
@@ -43,6 +44,23 @@ none-marked : (n u : ℕ) → getD (replicate {A = ℕ} n 0) u 0 ≡ 0
 none-marked zero u = refl
 none-marked (suc n) zero = refl
 none-marked (suc n) (suc u) = none-marked n u
+
+-- from no marks on, none is above 1
+marks-at-limit : (W : ℕ) → 1 ≤ W → (vs : List ℕ) (n v : ℕ) → getD (marksAt vs (replicate n 0)) v 0 ≤ W
+marks-at-limit W w vs n =
+    marks-at (λ (l : List ℕ). (v : ℕ) → getD l v 0 ≤ W)
+    (λ (l : List ℕ) (v : ℕ) (h : (v : ℕ) → getD l v 0 ≤ W). each-set (λ (x : ℕ). x ≤ W) l v 1 0 h w)
+    vs
+    (replicate n 0)
+    (λ (v : ℕ). omega (arith, none-marked n v))
+
+-- an object that is not in the list keeps its mark
+marks-at-other : (vs ms : List ℕ) (u : ℕ) → sum (hit u) vs ≡ 0 → getD (marksAt vs ms) u 0 ≡ getD ms u 0
+unfolding marksAt sum
+marks-at-other [] ms u h = refl
+marks-at-other (v ∷ vs) ms u h =
+    marks-at-other vs (set ms v 1) u (omega arith)
+    ∙ getD-set-other ms v u 1 0 (λ (q : u ≡ v). omega (arith, hit-same u, ap (hit u) q))
 
 -- ---- the starts' runs
 
@@ -167,12 +185,7 @@ module _ {G : Graph} {starts : List ℕ} {W : ℕ} {g : Setting} (A : Accepted G
       record {
         marks-length = marks-long;
         workers-length = omega (arith, length-replicate (W - 1) idle, A .some-worker);
-        marks-limit =
-            marks-at (λ (l : List ℕ). (v : ℕ) → getD l v 0 ≤ W)
-            (λ (l : List ℕ) (v : ℕ) (h : (v : ℕ) → getD l v 0 ≤ W). each-set (λ (x : ℕ). x ≤ W) l v 1 0 h (A .some-worker))
-            starts
-            (unmarked G)
-            (λ (v : ℕ). omega (arith, none-marked (objects G) v));
+        marks-limit = marks-at-limit W (A .some-worker) starts (objects G);
         starts-marked = λ (v : ℕ) (h : 0 < sum (hit v) starts).
             starts-marked starts (unmarked G) v h (rw length-replicate (A .starts-below v h));
         live-is = refl;
@@ -216,6 +229,14 @@ module _ {G : Graph} {starts : List ℕ} {W : ℕ} {g : Setting} (A : Accepted G
 
   pub start-inside : Every (InTargets G) (startRuns G starts (unmarked G))
   start-inside = rw carried-first at (runs-limit A sound-start 0)
+  -- at the start a start's mark is 1, every other mark 0
+  pub start-mark : (v : ℕ) → 0 < sum (hit v) starts → getD (start G starts W .marks) v 0 ≡ 1
+  unfolding start
+  start-mark v h = omega (arith, sound-start .starts-marked v h, marks-at-limit 1 (omega arith) starts (objects G) v)
+
+  pub start-unmarked : (v : ℕ) → sum (hit v) starts ≡ 0 → getD (start G starts W .marks) v 0 ≡ 0
+  unfolding start
+  start-unmarked v h = marks-at-other starts (unmarked G) v h ∙ none-marked (objects G) v
 
   -- what is marked at the start is reachable, and nothing is followed yet
   pub fresh-start : Fresh G starts g (start G starts W) []

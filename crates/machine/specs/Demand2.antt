@@ -9,13 +9,23 @@ use lib.ListN.{take}
 use Rattle.graph.specs.Graph.{Graph, references}
 use Rattle.graph.specs.Chain.{Reach}
 use Rattle.graph.specs.Leaving.{leavingUnmarked}
-use Rattle.machine.specs.Machine.{Setting, State, Entry, start, turns, carriedAll, live}
+use Rattle.machine.specs.Machine.{Setting, State, Entry, start, turns, carriedAll, live, result}
 use Rattle.machine.specs.Row.{Row}
+use Rattle.machine.specs.Accepted.{Accepted}
 use Rattle.machine.specs.Sound.{Marked}
 
 -- what a call's turns leave
 abbrev pub outcome : Graph → List ℕ → ℕ → Setting → List Entry → State
 outcome G starts W g xs = turns G g (start G starts W) xs
+
+-- the marks are those that a finished collection of this graph leaves, under some W, setting and turns
+pub record FinishedMarks (G : Graph) (starts marks : List ℕ) : Type 0 where
+  pub workers : ℕ
+  pub setting : Setting
+  pub turns : List Entry
+  pub accepted : Accepted G starts workers setting
+  pub finished : result (outcome G starts workers setting turns) .finished ≡ true
+  pub marks-are : marks ≡ outcome G starts workers setting turns .marks
 
 pub record Demand2 (G : Graph) (starts : List ℕ) (W : ℕ) (g : Setting) (xs : List Entry) (r : Row) (marks : List ℕ) : Type 0 where
   -- finished: an object is marked if and only if a chain leads to it from a start

@@ -1,7 +1,7 @@
 -- The drawings A to J and L: one statement over one table, computed. (K is the reader's: `catalogue/specs/Examples`.)
 use mathlib.Core.Path.{_≡_, refl}
 use mathlib.Core.Bool.{Bool, true, false}
-use mathlib.Core.List.{List, [], _∷_, map}
+use mathlib.Core.List.{List, [], _∷_, _++_, map}
 use Prim.Native.Nat.{ℕ, _*_}
 use lib.ListN.{replicate}
 use Rattle.graph.specs.Graph.{Graph, objects, rising, allBelow, wellFormed}
@@ -9,7 +9,8 @@ use Rattle.graph.specs.Chain.{marksAt}
 use Rattle.machine.specs.Run.{carried, keep, rest}
 use Rattle.machine.specs.Machine.{turns, trail, start, startRuns, entries, allEnded, live, stretchLength}
 use Rattle.machine.specs.Row.{Row, refusedRow}
-use Rattle.machine.specs.Call.{Call, graphOf, settingOf, fault, scheduleFits, marking}
+use Rattle.machine.specs.Call.{Call, graphOf, settingOf, fault, scheduleFits, final, marking}
+use Rattle.machine.specs.Owners.{Win, claimsWon, claimsWonOf}
 
 -- a call, and the row that it must give
 pub record Drawing : Type 0 where
@@ -134,3 +135,35 @@ pub trails-hold :
     ∷ []
 unfolding drawnTrail drawings allEnded live startRuns carried marksAt keep rest
 trails-hold = refl
+
+-- who claimed what: case A, and with the same setting worker 0 alone until it ends, then a turn of the other
+unfoldable pub twoOrders : List Drawing
+unfolding turnsA naming0
+twoOrders =
+    drawing S 2 1 1 turnsA (gives true 4 5 1 0 18 0)
+    ∷ drawing S 2 1 1 (naming0 (replicate 14 0 ++ (1 ∷ []))) (gives true 4 5 0 0 15 0)
+    ∷ []
+
+pub orders-give : map drawn twoOrders ≡ map (λ (d : Drawing). d .gives) twoOrders
+unfolding drawn twoOrders turns start entries allEnded live startRuns carried marksAt keep rest rising allBelow wellFormed scheduleFits
+orders-give = refl
+
+-- the claims that a drawing's call wins
+unfoldable pub drawnWins : Drawing → List Win
+unfolding claimsWon start entries
+drawnWins d =
+    let c = d .call in
+    claimsWonOf (graphOf c) (c .starts) (c .workers) (settingOf c) (entries (c .schedule))
+
+abbrev pub won : ℕ → ℕ → Win
+won v b = record { object = v; winner = b }
+
+-- in A worker 1 wins object 3, where the other order has worker 0
+pub wins-hold : map drawnWins twoOrders ≡ (won 1 0 ∷ won 2 0 ∷ won 3 1 ∷ []) ∷ (won 1 0 ∷ won 2 0 ∷ won 3 0 ∷ []) ∷ []
+unfolding drawnWins twoOrders allEnded live startRuns carried marksAt keep rest
+wins-hold = refl
+
+-- so the owners differ; the marked objects are the same
+pub owners-differ : map (λ (d : Drawing). final (d .call) .marks) twoOrders ≡ (1 ∷ 1 ∷ 1 ∷ 2 ∷ 0 ∷ 0 ∷ []) ∷ (1 ∷ 1 ∷ 1 ∷ 1 ∷ 0 ∷ 0 ∷ []) ∷ []
+unfolding twoOrders turns start entries live startRuns carried marksAt keep rest
+owners-differ = refl

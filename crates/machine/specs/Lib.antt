@@ -8,6 +8,7 @@ pub mod Lamp
 pub mod Limits
 pub mod Machine
 pub mod Move
+pub mod Owners
 pub mod Row
 pub mod Rules
 pub mod Starts

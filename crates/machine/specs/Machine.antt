@@ -47,9 +47,9 @@ pub record Entry : Type 0 where
   pub worker : ℕ
   pub named : ℕ
 
--- the mark that a claim of worker b leaves
+-- the mark that a claim of worker b leaves; a start's mark is 1
 abbrev pub claimMark : ℕ → ℕ
-claimMark b = 1
+claimMark b = b + 1
 
 -- the runs that a worker carries; a hand-over is carried by the asker from the sharing turn on
 abbrev pub runsOf : Worker → List Run

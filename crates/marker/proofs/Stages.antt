@@ -20,6 +20,7 @@ use Rattle.machine.proofs.Start.{sound-start, sound}
 use Rattle.machine.proofs.Demand2.{demand2}
 use Rattle.machine.proofs.Demand3.{demand3}
 use Rattle.machine.proofs.Lamp.{lamp}
+use Rattle.machine.proofs.Owners.{owners}
 use Rattle.turns.specs.declared.Setup.{Setup}
 use Rattle.turns.specs.declared.Progress.{Progress}
 use Rattle.turns.specs.Held.{memory, stretchAt, Holds}
@@ -196,6 +197,8 @@ module _ (c : Call) (marks work : List ℕ) where
             rw (rw e at (l .0), rw e at (l .1 .0)) (demand2 (checked c (length marks) (length work) e .accepted) (entries (c .schedule)));
         demand3 = λ e. rw (rw e at (l .0)) (demand3 (checked c (length marks) (length work) e .accepted) (entries (c .schedule)));
         lamp = λ e. rw (rw e at (l .0)) (lamp (checked c (length marks) (length work) e .accepted) (entries (c .schedule)));
+        owners = λ e.
+            rw (rw e at (l .0), rw e at (l .1 .0)) (owners (checked c (length marks) (length work) e .accepted) (entries (c .schedule)));
       }
 
   -- any other number than 0 is a refusal, and the buffers stay

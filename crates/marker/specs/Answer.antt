@@ -12,6 +12,7 @@ use Rattle.machine.specs.Demand2.{Demand2}
 use Rattle.machine.specs.Demand3.{Demand3}
 use Rattle.machine.specs.Lamp.{Lamp}
 use Rattle.machine.specs.Call.{Call, graphOf, settingOf, fault, marking, marksAfter, workAfter}
+use Rattle.machine.specs.Owners.{Owners}
 use Rattle.marker.specs.declared.Marked.{Marked}
 use Rattle.marker.specs.declared.Marked.the-variants.{Finished, Unfinished, Refused}
 
@@ -39,7 +40,8 @@ pub record Finds (v : Verdict) (c : Call) (marks work : ℕ) : Type 0 where
   pub number-is : numberOf v ≡ fault c marks work
 
 -- the call's promise, for all inputs: the answer, every mark and every work word; and, where the call has no fault,
--- demands 2 and 3 of the answer and the marks, and what its count of workers that carry says
+-- demands 2 and 3 of the answer and the marks, what its count of workers that carry says, and who
+-- claimed what
 pub record Answered (c : Call) (marks work : List ℕ) (r : Marked) (marks′ work′ : List ℕ) : Type 0 where
   pub row-is : row r ≡ marking c marks work
   pub marks-are : marks′ ≡ marksAfter c marks work
@@ -50,3 +52,5 @@ pub record Answered (c : Call) (marks work : List ℕ) (r : Marked) (marks′ wo
       → Demand3 (graphOf c) (c .starts) (c .workers) (settingOf c) (entries (c .schedule)) (row r)
   pub lamp : fault c (length marks) (length work) ≡ 0
       → Lamp (graphOf c) (c .starts) (c .workers) (settingOf c) (entries (c .schedule)) (row r)
+  pub owners : fault c (length marks) (length work) ≡ 0
+      → Owners (graphOf c) (c .starts) (c .workers) (settingOf c) (entries (c .schedule)) (row r) marks′

@@ -21,9 +21,9 @@ use Rattle.catalogue.proofs.Accepting.{store-lies, laid-store}
 use Rattle.catalogue.proofs.Chain.{chain-is-reach}
 use Rattle.machine.specs.Call.{Call, settingOf, final}
 use Rattle.machine.specs.Machine.{result, entries, stretchLength}
+use Rattle.machine.specs.Demand2.{FinishedMarks}
 use Rattle.machine.proofs.Accept.{checked}
 use Rattle.sweep.specs.Sweep.{dead}
-use Rattle.sweep.specs.Collection.{FinishedMarks}
 use Rattle.sweep.proofs.Collection.{dead-upwards, dead-exactly}
 use Rattle.report.specs.declared.order.Order.{Order}
 use Rattle.report.specs.Limits.{text-room}

@@ -12,11 +12,11 @@ use Rattle.laws.specs.Sum.{sum, hit}
 use Rattle.laws.proofs.Sum.{hit-same, hit-equal}
 use Rattle.graph.specs.Graph.{Graph, objects}
 use Rattle.graph.specs.Chain.{Reach}
-use Rattle.machine.specs.Sound.{Marked}
-use Rattle.machine.proofs.Demand2.{demand2}
+use Rattle.machine.specs.Demand2.{FinishedMarks}
+use Rattle.machine.proofs.Demand2.{marked-is}
 use Rattle.machine.proofs.Start.{sound}
 use Rattle.sweep.specs.Sweep.{deadFrom, dead, Row, refusedRow, fault, sweeping, listAfter}
-use Rattle.sweep.specs.Collection.{UpwardsFrom, FinishedMarks, listed, Collection}
+use Rattle.sweep.specs.Collection.{UpwardsFrom, listed, Collection}
 
 -- where a listed number stands among the marks
 record Place (b v : ℕ) (ms : List ℕ) : Type 0 where
@@ -86,13 +86,10 @@ module _ {G : Graph} {starts marks : List ℕ} (m : FinishedMarks G starts marks
   all-marks : length marks ≡ objects G
   all-marks = ap length (m .marks-are) ∙ sound (m .accepted) (m .turns) .marks-length
 
-  marked-is : (v : ℕ) → Marked marks v ↔ Reach G starts v
-  marked-is v = rw (m .marks-are) (demand2 (m .accepted) (m .turns) .marked-exactly (m .finished) v)
-
   pub dead-exactly : (v : ℕ) → (0 < sum (hit v) (dead marks)) ↔ ((v < objects G) × (Reach G starts v → ⊥))
   dead-exactly v = (
-    λ h. (omega (arith, all-marks, listed-is marks v h .0), λ r. omega (arith, marked-is v .1 r, listed-is marks v h .1)),
-    λ p. is-listed marks v (omega (arith, all-marks, p .0)) (λ q. p .1 (marked-is v .0 q)),
+    λ h. (omega (arith, all-marks, listed-is marks v h .0), λ r. omega (arith, marked-is m v .1 r, listed-is marks v h .1)),
+    λ p. is-listed marks v (omega (arith, all-marks, p .0)) (λ q. p .1 (marked-is m v .0 q)),
   )
 
 -- what was answered and listed by the definition

@@ -1,7 +1,6 @@
 -- SPECIFICATION 5: after a finished marking the sweep lists exactly the objects to which no chain leads, upwards. It is in the
 -- contract of `sweep::sweep`, for any lent marks.
 use mathlib.Core.Path.{_≡_}
-use mathlib.Core.Bool.{true}
 use mathlib.Core.List.{List, [], _∷_}
 use mathlib.Core.Logic.{_↔_}
 use Prim.Native.Nat.{ℕ, suc, _≤_, _<_}
@@ -9,24 +8,13 @@ use lib.ListN.{length, take}
 use Rattle.laws.specs.Sum.{sum, hit}
 use Rattle.graph.specs.Graph.{Graph, objects}
 use Rattle.graph.specs.Chain.{Reach}
-use Rattle.machine.specs.Machine.{Setting, Entry, result}
-use Rattle.machine.specs.Accepted.{Accepted}
-use Rattle.machine.specs.Demand2.{outcome}
+use Rattle.machine.specs.Demand2.{FinishedMarks}
 use Rattle.sweep.specs.Sweep.{Row}
 
 -- every number of the list is at least b, and the later ones are larger
 abbrev pub UpwardsFrom : ℕ → List ℕ → Type 0
 UpwardsFrom b [] = Unit {0}
 UpwardsFrom b (v ∷ vs) = (b ≤ v) × UpwardsFrom (suc v) vs
-
--- the marks are those that a finished collection of this graph leaves, under some W, setting and turns
-pub record FinishedMarks (G : Graph) (starts marks : List ℕ) : Type 0 where
-  pub workers : ℕ
-  pub setting : Setting
-  pub turns : List Entry
-  pub accepted : Accepted G starts workers setting
-  pub finished : result (outcome G starts workers setting turns) .finished ≡ true
-  pub marks-are : marks ≡ outcome G starts workers setting turns .marks
 
 -- the numbers that a sweep listed: as many of the list as it answered
 abbrev pub listed : Row → List ℕ → List ℕ

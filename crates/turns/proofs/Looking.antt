@@ -13,6 +13,8 @@ use Rattle.machine.specs.Row.{countMove}
 use Rattle.machine.specs.declared.Counts.{Counts}
 use Rattle.machine.specs.Run.{Run, run, runFrom, leaving}
 use Rattle.machine.specs.Machine.{busy, look, claim, worker, markOf, claimMark, lookTurn, Claimed, claims, claimLost, onwardRuns, follows}
+use Rattle.machine.specs.Limits.{most-workers}
+use Rattle.machine.specs.Owners.{claimTells}
 use Rattle.machine.proofs.Facts.{busy-below, busy-some, first-target}
 use Rattle.worker.specs.Registers.{blockAt, putAt}
 use Rattle.worker.proofs.Blocks.{put-stored}
@@ -158,7 +160,7 @@ module _ {g : Setup} {offsets targets : List ℕ} {b : ℕ} {marks work regs : L
   is-object : t < objects (x .graph)
   is-object = first-target (x .scene .accepted) (x .scene .sound) b cis
 
-  pub claim-there : (blockAt regs b .target < length marks) × (blockAt regs b .target + 1 < length offsets)
+  pub claim-there : (blockAt regs b .target < length marks) × (b < most-workers)
   claim-there =
       omega (
         arith,
@@ -166,8 +168,12 @@ module _ {g : Setup} {offsets targets : List ℕ} {b : ℕ} {marks work regs : L
         is-object,
         x .scene .sound .marks-length,
         ap (λ (l : List ℕ). length l) (x .holds .marks-are),
-        ap (λ (G : Graph). objects G) (x .here .graph-is),
+        claim-low,
+        x .scene .accepted .workers-limit,
       )
+
+  pub opens-there : blockAt regs b .target + 1 < length offsets
+  opens-there = omega (arith, target-word, is-object, ap (λ (G : Graph). objects G) (x .here .graph-is))
 
   -- what the claim finds, by the mark that is read
   abbrev found : Claimed
@@ -186,7 +192,7 @@ module _ {g : Setup} {offsets targets : List ℕ} {b : ℕ} {marks work regs : L
     pub won-is : o .won ≡ d .won
     pub won-limit : o .won ≤ 1
 
-  finds : (k : ℕ) → Finds (openedBy k offsets t) (claims k (x .graph) (x .state) b t)
+  finds : (k : ℕ) → Finds (openedBy (claimTells k b .won) offsets t) (claims k (x .graph) (x .state) b t)
   finds zero =
       let r = x .scene .accepted .formed in
       let a = ap (λ (G : Graph). after G t) (x .here .graph-is) in
@@ -213,9 +219,9 @@ module _ {g : Setup} {offsets targets : List ℕ} {b : ℕ} {marks work regs : L
       by zero = ap (λ (l : List ℕ). set l t (claimMark b)) (x .holds .marks-are)
       by (suc k) = x .holds .marks-are
 
-  claimed-at : IsFollowing g targets (claimedMarks marks b t) (openedAt offsets marks t) b (x .graph) (x .state)
+  claimed-at : IsFollowing g targets (claimedMarks marks b t) (openedAt offsets marks b t) b (x .graph) (x .state)
   claimed-at =
-      let d = subst (λ (k : ℕ). Finds (openedAt offsets marks t) (claims k (x .graph) (x .state) b t)) (sym read) (finds (getD marks t 0)) in
+      let d = subst (λ (k : ℕ). Finds (openedAt offsets marks b t) (claims k (x .graph) (x .state) b t)) (sym read) (finds (getD marks t 0)) in
       record {
         cell = x .here .cell;
         since = x .here .since;
@@ -237,9 +243,9 @@ module _ {g : Setup} {offsets targets : List ℕ} {b : ℕ} {marks work regs : L
         targets-are = sym (ap (λ (G : Graph). G .targets) (x .here .graph-is));
       }
 
-  pub claimed-here : IsFollowing g targets (claimedMarks marks b (blockAt regs b .target)) (openedAt offsets marks (blockAt regs b .target)) b (x .graph) (x .state)
+  pub claimed-here : IsFollowing g targets (claimedMarks marks b (blockAt regs b .target)) (openedAt offsets marks b (blockAt regs b .target)) b (x .graph) (x .state)
   claimed-here =
-      subst (λ (i : ℕ). IsFollowing g targets (claimedMarks marks b i) (openedAt offsets marks i) b (x .graph) (x .state)) (sym target-word) claimed-at
+      subst (λ (i : ℕ). IsFollowing g targets (claimedMarks marks b i) (openedAt offsets marks b i) b (x .graph) (x .state)) (sym target-word) claimed-at
 
-  abbrev pub claimed : Ready (IsFollowing g targets (claimedMarks marks b (blockAt regs b .target)) (openedAt offsets marks (blockAt regs b .target)) b) g (memory marks work regs p)
+  abbrev pub claimed : Ready (IsFollowing g targets (claimedMarks marks b (blockAt regs b .target)) (openedAt offsets marks b (blockAt regs b .target)) b) g (memory marks work regs p)
   claimed = record { graph = x .graph; state = x .state; scene = x .scene; holds = x .holds; here = claimed-here }

@@ -7,12 +7,15 @@ use lib.ListN.{length, getD, set}
 use lib.Dec.{ltb, eqb}
 use Rattle.laws.specs.Choice.{pick}
 use Rattle.machine.specs.Machine.{claimMark}
+use Rattle.machine.specs.Owners.{ClaimRow, claimTells}
 use Rattle.worker.specs.Registers.{status-idle, status-denied, status-poll, status-look, Room, blockAt, putAt, Stored}
 use Rattle.worker.specs.Stretch.{Nextable, goesOn, nextTop, nextWords}
 use Rattle.worker.specs.declared.registers.Block.{Block}
 use Rattle.worker.specs.declared.stretch.Top.{Top}
 use Rattle.turns.specs.Held.{topOf}
 use Rattle.turns.specs.declared.follow.Opened.{Opened}
+use Rattle.turns.specs.declared.follow.Ownership.{Ownership}
+use Rattle.turns.specs.declared.follow.Ownership.the-variants.{Won, Lost}
 
 abbrev pub openedWith : ℕ → ℕ → ℕ → Opened
 openedWith won first end = record { won = won; first = first; end = end }
@@ -21,13 +24,18 @@ openedWith won first end = record { won = won; first = first; end = end }
 abbrev pub openedNone : Opened
 openedNone = openedWith 0 0 0
 
--- by the mark that is read
-abbrev pub openedBy : ℕ → List ℕ → ℕ → Opened
-openedBy zero offsets t = openedWith 1 (getD offsets t 0) (getD offsets (t + 1) 0)
-openedBy (suc x) offsets t = openedNone
+-- each answer of a claim as a row
+abbrev pub claimRow : Ownership → ClaimRow
+claimRow (Won owner) = record { won = true; owner = owner }
+claimRow (Lost owner) = record { won = false; owner = owner }
 
-abbrev pub openedAt : List ℕ → List ℕ → ℕ → Opened
-openedAt offsets marks t = openedBy (getD marks t 0) offsets t
+-- what opens, by whether the claim is won
+abbrev pub openedBy : Bool → List ℕ → ℕ → Opened
+openedBy true offsets t = openedWith 1 (getD offsets t 0) (getD offsets (t + 1) 0)
+openedBy false offsets t = openedNone
+
+abbrev pub openedAt : List ℕ → List ℕ → ℕ → ℕ → Opened
+openedAt offsets marks b t = openedBy (claimTells (getD marks t 0) b .won) offsets t
 
 -- the marks afterwards
 abbrev pub marksBy : ℕ → List ℕ → ℕ → ℕ → List ℕ
@@ -36,6 +44,12 @@ marksBy (suc x) marks b t = marks
 
 abbrev pub claimedMarks : List ℕ → ℕ → ℕ → List ℕ
 claimedMarks marks b t = marksBy (getD marks t 0) marks b t
+
+-- what worker b's claim of t tells and leaves; the owner is the mark that stands there afterwards
+pub record Claims (marks : List ℕ) (b t : ℕ) (r : Ownership) (marks′ : List ℕ) : Type 0 where
+  pub row-is : claimRow r ≡ claimTells (getD marks t 0) b
+  pub marks-are : marks′ ≡ claimedMarks marks b t
+  pub owner-stands : claimRow r .owner ≡ getD marks′ t 0
 
 -- a busy worker's status by its batch
 abbrev pub nextWord : ℕ → ℕ

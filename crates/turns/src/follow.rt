@@ -8,9 +8,10 @@ ghost use mathlib.Core.Logic.{_≢_};
 ghost use mathlib.Core.List.{List};
 ghost use Prim.Native.Nat.{ℕ, _+_, _-_, _<_};
 ghost use lib.ListN.{length};
+ghost use Rattle.machine.specs.Limits.{most-workers};
 ghost use Rattle.machine.specs.Machine.{claimMark};
 ghost use Rattle.worker.specs.Registers.{Room, blockAt};
-ghost use Rattle.turns.specs.Claiming.{openedNone, openedAt, claimedMarks, nextWord, Advanceable, Advanced, stoppedCount, stoppedAt, takenBlock};
+ghost use Rattle.turns.specs.Claiming.{openedNone, openedBy, claimRow, Claims, nextWord, Advanceable, Advanced, stoppedCount, stoppedAt, takenBlock};
 ghost use Rattle.turns.specs.Held.{memory};
 ghost use Rattle.turns.specs.Turned.{Ready, DoesAny, IsGiven, IsLooking, IsClaiming, IsFollowing};
 
@@ -32,30 +33,49 @@ fn lost() -> Opened
     }
 }
 
+// What a claim tells: won or lost, and the owner, whose mark stands there afterwards.
+pub enum Ownership {
+    Won(u8),
+    Lost(u8),
+}
+
 // Worker b reads the mark of t again, and marks t if it is still unmarked.
-fn claim_target(offsets: &[u32], marks: &mut [u8], b: u32, t: u32) -> Opened
-    requires { ⌜ (t < length (now marks)) × (t + 1 < length (now offsets)) ⌝ }
-    ensures { λ r. ⌜ r ≡ openedAt (now (offsets .entry)) (now (marks .entry)) t ⌝ }
-    ensures { λ _. ⌜ now (marks .exit) ≡ claimedMarks (now (marks .entry)) b t ⌝ }
+fn claim_target(marks: &mut [u8], b: u32, t: u32) -> Ownership
+    requires { ⌜ (t < length (now marks)) × (b < most-workers) ⌝ }
+    ensures { λ r. ⌜ Claims (now (marks .entry)) b t r (now (marks .exit)) ⌝ }
 {
     let v = t as usize;
+    let own = claim_mark(b);
     let again = marks[v];
     if again != 0 {
-        return lost();
+        return Ownership::Lost(again);
     }
-    marks[v] = claim_mark(b);
-    Opened {
-        won: 1,
-        first: offsets[v],
-        end: offsets[v + 1],
-    }
+    marks[v] = own;
+    Ownership::Won(own)
 }
 
 // The mark that a claim of worker b leaves.
 fn claim_mark(b: u32) -> u8
+    requires { ⌜ b < most-workers ⌝ }
     ensures { λ r. ⌜ r ≡ claimMark b ⌝ }
 {
-    1
+    (b + 1) as u8
+}
+
+// What opens at t, by what the claim of it told.
+fn opens(offsets: &[u32], t: u32, told: Ownership) -> Opened
+    requires { ⌜ t + 1 < length (now offsets) ⌝ }
+    ensures { λ r. ⌜ r ≡ openedBy (claimRow told .won) (now (offsets .entry)) t ⌝ }
+{
+    let v = t as usize;
+    match told {
+        Ownership::Won(_) => Opened {
+            won: 1,
+            first: offsets[v],
+            end: offsets[v + 1],
+        },
+        Ownership::Lost(_) => lost(),
+    }
 }
 
 // A busy worker's next turn, by its batch.
@@ -232,7 +252,8 @@ pub fn claim(
         (memory (now (marks .exit)) (now (work .exit)) (now (regs .exit)) q) ⌝ }
 {
     let r = registers::load(regs, b);
-    let found = claim_target(offsets, marks, b, r.target);
+    let told = claim_target(marks, b, r.target);
+    let found = opens(offsets, r.target, told);
     follow(targets, setup, work, regs, p, b, r, found)
 }
 

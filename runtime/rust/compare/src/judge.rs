@@ -3,6 +3,7 @@
 use crate::case::{Call, Case, Mark};
 use crate::sides::{after, place, After, Proved, Reference, Side, Tuned, Typed, Untouched};
 use kullneyra::Marked;
+use std::collections::BTreeSet;
 
 /// What the proved library answered and left, or what is wrong with it.
 pub fn judge(case: &Case) -> Result<After, String> {
@@ -108,6 +109,14 @@ fn leaving_unmarked(call: &Mark, marks: &[u64]) -> u64 {
     marks.iter().zip(bounds).filter(|(&mark, _)| mark == 0).map(|(_, leaving)| leaving).sum()
 }
 
+/// Every mark but a start's is that of a worker which has an entry.
+fn owners_had_turns(call: &Mark, marks: &[u64]) -> bool {
+    let has_entry = |mark: u64| call.schedule.chunks_exact(2).any(|entry| u64::from(entry[0]) + 1 == mark);
+    let claimed: BTreeSet<u64> =
+        (0..).zip(marks).filter(|&(v, &mark)| mark != 0 && !call.starts.contains(&v)).map(|(_, &mark)| mark).collect();
+    claimed.into_iter().all(has_entry)
+}
+
 /// What demands 2 and 3 say of every accepted run.
 fn run_demands(call: &Mark, got: &After) -> Result<(), String> {
     let (marks, work, result) = (got.lent(0), got.lent(1), got.lent(2));
@@ -120,10 +129,11 @@ fn run_demands(call: &Mark, got: &After) -> Result<(), String> {
     let loaded = work.chunks_exact(stretch).filter(|words| words[1] > 0).count() as u64;
     let total = carried(&work, stretch).map(|c| followed + c + leaving_unmarked(call, &marks));
     let mut checks = vec![
-        ("marks are 0 or 1", marks.iter().all(|&mark| mark < 2)),
-        ("live is the number of marks", live == marks.iter().sum::<u64>()),
+        ("marks are 0 to W", marks.iter().all(|&mark| mark <= u64::from(call.workers))),
+        ("live is the number of marks", live == marks.iter().filter(|&&mark| mark != 0).count() as u64),
         ("only reachable objects are marked", marks.iter().zip(&found).all(|(&mark, &found)| mark == 0 || found)),
-        ("every start is marked", call.starts.iter().all(|&start| marks[start as usize] == 1)),
+        ("every start has mark 1", call.starts.iter().all(|&start| marks[start as usize] == 1)),
+        ("whoever claimed an object had turns", owners_had_turns(call, &marks)),
         ("work is pairs, then zeros", total.is_some()),
         ("followed, carried and leaving unmarked make m", total == Some(call.targets.len() as u64)),
         ("followed is at most R", followed <= most),

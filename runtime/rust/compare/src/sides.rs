@@ -307,11 +307,11 @@ impl Whole {
 #[cfg(test)]
 impl Whole {
     /// Changes the first lent element.
-    pub fn add_one_to_first(&mut self) {
+    pub fn add_to_first(&mut self, more: u8) {
         match self {
-            Whole::Bytes(all) => all[GUARD] = all[GUARD].wrapping_add(1),
-            Whole::Words(all) => all[GUARD] = all[GUARD].wrapping_add(1),
-            Whole::Longs(all) => all[GUARD] = all[GUARD].wrapping_add(1),
+            Whole::Bytes(all) => all[GUARD] = all[GUARD].wrapping_add(more),
+            Whole::Words(all) => all[GUARD] = all[GUARD].wrapping_add(u32::from(more)),
+            Whole::Longs(all) => all[GUARD] = all[GUARD].wrapping_add(u64::from(more)),
         }
     }
 }

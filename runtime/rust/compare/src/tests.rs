@@ -16,6 +16,8 @@ enum Fault {
     StartsNotPadded,
     /// Marks are cleared before the schedule is checked.
     MarksClearedBesideRefusal,
+    /// The owner of an object is forgotten: its mark is 1.
+    OwnersForgotten,
     /// One word too far is written.
     PastTheEnd,
     /// A result buffer that is too long is taken.
@@ -63,6 +65,9 @@ impl Side for Fault {
         if *self == Fault::MarksClearedBesideRefusal && number == 9 {
             marks.fill(0);
         }
+        if *self == Fault::OwnersForgotten && number == 0 {
+            marks.iter_mut().for_each(|mark| *mark = (*mark).min(1));
+        }
         number
     }
 
@@ -95,6 +100,7 @@ fn faults_are_found() {
     assert!(found(Fault::ListNotPadded).is_some());
     assert!(found(Fault::StartsNotPadded).is_some());
     assert!(found(Fault::MarksClearedBesideRefusal).is_some());
+    assert!(found(Fault::OwnersForgotten).is_some());
     assert!(found(Fault::PastTheEnd).is_some());
     assert!(found(Fault::LongResultTaken).is_some());
     assert!(found(Fault::ChecksExchanged).is_some());
@@ -118,9 +124,10 @@ fn broken_demands_are_found() {
         let case = case_of(SEED, number);
         let good = after(&case, &Reference);
         assert_eq!(demands(&case, &good), Ok(()));
-        for buffer in 0..2 {
+        // A mark above every W, and a work word one further.
+        for (buffer, more) in [(0, 17), (1, 1)] {
             let mut bad = good.clone();
-            bad.buffers[buffer].1.add_one_to_first();
+            bad.buffers[buffer].1.add_to_first(more);
             assert!(demands(&case, &bad).is_err(), "case {number}, buffer {buffer}");
         }
     }

@@ -269,6 +269,47 @@ pub struct Swept {
     pub freed: u64,
 }
 
+/// Who claimed an object. Its text is what the drawings say: `start`, `box 0`, `nobody`.
+#[derive(Clone, Copy, Debug, PartialEq, Eq, Hash)]
+#[non_exhaustive]
+pub enum Owner {
+    /// The object is not marked.
+    Nobody,
+    /// A collection starts there.
+    Start,
+    /// This worker claimed it.
+    Worker(u8),
+}
+
+impl core::fmt::Display for Owner {
+    fn fmt(&self, f: &mut core::fmt::Formatter<'_>) -> core::fmt::Result {
+        match self {
+            Owner::Nobody => f.write_str("nobody"),
+            Owner::Start => f.write_str("start"),
+            Owner::Worker(b) => write!(f, "box {b}"),
+        }
+    }
+}
+
+/// The owner of each object in turn, by the marks that [`mark`] left and the objects where it started
+/// (the index).
+///
+/// The starts are asked for since a start and an object that worker 0 claimed both have mark 1.
+///
+/// ```
+/// use kullneyra::{owners, Owner};
+///
+/// let names: Vec<String> = owners(&[0], &[1, 1, 2, 0]).map(|owner| owner.to_string()).collect();
+/// assert_eq!(names, ["start", "box 0", "box 1", "nobody"]);
+/// ```
+pub fn owners<'a>(starts: &'a [u32], marks: &'a [u8]) -> impl Iterator<Item = Owner> + 'a {
+    (0u32..).zip(marks).map(move |(object, &mark)| match mark {
+        0 => Owner::Nobody,
+        1 if starts.contains(&object) => Owner::Start,
+        _ => Owner::Worker(mark - 1),
+    })
+}
+
 /// How many work words a marking of n objects by so many workers takes.
 pub const fn work_words(objects: usize, workers: usize) -> usize {
     workers * (2 * objects + 4)
@@ -309,6 +350,9 @@ pub fn references<'a>(offsets: &[u32], targets: &'a [u32], object: u32) -> &'a [
 /// Marks what the starts reach, by the turns of the schedule. The starts are the index and then the
 /// leases, 1 to [`STARTS`] in all; a repeated one adds nothing. Marks are n bytes, and work is
 /// [`work_words`] words; both may hold anything before.
+///
+/// A mark is 0 where the object was not reached, 1 at a start, and b + 1 where worker b claimed the
+/// object; [`owners`] gives them by name.
 pub fn mark(
     offsets: &[u32],
     targets: &[u32],

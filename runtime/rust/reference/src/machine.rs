@@ -174,7 +174,7 @@ impl Machine<'_> {
             me.claim = true;
         } else {
             me.claim = false;
-            self.marks[target] = 1;
+            self.marks[target] = b as u8 + 1;
             self.follow(b, Some(target));
         }
         true
@@ -365,5 +365,28 @@ mod tests {
         assert_eq!(run_from(&[5, 0, 5, 0, 0], &OFFSETS, &TARGETS, [1, 1, 1], &[]), [0, 2, 0, 0, 0, 0, 1]);
         assert_eq!(run_from(&[4, 4], &OFFSETS, &TARGETS, [2, 1, 1], &[0, 1]), [1, 1, 0, 0, 0, 2, 0]);
         assert_eq!(run_from(&[0, 5], &OFFSETS, &TARGETS, [1, 6, 1], &[0; 13]), [1, 6, 6, 0, 0, 13, 0]);
+    }
+
+    /// The marks that these turns leave on store S, with case A's settings.
+    fn owners(turns: &[u8]) -> Vec<u8> {
+        let schedule: Vec<u8> = turns.iter().flat_map(|&b| [b, 0]).collect();
+        let (mut marks, mut work) = (vec![7; 6], vec![9; 32]);
+        let call = Call {
+            offsets: &OFFSETS,
+            targets: &TARGETS,
+            starts: &[0],
+            workers: 2,
+            batch: 1,
+            cutoff: 1,
+            schedule: &schedule,
+        };
+        assert!(mark(call, &mut marks, &mut work).unwrap().finished);
+        marks
+    }
+
+    #[test]
+    fn owners_differ_between_two_orders() {
+        assert_eq!(owners(&[0, 1, 0, 0, 0, 1, 1, 0, 1, 0, 0, 0, 1, 0, 1, 1, 0, 1]), [1, 1, 1, 2, 0, 0]);
+        assert_eq!(owners(&[0, 0, 0, 0, 0, 0, 0, 0, 0, 0, 0, 0, 0, 0, 1]), [1, 1, 1, 1, 0, 0]);
     }
 }

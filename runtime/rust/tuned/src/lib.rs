@@ -121,7 +121,7 @@ impl Machine<'_> {
             CLAIM => {
                 let target = worker.target as usize;
                 if self.marks[target] == 0 {
-                    self.marks[target] = 1;
+                    self.marks[target] = b + 1;
                     self.open(b, target);
                 } else {
                     self.follow(b);
