@@ -16,6 +16,7 @@ use Rattle.refusal.proofs.None.{raise-none, first-none, or-none}
 use Rattle.graph.specs.Graph.{objects, references, allBelow}
 use Rattle.graph.specs.Limits.{most-objects, most-references}
 use Rattle.graph.proofs.Formed.{both-true, formed}
+use Rattle.machine.specs.Tally.{tally-words}
 use Rattle.machine.specs.Machine.{stretchLength}
 use Rattle.machine.specs.Accepted.{Accepted}
 use Rattle.machine.specs.Limits.{most-workers, most-setting}
@@ -27,13 +28,14 @@ inside most x e =
     (ltb-false x 1 (p .0), ltb-false most x (p .1))
 
 -- what the checks establish, as plain facts
-pub record Checked (c : Call) (marks work : ℕ) : Type 0 where
+pub record Checked (c : Call) (marks work tallies : ℕ) : Type 0 where
   pub accepted : Accepted (graphOf c) (c .starts) (c .workers) (settingOf c)
   pub offsets-some : 2 ≤ length (c .offsets)
   pub objects-limit : objects (graphOf c) ≤ most-objects
   pub references-limit : references (graphOf c) ≤ most-references
   pub marks-exact : marks ≡ objects (graphOf c)
   pub work-exact : work ≡ c .workers * stretchLength (objects (graphOf c))
+  pub tallies-exact : tallies ≡ c .workers * tally-words
   pub schedule-fits : scheduleFits (c .workers) (c .schedule) ≡ true
 
 -- a number of the list, all of which are below n
@@ -47,12 +49,12 @@ starts-low n (u ∷ vs) h v q =
     (λ (p : ¬ (0 < hit v u)). starts-low n vs (b .1) v (omega arith))
 
 -- a call without a fault passes
-pub checked : (c : Call) (marks work : ℕ) → fault c marks work ≡ 0 → Checked c marks work
+pub checked : (c : Call) (marks work tallies : ℕ) → fault c marks work tallies ≡ 0 → Checked c marks work tallies
 unfolding fault
-checked c marks work e =
+checked c marks work tallies e =
     let f8 = first-none (settingFault (c .workers) (c .batch) (c .cutoff)) _ e in
     let f4 = first-none (countFault (c .offsets) (c .targets)) _ (f8 .1) in
-    let f7 = first-none (bufferFault (objects (graphOf c)) (c .workers) marks work) _ (f4 .1) in
+    let f7 = first-none (bufferFault (objects (graphOf c)) (c .workers) marks work tallies) _ (f4 .1) in
     let f10 = first-none (graphFault (graphOf c)) _ (f7 .1) in
     let f13 = first-none (startsFault (c .starts)) _ (f10 .1) in
     let f5 = first-none (objectFault (objects (graphOf c)) (c .starts)) _ (f13 .1) in
@@ -64,7 +66,11 @@ checked c marks work e =
     let n = or-none (ltb (length (c .offsets)) 2 || ltb most-objects (objects (graphOf c))) (ltb most-references (length (c .targets))) (raise-none _ 3 0 (f4 .0) .0) in
     let o = or-none (ltb (length (c .offsets)) 2) (ltb most-objects (objects (graphOf c))) (n .0) in
     let two = ltb-false (length (c .offsets)) 2 (o .0) in
-    let b = or-none (not (eqb marks (objects (graphOf c)))) (not (eqb work (c .workers * stretchLength (objects (graphOf c))))) (raise-none _ 6 0 (f7 .0) .0) in
+    let l = or-none (not (eqb marks (objects (graphOf c))) || not (eqb work (c .workers * stretchLength (objects (graphOf c)))))
+    (not (eqb tallies (c .workers * tally-words)))
+    (raise-none _ 6 0 (f7 .0) .0)
+    in
+    let b = or-none (not (eqb marks (objects (graphOf c)))) (not (eqb work (c .workers * stretchLength (objects (graphOf c))))) (l .0) in
     let i : allBelow (objects (graphOf c)) (c .starts) ≡ true = not-false _ (raise-none _ 4 0 (f5 .0) .0) in
     record {
       accepted =
@@ -84,6 +90,7 @@ checked c marks work e =
       references-limit = ltb-false most-references (length (c .targets)) (n .1);
       marks-exact = eqb-true marks (objects (graphOf c)) (not-false _ (b .0));
       work-exact = eqb-true work (c .workers * stretchLength (objects (graphOf c))) (not-false _ (b .1));
+      tallies-exact = eqb-true tallies (c .workers * tally-words) (not-false _ (l .1));
       schedule-fits = not-false _ (raise-none _ 8 0 (f5 .1) .0);
     }
 
@@ -93,13 +100,13 @@ none-both zero later e f = f
 none-both (suc k) later e f = absurd (omega arith)
 
 -- another schedule that fits brings no fault
-pub fault-scheduled : (c : Call) (marks work : ℕ) → fault c marks work ≡ 0 → (l : List ℕ) → scheduleFits (c .workers) l ≡ true
-    → fault (scheduledBy l c) marks work ≡ 0
+pub fault-scheduled : (c : Call) (marks work tallies : ℕ) → fault c marks work tallies ≡ 0 → (l : List ℕ) → scheduleFits (c .workers) l ≡ true
+    → fault (scheduledBy l c) marks work tallies ≡ 0
 unfolding fault
-fault-scheduled c marks work e l fits =
+fault-scheduled c marks work tallies e l fits =
     let f8 = first-none (settingFault (c .workers) (c .batch) (c .cutoff)) _ e in
     let f4 = first-none (countFault (c .offsets) (c .targets)) _ (f8 .1) in
-    let f7 = first-none (bufferFault (objects (graphOf c)) (c .workers) marks work) _ (f4 .1) in
+    let f7 = first-none (bufferFault (objects (graphOf c)) (c .workers) marks work tallies) _ (f4 .1) in
     let f10 = first-none (graphFault (graphOf c)) _ (f7 .1) in
     let f13 = first-none (startsFault (c .starts)) _ (f10 .1) in
     let f5 = first-none (objectFault (objects (graphOf c)) (c .starts)) _ (f13 .1) in

@@ -82,17 +82,17 @@ rounds-bytes W (suc k) h = every-append Byte (roundOf W) (rounds W k) (round-byt
 abbrev pub longFor : Call → List ℕ
 longFor c = longSchedule (graphOf c) (c .starts) (c .workers)
 
-pub record Finishable (c : Call) (marks work : List ℕ) : Type 0 where
+pub record Finishable (c : Call) (marks work tallies : List ℕ) : Type 0 where
   pub bytes : Every Byte (longFor c)
-  pub faultless : fault (scheduledBy (longFor c) c) (length marks) (length work) ≡ 0
-  pub finished : marking (scheduledBy (longFor c) c) marks work .finished ≡ true
+  pub faultless : fault (scheduledBy (longFor c) c) (length marks) (length work) (length tallies) ≡ 0
+  pub finished : marking (scheduledBy (longFor c) c) marks work tallies .finished ≡ true
 
-pub long-enough : (c : Call) (marks work : List ℕ) → fault c (length marks) (length work) ≡ 0 → Finishable c marks work
+pub long-enough : (c : Call) (marks work tallies : List ℕ) → fault c (length marks) (length work) (length tallies) ≡ 0 → Finishable c marks work tallies
 unfolding longSchedule
-long-enough c marks work e =
-    let A = checked c (length marks) (length work) e .accepted in
+long-enough c marks work tallies e =
+    let A = checked c (length marks) (length work) (length tallies) e .accepted in
     let k = stretchBound (leavingReached (graphOf c) (c .starts)) (c .workers) in
-    let none = fault-scheduled c (length marks) (length work) e (longFor c) (rounds-fit (c .workers) k) in
+    let none = fault-scheduled c (length marks) (length work) (length tallies) e (longFor c) (rounds-fit (c .workers) k) in
     let cut : Cut (c .workers) k (entries (longFor c)) = record {
       stretches = replicate k (entries (roundOf (c .workers)));
       number = length-replicate k (entries (roundOf (c .workers)));
@@ -116,12 +116,12 @@ callA = drawing S 2 1 1 turnsA rowA .call
 
 -- the call has no fault, reports that row, and demand 3 holds of it, where R is 5
 pub record OnS : Type 0 where
-  pub faultless : fault callA 6 32 ≡ 0
-  pub reports : marking callA (ones 6) (ones 32) ≡ rowA
+  pub faultless : fault callA 6 32 8 ≡ 0
+  pub reports : marking callA (ones 6) (ones 32) (ones 8) ≡ rowA
   pub five : leavingReached S (0 ∷ []) ≡ 5
   pub holds : Demand3 S (0 ∷ []) 2 (settingOf callA) (entries turnsA) rowA
 
-faultless-A : fault callA 6 32 ≡ 0
+faultless-A : fault callA 6 32 8 ≡ 0
 unfolding fault turnsA scheduleFits rising allBelow wellFormed
 faultless-A = refl
 
@@ -132,5 +132,5 @@ on-S =
       faultless = faultless-A;
       reports = refl;
       five = refl;
-      holds = demand3 (checked callA 6 32 faultless-A .accepted) (entries turnsA);
+      holds = demand3 (checked callA 6 32 8 faultless-A .accepted) (entries turnsA);
     }

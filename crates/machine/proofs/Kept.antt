@@ -1,32 +1,40 @@
 -- A turn keeps a sound state sound, and a collection begun afresh fresh: each field from the one record `Step`.
-use mathlib.Core.Path.{_≡_, ap, _∙_}
+use mathlib.Core.Path.{_≡_, refl, ap, _∙_}
 use mathlib.Core.List.{List, _++_}
 use mathlib.Core.Logic.{_⊎_, inl, inr, by-cases}
-use Prim.Native.Nat.{ℕ, _+_, _≤_, _<_}
+use Prim.Native.Nat.{ℕ, zero, suc, _+_, _*_, _≤_, _<_}
 use native.Mathlib.Omega.{arith}
 use native.Mathlib.Decide.{decLt}
 use lib.ListN.{length, length-append}
 use Rattle.laws.specs.Sum.{sum, hit}
 use Rattle.laws.proofs.Every.{every-map}
-use Rattle.laws.proofs.Sum.{sum-one, sum-agree, sum-append, sum-positive}
+use Rattle.laws.proofs.Sum.{sum-one, sum-agree, sum-append, sum-positive, hit-at-most-one}
 use Rattle.graph.specs.Graph.{Graph, Leaves, references, target}
 use Rattle.graph.specs.Chain.{Reach, on}
 use Rattle.graph.specs.Leaving.{leavingSum, leavingUnmarked}
 use Rattle.graph.proofs.OverMarked.{over-below, over-total, over-once, over-leaves, over-source}
 use Rattle.machine.specs.Run.{Run}
+use Rattle.machine.specs.Tally.{Tally}
 use Rattle.machine.specs.Machine.{Setting, State, Entry, Worker, idle, asking, denied, ended, given, busy, worker, runsOf, carriedBy, carries?, carriedAll, takes, turn}
 use Rattle.machine.specs.Accepted.{Accepted}
-use Rattle.machine.specs.Sound.{Marked, Within, Carries, WorkerSound, holds, waits, stopped, sinceOf, heldSum, carriedTimes, Sound, asks?, turnsOf, upTo, Fresh}
+use Rattle.machine.specs.Sound.{Marked, Within, Carries, WorkerSound, holds, waits, stopped, sinceOf, heldSum, carriedTimes, tallyOf, Sound, asks?, turnsOf, upTo, Fresh}
 use Rattle.machine.proofs.Facts.{runs-within}
 use Rattle.machine.proofs.Runs.{carried-is, within-more, within-source}
 use Rattle.machine.proofs.Marks.{live-grows}
 use Rattle.machine.proofs.Change.{before, after, beforeAt, afterAt, put-length, put-sum, put-at, put-each}
 use Rattle.machine.proofs.Move.{move}
 use Rattle.machine.proofs.Step.{over, Step, step}
+use Rattle.machine.proofs.Tallied.{raised-length, raised-sum, raised-at, Tallied, tallied-move}
 
 -- what all carry is the sum of 1 over the references that they hold
 pub carried-all-is : (ws : List Worker) → sum (heldSum (λ (e : ℕ). 1)) ws ≡ sum carriedBy ws
 carried-all-is ws = sum-agree (heldSum (λ (e : ℕ). 1)) carriedBy ws (λ (w : Worker). carried-is (runsOf w))
+
+-- none or once
+times : (k x y z : ℕ) → k ≤ 1 → x + y ≤ z → k * x + k * y ≤ k * z
+times zero x y z h l = omega arith
+times (suc zero) x y z h l = omega arith
+times (suc (suc k)) x y z h l = absurd (omega arith)
 
 -- a worker is sound also when more is marked
 worker-more : (G : Graph) (g : Setting) (ms ms′ : List ℕ) → ((v : ℕ) → Marked ms v → Marked ms′ v) → (w : Worker)
@@ -113,8 +121,21 @@ module _ {G : Graph} {starts : List ℕ} {W : ℕ} {g : Setting} {s : State} (A 
         (λ (p : 0 < carriedAll s). absurd (omega (arith, S .stopped-empty (omega (arith, T .weighs .stops p, sums stopped)))))
         (λ (p : ¬ (0 < carriedAll s)). omega (arith, T .weighs .rests (omega arith), sums carriedBy))
 
-    sound-step : Sound G starts W g s′
-    sound-step =
+    -- a claim is followed
+    kept-claims : {b k : ℕ} → Tallied G s b s′ k → (i : ℕ) → tallyOf s′ i .won + tallyOf s′ i .lost ≤ tallyOf s′ i .followed
+    kept-claims {b} Y i =
+        omega (
+          arith,
+          S .tallies-claims i,
+          times (hit b i) (Y .added .won) (Y .added .lost) (Y .added .followed) (hit-at-most-one b i) (Y .claims),
+          raised-at (λ (y : Tally). y .followed) refl (λ (y z : Tally). refl) (Y .raised) i,
+          raised-at (λ (y : Tally). y .won) refl (λ (y z : Tally). refl) (Y .raised) i,
+          raised-at (λ (y : Tally). y .lost) refl (λ (y z : Tally). refl) (Y .raised) i,
+        )
+
+    -- the tallies grow with the counts
+    sound-step : {b k : ℕ} → Tallied G s b s′ k → Sound G starts W g s′
+    sound-step Y =
         record {
           marks-length = long ∙ S .marks-length;
           workers-length = ap length (T .workers) ∙ put-length (s .workers) (T .changes) ∙ S .workers-length;
@@ -135,6 +156,13 @@ module _ {G : Graph} {starts : List ℕ} {W : ℕ} {g : Setting} {s : State} (A 
           stopped-empty = kept-stopped;
           since-followed = omega (arith, S .since-followed, T .weighs .since, T .weighs .followed, sums sinceOf);
           refused-moved = omega (arith, S .refused-moved, T .weighs .refused);
+          tallies-length = raised-length (Y .raised) ∙ S .tallies-length;
+          tallies-followed =
+              omega (arith, S .tallies-followed, Y .followed-counts, raised-sum (λ (y : Tally). y .followed) refl (λ (y z : Tally). refl) (Y .raised));
+          tallies-handed =
+              omega (arith, S .tallies-handed, Y .handed-counts, raised-sum (λ (y : Tally). y .handed) refl (λ (y z : Tally). refl) (Y .raised));
+          tallies-won = omega (arith, S .tallies-won, Y .live-counts, raised-sum (λ (y : Tally). y .won) refl (λ (y z : Tally). refl) (Y .raised));
+          tallies-claims = λ (i : ℕ). kept-claims Y i;
         }
 
     module _ {l : List ℕ} (F : Fresh G starts g s l) where
@@ -153,7 +181,7 @@ module _ {G : Graph} {starts : List ℕ} {W : ℕ} {g : Setting} {s : State} (A 
 
   -- a turn keeps a state sound
   pub sound-turn : (x : Entry) → Sound G starts W g (turn G g s x)
-  sound-turn x = sound-step (step A S (move A S x))
+  sound-turn x = sound-step (step A S (move A S x)) (tallied-move A S (move A S x))
 
   -- and a collection fresh, with what the turn takes off in its trail
   pub fresh-turn : {l : List ℕ} → Fresh G starts g s l → (x : Entry) → Fresh G starts g (turn G g s x) (l ++ takes (worker s (x .worker)) G s)

@@ -5,6 +5,7 @@ pub mod Facts
 pub mod Move
 pub mod Change
 pub mod Step
+pub mod Tallied
 pub mod Kept
 pub mod Start
 pub mod Ended
@@ -15,3 +16,4 @@ pub mod Progress
 pub mod Demand3
 pub mod Instances
 pub mod Lamp
+pub mod Tallies

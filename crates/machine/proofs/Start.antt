@@ -1,28 +1,33 @@
 -- The start is sound and fresh, and so is every state that turns reach from it.
 use mathlib.Core.Path.{_≡_, refl, sym, ap, _∙_}
 use mathlib.Core.List.{List, [], _∷_, _++_, append-assoc, append-nil}
+use mathlib.Core.Logic.{by-cases}
 use Prim.Native.Nat.{ℕ, zero, suc, _+_, _-_, _≤_, _<_}
 use native.Mathlib.Omega.{arith}
+use native.Mathlib.Decide.{decLt}
+use native.Mathlib.Nat.{zero-add, add-zero}
 use lib.ListN.{length, getD, set, take, replicate, length-set, length-append, length-replicate}
 use lib.Seq.{getD-set-other}
 use Rattle.laws.specs.Every.{Every}
+use Rattle.laws.specs.Span.{span}
 use Rattle.laws.specs.Sum.{sum, hit}
 use Rattle.laws.proofs.Every.{every-append}
 use Rattle.laws.proofs.Sum.{sum-none, each-set, hit-same}
 use Rattle.graph.specs.Graph.{Graph, Leaves, objects, references, first, degree}
-use Rattle.graph.specs.Chain.{marksAt, reached}
+use Rattle.graph.specs.Chain.{set?, marksAt, reached}
 use Rattle.graph.specs.Leaving.{leavingSum}
 use Rattle.graph.proofs.OverMarked.{over-set-again, over-none, over-total, over-once, over-leaves}
 use Rattle.graph.proofs.Reached.{rounds-grows, reached-chain, starts-marked}
 use Rattle.machine.specs.Run.{Run, carried, leaving}
+use Rattle.machine.specs.Tally.{Tally, noTally}
 use Rattle.machine.specs.Machine.{Setting, State, Entry, Worker, idle, ended, busy, empty, poll, runsOf, worker, carries?, live, newRun, startRuns, withRuns, unmarked, start, turns, trail}
 use Rattle.machine.specs.Accepted.{Accepted}
-use Rattle.machine.specs.Sound.{Marked, Within, Whole, Carries, WorkerSound, holds, waits, stopped, sinceOf, runsSum, heldSum, carriedTimes, Sound, asks?, Fresh}
+use Rattle.machine.specs.Sound.{Marked, Within, Whole, Carries, WorkerSound, holds, waits, stopped, sinceOf, runsSum, heldSum, carriedTimes, distinctStarts, Sound, asks?, Fresh}
 use Rattle.machine.specs.Demand2.{outcome}
 use Rattle.machine.specs.Demand3.{trailOf}
 use Rattle.machine.proofs.Runs.{runs-append, runs-from, length-from, leaving-runs, inside-all}
 use Rattle.machine.proofs.Marks.{marked-keeps, marked-there, over-more, live-more, live-grows}
-use Rattle.machine.proofs.Facts.{InTargets, live-below, carried-limit, runs-limit, runs-room}
+use Rattle.machine.proofs.Facts.{InTargets, set-some, live-below, carried-limit, runs-limit, runs-room}
 use Rattle.machine.proofs.Step.{over}
 use Rattle.machine.proofs.Kept.{carried-all-is, sound-turn, fresh-turn}
 
@@ -61,6 +66,21 @@ marks-at-other [] ms u h = refl
 marks-at-other (v ∷ vs) ms u h =
     marks-at-other vs (set ms v 1) u (omega arith)
     ∙ getD-set-other ms v u 1 0 (λ (q : u ≡ v). omega (arith, hit-same u, ap (hit u) q))
+
+-- live counts the numbers from b on for which h is 1
+live-span : (h : ℕ → ℕ) (b : ℕ) (ms : List ℕ) → ((i : ℕ) → i < length ms → set? (getD ms i 0) ≡ h (b + i)) → live ms ≡ span h b (length ms)
+unfolding live sum span
+live-span h b [] each = refl
+live-span h b (m ∷ ms) each =
+    let first = each 0 (omega arith) in
+    let later = live-span h (suc b) ms (λ (i : ℕ) (l : i < length ms). each (suc i) (omega arith) ∙ ap h (omega arith)) in
+    omega (arith, later, first, ap h (add-zero b))
+
+-- no tally counts anything
+each-none : (k i : ℕ) → getD (replicate k noTally) i noTally .won + getD (replicate k noTally) i noTally .lost ≤ getD (replicate k noTally) i noTally .followed
+each-none zero i = omega arith
+each-none (suc k) zero = omega arith
+each-none (suc k) (suc i) = each-none k i
 
 -- ---- the starts' runs
 
@@ -172,6 +192,21 @@ module _ {G : Graph} {starts : List ℕ} {W : ℕ} {g : Setting} (A : Accepted G
   unfolding start carried sum
   carrying-start = omega (arith, sum-none carries? (W - 1) idle refl)
 
+  -- the marks set are the distinct starts
+  starts-live : live (marksAt starts (unmarked G)) ≡ distinctStarts G starts
+  unfolding start
+  starts-live =
+      let ms = marksAt starts (unmarked G) in
+      live-span (λ (v : ℕ). set? (sum (hit v) starts)) 0 ms (λ (v : ℕ) (l : v < length ms).
+      by-cases (decLt 0 (sum (hit v) starts))
+      (λ (h : 0 < sum (hit v) starts).
+      set-some (getD ms v 0) (starts-marked starts (unmarked G) v h (rw length-replicate (A .starts-below v h)))
+      ∙ sym (rw zero-add (set-some (sum (hit v) starts) h)))
+      (λ (h : ¬ (0 < sum (hit v) starts)).
+      let z : sum (hit v) starts ≡ 0 = omega arith in
+      rw (zero-add, z, marks-at-other starts (unmarked G) v z, none-marked (objects G) v) refl))
+      ∙ ap (λ (k : ℕ). span (λ (v : ℕ). set? (sum (hit v) starts)) 0 k) marks-long
+
   -- the start is sound
   pub sound-start : Sound G starts W g (start G starts W)
   unfolding start
@@ -206,6 +241,11 @@ module _ {G : Graph} {starts : List ℕ} {W : ℕ} {g : Setting} (A : Accepted G
             absurd (omega (arith, none-start stopped refl (λ (l : List Run). refl)));
         since-followed = omega (arith, none-start sinceOf refl (λ (l : List Run). refl));
         refused-moved = omega arith;
+        tallies-length = length-replicate W noTally;
+        tallies-followed = sum-none (λ (t : Tally). t .followed) W noTally refl;
+        tallies-handed = sum-none (λ (t : Tally). t .handed) W noTally refl;
+        tallies-won = omega (arith, sum-none (λ (t : Tally). t .won) W noTally refl, starts-live);
+        tallies-claims = each-none W;
       }
 
   -- what worker 0 carries at the start

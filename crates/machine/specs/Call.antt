@@ -10,6 +10,7 @@ use Rattle.graph.specs.Graph.{Graph, graph, objects, allBelow, wellFormed}
 use Rattle.graph.specs.Limits.{most-objects, most-references, most-starts}
 use Rattle.machine.specs.Limits.{most-workers, most-setting}
 use Rattle.machine.specs.Row.{Row, refusedRow}
+use Rattle.machine.specs.Tally.{tally-words, talliesWords}
 use Rattle.machine.specs.Machine.{Setting, State, result, entries, memory, stretchLength}
 use Rattle.machine.specs.Demand2.{outcome}
 
@@ -56,9 +57,10 @@ settingFault W D K = raise (outside most-workers W || outside most-setting D || 
 abbrev pub countFault : List ℕ → List ℕ → ℕ
 countFault offsets targets = raise (ltb (length offsets) 2 || ltb (most-objects) (objects (graph offsets targets)) || ltb most-references (length targets)) 4 0
 
--- 7: not n marks, or not W × (2n + 4) work words
-abbrev pub bufferFault : ℕ → ℕ → ℕ → ℕ → ℕ
-bufferFault n W marks work = raise (not (eqb marks n) || not (eqb work (W * stretchLength n))) 7 0
+-- 7: not n marks, not W × (2n + 4) work words, or not 4 × W tally words
+abbrev pub bufferFault : ℕ → ℕ → ℕ → ℕ → ℕ → ℕ
+bufferFault n W marks work tallies =
+    raise (not (eqb marks n) || not (eqb work (W * stretchLength n)) || not (eqb tallies (W * tally-words))) 7 0
 
 -- 10
 abbrev pub graphFault : Graph → ℕ
@@ -82,12 +84,12 @@ scheduleFits W (b ∷ v ∷ l) = both (ltb b W) (scheduleFits W l)
 abbrev pub scheduleFault : ℕ → List ℕ → ℕ
 scheduleFault W schedule = raise (not (scheduleFits W schedule)) 9 0
 
--- the number of the first fault of a call with so many marks and work words, or 0
-unfoldable pub fault : Call → ℕ → ℕ → ℕ
-fault c marks work =
+-- the number of the first fault of a call with so many marks, work words and tally words, or 0
+unfoldable pub fault : Call → ℕ → ℕ → ℕ → ℕ
+fault c marks work tallies =
     first (settingFault (c .workers) (c .batch) (c .cutoff))
     (first (countFault (c .offsets) (c .targets))
-    (first (bufferFault (objects (graphOf c)) (c .workers) marks work)
+    (first (bufferFault (objects (graphOf c)) (c .workers) marks work tallies)
     (first (graphFault (graphOf c))
     (first (startsFault (c .starts))
     (first (objectFault (objects (graphOf c)) (c .starts))
@@ -105,20 +107,27 @@ answerFor zero c = result (final c)
 answerFor (suc k) c = refusedRow (suc k)
 
 -- what the call answers, where the buffers are these beforehand
-abbrev pub marking : Call → List ℕ → List ℕ → Row
-marking c marks work = answerFor (fault c (length marks) (length work)) c
+abbrev pub marking : Call → List ℕ → List ℕ → List ℕ → Row
+marking c marks work tallies = answerFor (fault c (length marks) (length work) (length tallies)) c
 
--- the marks and the work words afterwards; unchanged beside a refusal
+-- the marks, the work words and the tallies afterwards; unchanged beside a refusal
 abbrev pub marksFor : ℕ → Call → List ℕ → List ℕ
 marksFor zero c marks = final c .marks
 marksFor (suc k) c marks = marks
 
-abbrev pub marksAfter : Call → List ℕ → List ℕ → List ℕ
-marksAfter c marks work = marksFor (fault c (length marks) (length work)) c marks
+abbrev pub marksAfter : Call → List ℕ → List ℕ → List ℕ → List ℕ
+marksAfter c marks work tallies = marksFor (fault c (length marks) (length work) (length tallies)) c marks
 
 abbrev pub workFor : ℕ → Call → List ℕ → List ℕ
 workFor zero c work = memory (objects (graphOf c)) (final c .workers)
 workFor (suc k) c work = work
 
-abbrev pub workAfter : Call → List ℕ → List ℕ → List ℕ
-workAfter c marks work = workFor (fault c (length marks) (length work)) c work
+abbrev pub workAfter : Call → List ℕ → List ℕ → List ℕ → List ℕ
+workAfter c marks work tallies = workFor (fault c (length marks) (length work) (length tallies)) c work
+
+abbrev pub talliesFor : ℕ → Call → List ℕ → List ℕ
+talliesFor zero c tallies = talliesWords (final c .tallies)
+talliesFor (suc k) c tallies = tallies
+
+abbrev pub talliesAfter : Call → List ℕ → List ℕ → List ℕ → List ℕ
+talliesAfter c marks work tallies = talliesFor (fault c (length marks) (length work) (length tallies)) c tallies

@@ -8,6 +8,7 @@ use Rattle.graph.specs.Graph.{Graph, objects, rising, allBelow, wellFormed}
 use Rattle.graph.specs.Chain.{marksAt}
 use Rattle.machine.specs.Run.{carried, keep, rest}
 use Rattle.machine.specs.Machine.{turns, trail, start, startRuns, entries, allEnded, live, stretchLength}
+use Rattle.machine.specs.Tally.{tally-words}
 use Rattle.machine.specs.Row.{Row, refusedRow}
 use Rattle.machine.specs.Call.{Call, graphOf, settingOf, fault, scheduleFits, final, marking}
 use Rattle.machine.specs.Owners.{Win, claimsWon, claimsWonOf}
@@ -66,12 +67,12 @@ faulty offsets targets starts W l =
 -- the order of the checks, by calls with the faults of two neighbours at once: 8 and 4, 4 and 7, 7 and 10, 10 and 13,
 -- 13 and 5, 5 and 9
 pub checks-in-order :
-    fault (faulty [] [] (0 ∷ []) 0 []) 0 0
-    ∷ fault (faulty (0 ∷ []) [] (0 ∷ []) 1 []) 5 0
-    ∷ fault (faulty (1 ∷ 0 ∷ []) [] (0 ∷ []) 1 []) 0 6
-    ∷ fault (faulty (1 ∷ 0 ∷ []) [] [] 1 []) 1 6
-    ∷ fault (faulty (0 ∷ 0 ∷ []) [] (replicate 258 9) 1 []) 1 6
-    ∷ fault (faulty (0 ∷ 0 ∷ []) [] (0 ∷ 9 ∷ []) 1 (7 ∷ [])) 1 6
+    fault (faulty [] [] (0 ∷ []) 0 []) 0 0 0
+    ∷ fault (faulty (0 ∷ []) [] (0 ∷ []) 1 []) 5 0 4
+    ∷ fault (faulty (1 ∷ 0 ∷ []) [] (0 ∷ []) 1 []) 0 6 4
+    ∷ fault (faulty (1 ∷ 0 ∷ []) [] [] 1 []) 1 6 4
+    ∷ fault (faulty (0 ∷ 0 ∷ []) [] (replicate 258 9) 1 []) 1 6 4
+    ∷ fault (faulty (0 ∷ 0 ∷ []) [] (0 ∷ 9 ∷ []) 1 (7 ∷ [])) 1 6 4
     ∷ []
     ≡ 8 ∷ 4 ∷ 7 ∷ 10 ∷ 13 ∷ 5 ∷ []
 unfolding fault rising allBelow wellFormed scheduleFits
@@ -105,6 +106,7 @@ drawn d =
     marking (d .call)
     (ones (objects (graphOf (d .call))))
     (ones (d .call .workers * stretchLength (objects (graphOf (d .call)))))
+    (ones (d .call .workers * tally-words))
 
 pub drawings-hold : map drawn drawings ≡ map (λ (d : Drawing). d .gives) drawings
 unfolding drawn drawings turns start entries allEnded live startRuns carried marksAt keep rest rising allBelow wellFormed scheduleFits

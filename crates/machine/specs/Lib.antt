@@ -12,5 +12,7 @@ pub mod Owners
 pub mod Row
 pub mod Rules
 pub mod Starts
+pub mod Tallies
+pub mod Tally
 pub mod Run
 pub mod Sound

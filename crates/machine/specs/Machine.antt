@@ -11,6 +11,7 @@ use Rattle.graph.specs.Graph.{Graph, objects, target}
 use Rattle.graph.specs.Chain.{set?, marksAt}
 use Rattle.machine.specs.declared.Counts.{Counts}
 use Rattle.machine.specs.Row.{Row, freshCounts, countMove, countFollow}
+use Rattle.machine.specs.Tally.{Tally, tally, noTally, tallied}
 use Rattle.machine.specs.Run.{Run, run, runFrom, carried, leaving, keep, rest, half, pairs}
 
 -- A busy worker's batch, and what its next turn is: batch 0, a poll; batch k + 1, a look; batch k + 1, a claim.
@@ -31,10 +32,11 @@ pub data Worker : Type 0 where
   given : List Run → Worker
   busy : Cell → ℕ → Phase → List Run → Worker
 
--- What the turns change: a mark for each object, the workers, and the counts.
+-- What the turns change: a mark for each object, the workers, the tally of each, and the counts.
 pub record State : Type 0 where
   pub marks : List ℕ
   pub workers : List Worker
+  pub tallies : List Tally
   pub counts : Counts
 
 -- D and K
@@ -112,6 +114,7 @@ start G starts W =
     record {
       marks = marksAt starts (unmarked G);
       workers = withRuns (startRuns G starts (unmarked G)) ∷ replicate (W - 1) idle;
+      tallies = replicate W noTally;
       counts = freshCounts (live (marksAt starts (unmarked G))) (carries? (withRuns (startRuns G starts (unmarked G))));
     }
 
@@ -119,7 +122,8 @@ start G starts W =
 
 -- the state with these workers, and the counts raised by these
 abbrev pub moves : State → List Worker → ℕ → ℕ → State
-moves s ws handed⁺ refused⁺ = record { marks = s .marks; workers = ws; counts = countMove (s .counts) handed⁺ refused⁺ }
+moves s ws handed⁺ refused⁺ =
+    record { marks = s .marks; workers = ws; tallies = s .tallies; counts = countMove (s .counts) handed⁺ refused⁺ }
 
 -- worker b becomes w, and nothing else
 abbrev pub becomes : State → ℕ → Worker → State
@@ -160,9 +164,14 @@ giver g n rs =
 abbrev pub receiver : List Run → Worker
 receiver rs = given (rest (half (carried rs)) rs)
 
--- The answer to asker a at a poll: a hand-over, or a refusal. Then batch is the smaller of D and what is carried.
+-- the state where worker b's tally counts so much more
+abbrev pub tallies : State → ℕ → Tally → State
+tallies s b y = record { marks = s .marks; workers = s .workers; tallies = tallied (s .tallies) b y; counts = s .counts }
+
+-- The answer to asker a at a poll: a hand-over, which the tally of b counts, or a refusal. Then batch is the smaller of D
+-- and what is carried.
 abbrev pub answer : Bool → Setting → State → ℕ → ℕ → ℕ → List Run → State
-answer true g s b a n rs = moves s (set (set (s .workers) b (giver g n rs)) a (receiver rs)) 1 0
+answer true g s b a n rs = moves (tallies s b (tally 0 0 0 1)) (set (set (s .workers) b (giver g n rs)) a (receiver rs)) 1 0
 answer false g s b a n rs =
     moves s (set (set (s .workers) b (busy empty n (phase (min (g .batch) (carried rs))) rs)) a denied) 0 1
 
@@ -193,19 +202,25 @@ dismissed empty rs = 0
 dismissed (from a) [] = 1
 dismissed (from a) (r ∷ rs) = 0
 
--- What is found at a reference's target: the marks afterwards, the runs that it opens, and how many marks are new.
+-- What is found at a reference's target: the marks afterwards, the runs that it opens, how many marks are new, and how
+-- many claims are lost.
 pub record Claimed : Type 0 where
   pub marks : List ℕ
   pub opened : List Run
   pub won : ℕ
+  pub lost : ℕ
 
--- the target is marked already
+-- a look finds the target marked: nothing is claimed
+abbrev pub notClaimed : State → Claimed
+notClaimed s = record { marks = s .marks; opened = []; won = 0; lost = 0 }
+
+-- a claim finds it marked in the meantime
 abbrev pub claimLost : State → Claimed
-claimLost s = record { marks = s .marks; opened = []; won = 0 }
+claimLost s = record { marks = s .marks; opened = []; won = 0; lost = 1 }
 
 -- worker b marks the target v, whose references open; an object without references opens no run
 abbrev pub claimWon : Graph → State → ℕ → ℕ → Claimed
-claimWon G s b v = record { marks = set (s .marks) v (claimMark b); opened = leaving G v; won = 1 }
+claimWon G s b v = record { marks = set (s .marks) v (claimMark b); opened = leaving G v; won = 1; lost = 0 }
 
 -- a claim reads the mark again; the first argument is what it reads
 abbrev pub claims : ℕ → Graph → State → ℕ → ℕ → Claimed
@@ -223,6 +238,7 @@ follows s b c n k o rs =
     record {
       marks = o .marks;
       workers = dismiss c rs (set (s .workers) b (onward c (suc n) k rs));
+      tallies = tallied (s .tallies) b (tally 1 (o .won) (o .lost) 0);
       counts = countFollow (s .counts) (o .won) (dismissed c rs) (emptied rs);
     }
 
@@ -230,7 +246,7 @@ follows s b c n k o rs =
 -- next turn is a claim. The first argument is the target's mark.
 abbrev pub lookTurn : ℕ → State → ℕ → Cell → ℕ → ℕ → ℕ → ℕ → List Run → State
 lookTurn zero s b c n k e j rs = becomes s b (busy c n (claim k) (run e j ∷ rs))
-lookTurn (suc x) s b c n k e j rs = follows s b c n k (claimLost s) (onwardRuns e j [] rs)
+lookTurn (suc x) s b c n k e j rs = follows s b c n k (notClaimed s) (onwardRuns e j [] rs)
 
 -- A claim of the target; the reference is followed, whether the claim is won or lost.
 abbrev pub claimTurn : Claimed → State → ℕ → Cell → ℕ → ℕ → ℕ → ℕ → List Run → State

@@ -7,7 +7,7 @@ use lib.ListN.{set}
 use Rattle.graph.specs.Graph.{Graph, target}
 use Rattle.machine.specs.Run.{Run, run, carried}
 use Rattle.machine.specs.Machine.{Setting, State, Worker, idle, asking, denied, ended, given, busy, Cell, empty, from, Phase, poll, look, claim}
-use Rattle.machine.specs.Machine.{phase, worker, markOf, moves, becomes, shares, answer, Claimed, claimLost, claimWon}
+use Rattle.machine.specs.Machine.{phase, worker, markOf, moves, becomes, shares, answer, Claimed, notClaimed, claimLost, claimWon}
 use Rattle.machine.specs.Machine.{onwardRuns, follows}
 
 -- A worker whose turn changes nothing.
@@ -37,7 +37,7 @@ pub data Alone (G : Graph) (g : Setting) (s : State) : Worker → Worker → Typ
 -- In this phase worker b takes reference e off; so much of the batch is left, and this is found at the target.
 pub data Taken (G : Graph) (s : State) (b e : ℕ) : Phase → ℕ → Claimed → Type 0 where
   -- a look finds the target marked
-  seen : {k x : ℕ} → markOf s (target G e) ≡ suc x → Taken G s b e (look k) k (claimLost s)
+  seen : {k x : ℕ} → markOf s (target G e) ≡ suc x → Taken G s b e (look k) k (notClaimed s)
   -- a claim finds it marked in the meantime
   lost : {k x : ℕ} → markOf s (target G e) ≡ suc x → Taken G s b e (claim k) k (claimLost s)
   -- a claim finds it unmarked, and marks it

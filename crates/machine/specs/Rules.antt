@@ -85,12 +85,12 @@ rules-leave = refl
 
 -- the marks and the work words of an unfinished collection, in buffers that held ones: of each worker the run to be
 -- followed last stands first, a cut run among them, and zeros behind
-pub marks-cut : marksAfter (cutInTheMiddle .call) (ones 5) (ones 28) ≡ 1 ∷ 1 ∷ 1 ∷ 1 ∷ 0 ∷ []
+pub marks-cut : marksAfter (cutInTheMiddle .call) (ones 5) (ones 28) (ones 8) ≡ 1 ∷ 1 ∷ 1 ∷ 1 ∷ 0 ∷ []
 unfolding cutInTheMiddle fault turns start entries live startRuns carried marksAt keep rest rising allBelow wellFormed scheduleFits
 marks-cut = refl
 
 pub work-cut :
-    workAfter (cutInTheMiddle .call) (ones 5) (ones 28)
+    workAfter (cutInTheMiddle .call) (ones 5) (ones 28) (ones 8)
     ≡ (5 ∷ 7 ∷ 9 ∷ 11 ∷ replicate 10 0) ++ (3 ∷ 5 ∷ 7 ∷ 9 ∷ replicate 10 0)
 unfolding cutInTheMiddle fault turns start entries live startRuns carried marksAt keep rest rising allBelow wellFormed scheduleFits memory stretch laid pairs
 work-cut = refl

@@ -8,10 +8,11 @@ use Rattle.laws.specs.Sum.{sum, hit}
 use Rattle.laws.specs.Every.{Every}
 use Rattle.laws.specs.Span.{span}
 use Rattle.graph.specs.Graph.{Graph, Leaves, objects, references, first, after, target}
-use Rattle.graph.specs.Chain.{Reach, overMarked}
+use Rattle.graph.specs.Chain.{Reach, set?, overMarked}
 use Rattle.graph.specs.Leaving.{leavingSum, leavingUnmarked}
 use Rattle.machine.specs.Run.{Run, run, size, carried}
 use Rattle.machine.specs.Machine.{Setting, State, Worker, idle, asking, denied, ended, given, busy, Cell, empty, from, Phase, poll, look, claim}
+use Rattle.machine.specs.Tally.{Tally, noTally}
 use Rattle.machine.specs.Machine.{worker, runsOf, carriedBy, carries?, carriedAll, live}
 
 -- object v is marked
@@ -132,6 +133,26 @@ runsSum f rs = sum (runSum f) rs
 abbrev pub heldSum : (ℕ → ℕ) → Worker → ℕ
 heldSum f w = runsSum f (runsOf w)
 
+-- ---- the tallies
+
+-- worker b's tally; one that is not there has none
+abbrev pub tallyOf : State → ℕ → Tally
+tallyOf s b = getD (s .tallies) b noTally
+
+-- what the tallies of all workers sum to
+abbrev pub followedSum : State → ℕ
+followedSum s = sum (λ (t : Tally). t .followed) (s .tallies)
+
+abbrev pub wonSum : State → ℕ
+wonSum s = sum (λ (t : Tally). t .won) (s .tallies)
+
+abbrev pub handedSum : State → ℕ
+handedSum s = sum (λ (t : Tally). t .handed) (s .tallies)
+
+-- how many objects are starts; one that stands in the list twice is one object
+abbrev pub distinctStarts : Graph → List ℕ → ℕ
+distinctStarts G starts = span (λ (v : ℕ). set? (sum (hit v) starts)) 0 (objects G)
+
 -- ---- the state
 
 -- how often reference e is carried
@@ -165,6 +186,13 @@ pub record Sound (G : Graph) (starts : List ℕ) (W : ℕ) (g : Setting) (s : St
   -- the sinces sum to at most followed
   pub since-followed : sum sinceOf (s .workers) ≤ s .counts .followed
   pub refused-moved : s .counts .refused ≤ s .counts .moved
+  -- a tally for each worker; their sums are the counts, and the claims won and the starts are what is marked
+  pub tallies-length : length (s .tallies) ≡ W
+  pub tallies-followed : followedSum s ≡ s .counts .followed
+  pub tallies-handed : handedSum s ≡ s .counts .handed
+  pub tallies-won : wonSum s + distinctStarts G starts ≡ s .counts .live
+  -- a claim is followed, whether it is won or lost
+  pub tallies-claims : (b : ℕ) → tallyOf s b .won + tallyOf s b .lost ≤ tallyOf s b .followed
 
 -- ---- a collection begun afresh
 

@@ -73,12 +73,12 @@ leased-leaving = refl
 
 -- the edges of 13: 1 and 257 starts are taken, none and 258 are not
 pub start-counts :
-    map (λ (k : ℕ). fault (faulty (0 ∷ 0 ∷ []) [] (replicate k 0) 1 []) 1 6) (0 ∷ 1 ∷ 257 ∷ 258 ∷ []) ≡ 13 ∷ 0 ∷ 0 ∷ 13 ∷ []
+    map (λ (k : ℕ). fault (faulty (0 ∷ 0 ∷ []) [] (replicate k 0) 1 []) 1 6 4) (0 ∷ 1 ∷ 257 ∷ 258 ∷ []) ≡ 13 ∷ 0 ∷ 0 ∷ 13 ∷ []
 unfolding fault rising allBelow wellFormed scheduleFits
 start-counts = refl
 
 -- 5 looks at every start: n - 1 is taken, n is not
 pub start-objects :
-    map (λ (v : ℕ). fault (faulty (0 ∷ 0 ∷ 0 ∷ []) [] (0 ∷ v ∷ []) 1 []) 2 8) (0 ∷ 1 ∷ 2 ∷ []) ≡ 0 ∷ 0 ∷ 5 ∷ []
+    map (λ (v : ℕ). fault (faulty (0 ∷ 0 ∷ 0 ∷ []) [] (0 ∷ v ∷ []) 1 []) 2 8 4) (0 ∷ 1 ∷ 2 ∷ []) ≡ 0 ∷ 0 ∷ 5 ∷ []
 unfolding fault rising allBelow wellFormed scheduleFits
 start-objects = refl

@@ -10,6 +10,9 @@ pub const MOST_WORKERS: u32 = 16;
 
 pub const MOST_SETTING: u32 = 65535;
 
+// The words of a worker's tally: followed, won, lost and handed.
+pub const TALLY: usize = 4;
+
 // The counts of a collection: marks set, references followed, polls that shared, asks refused, turns
 // that changed something, and workers that carry references now.
 pub struct Counts {
