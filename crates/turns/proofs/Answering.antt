@@ -13,6 +13,7 @@ use Rattle.graph.specs.Graph.{Graph, target}
 use Rattle.machine.specs.Row.{countMove}
 use Rattle.machine.specs.declared.Counts.{Counts}
 use Rattle.machine.specs.Run.{Run, run, runFrom, carried, keep, half}
+use Rattle.machine.specs.Tally.{tally}
 use Rattle.machine.specs.Machine.{State, asking, denied, busy, Cell, empty, from, poll, phase, worker, giver, receiver, answer, shares}
 use Rattle.machine.proofs.Facts.{busy-below, busy-carried, busy-carried-limit, since-limit, followed-limit, asker-asking, asker-below, asker-other}
 use Rattle.machine.proofs.Runs.{halves}
@@ -28,6 +29,8 @@ use Rattle.turns.specs.Polling.{batchedBlock, sharedBlock, givenBlock}
 use Rattle.turns.specs.Held.{memory, settingOf, stretchAt, phaseWord, nextTarget, topOf, BusyIs, Holds, Scene}
 use Rattle.turns.specs.Turned.{turned, Ready, IsPolling, IsAsked, Dividing, Divided}
 use Rattle.turns.proofs.Bounds.{block-room, stretch-room}
+use Rattle.turns.specs.Raising.{raisedWords}
+use Rattle.turns.proofs.Raising.{raised-held}
 use Rattle.turns.proofs.Each.{all-same, hold-one, hold-two}
 use Rattle.turns.proofs.Asking.{turn-as}
 
@@ -47,7 +50,7 @@ phase-look : (k : ℕ) → 0 < k → 6 ≡ phaseWord (phase k)
 phase-look zero h = absurd (omega arith)
 phase-look (suc k) h = refl
 
-module _ {G : Graph} {g : Setup} {s : State} {marks work regs : List ℕ} {p : Progress} (c : Scene G g s) (h : Holds G g s (memory marks work regs p)) where
+module _ {G : Graph} {g : Setup} {s : State} {marks work tallies regs : List ℕ} {p : Progress} (c : Scene G g s) (h : Holds G g s (memory marks work tallies regs p)) where
   long : length (s .workers) ≡ g .workers
   long = c .sound .workers-length
 
@@ -104,7 +107,7 @@ module _ {G : Graph} {g : Setup} {s : State} {marks work regs : List ℕ} {p : P
   -- nobody asks: four words of the block change
   pub holds-polled : (b v : ℕ) {n : ℕ} {rs : List Run} → worker s b ≡ busy empty n poll rs
       → Holds G g (turned g b v G s)
-      (memory marks work (begun g regs b) (movedOn p 0 0))
+      (memory marks work tallies (begun g regs b) (movedOn p 0 0))
   holds-polled b v {n} {rs} e =
       let r = block-room c h b (poll-low b e) in
       let low : Every (λ (w : Word). w .place < 9) (batchWords g (blockAt regs b)) = (omega arith, (omega arith, (omega arith, (omega arith, tt)))) in
@@ -123,6 +126,7 @@ module _ {G : Graph} {g : Setup} {s : State} {marks work regs : List ℕ} {p : P
       refl
       refl
       (h .marks-are)
+      (h .tallies-are)
       (ap (λ (x : Counts). countMove x 0 0) (h .counts-are)))
 
   -- a worker with an asker
@@ -145,7 +149,7 @@ module _ {G : Graph} {g : Setup} {s : State} {marks work regs : List ℕ} {p : P
     -- it is refused
     pub holds-refused : shares (g .cutoff) n (carried rs) ≡ false → (v : ℕ)
         → Holds G g (turned g b v G s)
-        (memory marks work
+        (memory marks work tallies
         (putAt (emptied g regs b) (blockAt regs b .cell - 1) 0 2)
         (movedOn p 0 1))
     holds-refused q v =
@@ -161,6 +165,7 @@ module _ {G : Graph} {g : Setup} {s : State} {marks work regs : List ℕ} {p : P
         refl
         refl
         (h .marks-are)
+        (h .tallies-are)
         (ap (λ (x : Counts). countMove x 0 1) (h .counts-are)))
 
     -- ---- sharing
@@ -200,7 +205,7 @@ module _ {G : Graph} {g : Setup} {s : State} {marks work regs : List ℕ} {p : P
       holds-shared-runs : (v : ℕ) (work′ : List ℕ) (kept gave : Top)
           → Divided (g .stretch) work b a (topOf (blockAt regs b)) (half (carried rs)) work′ kept gave
           → Holds G g (turned g b v G s)
-          (memory marks work′
+          (memory marks work′ (raisedWords tallies b (tally 0 0 0 1))
           (storeAt (storeAt regs b (sharedBlock (blockAt regs b) (min (g .batch) (half (carried rs))) (half (carried rs)) kept)) a
           (givenBlock gave (carried rs - half (carried rs))))
           (movedOn p 1 0))
@@ -229,6 +234,7 @@ module _ {G : Graph} {g : Setup} {s : State} {marks work regs : List ℕ} {p : P
           refl
           refl
           (h .marks-are)
+          (raised-held c h b (poll-low b e) (tally 0 0 0 1))
           (ap (λ (x : Counts). countMove x 1 0) (h .counts-are)))
 
       -- the same, as the words tell it
@@ -241,7 +247,7 @@ module _ {G : Graph} {g : Setup} {s : State} {marks work regs : List ℕ} {p : P
       pub holds-shared : (v : ℕ) (work′ : List ℕ) (kept gave : Top)
           → Divided (g .stretch) work b (blockAt regs b .cell - 1) (topOf (blockAt regs b)) (half (blockAt regs b .carried)) work′ kept gave
           → Holds G g (turned g b v G s)
-          (memory marks work′
+          (memory marks work′ (raisedWords tallies b (tally 0 0 0 1))
           (storeAt
           (storeAt regs b (sharedBlock (blockAt regs b) (min (g .batch) (half (blockAt regs b .carried))) (half (blockAt regs b .carried)) kept))
           (blockAt regs b .cell - 1)
@@ -253,10 +259,10 @@ module _ {G : Graph} {g : Setup} {s : State} {marks work regs : List ℕ} {p : P
 -- ---- the two kinds of a poll
 
 -- a worker that polls with a cell that is not empty is asked, and answers as its words tell
-pub asked-here : {g : Setup} {marks work regs : List ℕ} {p : Progress} (b : ℕ) (t : Bool) → blockAt regs b .cell ≢ 0
-    → shares (g .cutoff) (blockAt regs b .since) (blockAt regs b .carried) ≡ t → (x : Ready (IsPolling b) g (memory marks work regs p))
+pub asked-here : {g : Setup} {marks work tallies regs : List ℕ} {p : Progress} (b : ℕ) (t : Bool) → blockAt regs b .cell ≢ 0
+    → shares (g .cutoff) (blockAt regs b .since) (blockAt regs b .carried) ≡ t → (x : Ready (IsPolling b) g (memory marks work tallies regs p))
     → IsAsked g t b (x .graph) (x .state)
-asked-here {g} {marks} {work} {regs} b t m q x = by (x .here .cell) (x .here .is)
+asked-here {g} {marks} {work} {tallies} {regs} b t m q x = by (x .here .cell) (x .here .is)
   where
     is : {cell : Cell} → worker (x .state) b ≡ busy cell (x .here .since) poll (x .here .runs)
         → BusyIs (x .graph) cell (x .here .since) poll (x .here .runs) (blockAt regs b) (stretchAt (g .stretch) b work)
@@ -273,21 +279,21 @@ asked-here {g} {marks} {work} {regs} b t m q x = by (x .here .cell) (x .here .is
           answers = rw (poll-since (x .scene) (x .holds) b e, poll-carried (x .scene) (x .holds) b e) at q;
         }
 
-abbrev pub asked : {g : Setup} {marks work regs : List ℕ} {p : Progress} (b : ℕ) (t : Bool) → blockAt regs b .cell ≢ 0
-    → shares (g .cutoff) (blockAt regs b .since) (blockAt regs b .carried) ≡ t → Ready (IsPolling b) g (memory marks work regs p)
-    → Ready (IsAsked g t b) g (memory marks work regs p)
+abbrev pub asked : {g : Setup} {marks work tallies regs : List ℕ} {p : Progress} (b : ℕ) (t : Bool) → blockAt regs b .cell ≢ 0
+    → shares (g .cutoff) (blockAt regs b .since) (blockAt regs b .carried) ≡ t → Ready (IsPolling b) g (memory marks work tallies regs p)
+    → Ready (IsAsked g t b) g (memory marks work tallies regs p)
 asked b t m q x =
     record { graph = x .graph; state = x .state; scene = x .scene; holds = x .holds; here = asked-here b t m q x }
 
 -- and one whose cell is empty is not
-pub unasked : {g : Setup} {marks work regs : List ℕ} {p : Progress} (b v : ℕ) → blockAt regs b .cell ≡ 0
-    → (x : Ready (IsPolling b) g (memory marks work regs p))
+pub unasked : {g : Setup} {marks work tallies regs : List ℕ} {p : Progress} (b v : ℕ) → blockAt regs b .cell ≡ 0
+    → (x : Ready (IsPolling b) g (memory marks work tallies regs p))
     → Holds (x .graph) g (turned g b v (x .graph) (x .state))
-    (memory marks work (begun g regs b) (movedOn p 0 0))
-unasked {g} {marks} {work} {regs} {p} b v z x = by (x .here .cell) (x .here .is)
+    (memory marks work tallies (begun g regs b) (movedOn p 0 0))
+unasked {g} {marks} {work} {tallies} {regs} {p} b v z x = by (x .here .cell) (x .here .is)
   where
     by : (cell : Cell) → worker (x .state) b ≡ busy cell (x .here .since) poll (x .here .runs)
         → Holds (x .graph) g (turned g b v (x .graph) (x .state))
-        (memory marks work (begun g regs b) (movedOn p 0 0))
+        (memory marks work tallies (begun g regs b) (movedOn p 0 0))
     by empty e = holds-polled (x .scene) (x .holds) b v e
     by (from a) e = absurd (omega (arith, z, poll-is (x .scene) (x .holds) b e .cell))

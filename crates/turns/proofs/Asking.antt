@@ -39,7 +39,7 @@ first-told G (run f j ∷ rs) t some l e =
     let q : t .first ≡ f = ap (λ (x : Top). x .first) e in
     (omega (arith, q, l .0), ap (λ (i : ℕ). target G i) q)
 
-module _ {G : Graph} {g : Setup} {s : State} {marks work regs : List ℕ} {p : Progress} (c : Scene G g s) (h : Holds G g s (memory marks work regs p)) where
+module _ {G : Graph} {g : Setup} {s : State} {marks work tallies regs : List ℕ} {p : Progress} (c : Scene G g s) (h : Holds G g s (memory marks work tallies regs p)) where
   long : length (s .workers) ≡ g .workers
   long = c .sound .workers-length
 
@@ -48,12 +48,13 @@ module _ {G : Graph} {g : Setup} {s : State} {marks work regs : List ℕ} {p : P
   stays b = all-same (g .workers) (g .stretch) b work
 
   -- a refused asker wakes
-  pub holds-woken : (b v : ℕ) → worker s b ≡ denied → Holds G g (turned g b v G s) (memory marks work (putAt regs b 0 0) (movedOn p 0 0))
+  pub holds-woken : (b v : ℕ) → worker s b ≡ denied → Holds G g (turned g b v G s) (memory marks work tallies (putAt regs b 0 0) (movedOn p 0 0))
   holds-woken b v e =
       let low = below-workers (c .accepted) (c .sound) b (rw e (omega arith)) in
       rw (turn-as g b v G s e)
       (hold-one h long b low e idle work (put-stored regs b (block-room c h b low .long) 0 0 (omega arith)) refl (stays b) refl refl refl
       (h .marks-are)
+      (h .tallies-are)
       (ap (λ (x : Counts). countMove x 0 0) (h .counts-are)))
 
   module _ (b v : ℕ) (e : worker s b ≡ idle) where
@@ -69,12 +70,13 @@ module _ {G : Graph} {g : Setup} {s : State} {marks work regs : List ℕ} {p : P
         turn-as g b v G s e
         ∙ ap (λ (k : ℕ). idleTurn k s b v) (sym (ap (λ (x : Counts). x .carrying) (h .counts-are)) ∙ z)
 
-    pub holds-ended : p .counts .carrying ≡ 0 → Holds G g (turned g b v G s) (memory marks work (putAt regs b 0 3) (endedOne p))
+    pub holds-ended : p .counts .carrying ≡ 0 → Holds G g (turned g b v G s) (memory marks work tallies (putAt regs b 0 3) (endedOne p))
     holds-ended z =
         rw (ends-as z)
         (hold-one h long b idle-low e ended work (put-stored regs b (block-room c h b idle-low .long) 0 3 (omega arith)) refl (stays b) refl
         (omega (arith, rw e at (running-at c h b))) refl
         (h .marks-are)
+        (h .tallies-are)
         (ap (λ (x : Counts). countMove x 0 0) (h .counts-are)))
 
     -- it asks, by what the named worker is
@@ -87,7 +89,7 @@ module _ {G : Graph} {g : Setup} {s : State} {marks work regs : List ℕ} {p : P
 
     -- nobody is asked where the named worker is not busy with an empty cell
     pub holds-still : p .counts .carrying ≢ 0 → ((n : ℕ) (q : Phase) (rs : List Run) → worker s v ≡ busy empty n q rs → ⊥)
-        → Holds G g (turned g b v G s) (memory marks work regs p)
+        → Holds G g (turned g b v G s) (memory marks work tallies regs p)
     holds-still n none = rw (asks-as n ∙ still (worker s v) refl) h
       where
         still : (w : Worker) → worker s v ≡ w → asks w s b v ≡ s
@@ -101,7 +103,7 @@ module _ {G : Graph} {g : Setup} {s : State} {marks work regs : List ℕ} {p : P
 
     -- it is asked
     pub holds-asked : p .counts .carrying ≢ 0 → v < g .workers → (n : ℕ) (q : Phase) (rs : List Run) → worker s v ≡ busy empty n q rs
-        → Holds G g (turned g b v G s) (memory marks work (putAt (putAt regs v 2 (b + 1)) b 0 1) (movedOn p 0 0))
+        → Holds G g (turned g b v G s) (memory marks work tallies (putAt (putAt regs v 2 (b + 1)) b 0 1) (movedOn p 0 0))
     holds-asked m lv n q rs f =
         let r = block-room c h v lv in
         let st = put-stored regs v (r .long) 2 (b + 1) (omega arith) in
@@ -126,6 +128,7 @@ module _ {G : Graph} {g : Setup} {s : State} {marks work regs : List ℕ} {p : P
         refl
         refl
         (h .marks-are)
+        (h .tallies-are)
         (ap (λ (x : Counts). countMove x 0 0) (h .counts-are)))
 
   -- ---- what a block tells of its worker
@@ -182,7 +185,7 @@ module _ {G : Graph} {g : Setup} {s : State} {marks work regs : List ℕ} {p : P
         (given-runs-limit (c .accepted) (c .sound) b e) (given-is .1 .told .top)
 
     pub holds-taken : (v t : ℕ) → t ≡ target G (blockAt regs b .first)
-        → Holds G g (turned g b v G s) (memory marks work (storeAt regs b (takenBlock (blockAt regs b) t)) (movedOn p 0 0))
+        → Holds G g (turned g b v G s) (memory marks work tallies (storeAt regs b (takenBlock (blockAt regs b) t)) (movedOn p 0 0))
     holds-taken v t q =
         rw (turn-as g b v G s e)
         (hold-one h long b given-low e (busy empty 0 poll rs) work
@@ -198,4 +201,5 @@ module _ {G : Graph} {g : Setup} {s : State} {marks work regs : List ℕ} {p : P
         refl
         refl
         (h .marks-are)
+        (h .tallies-are)
         (ap (λ (x : Counts). countMove x 0 0) (h .counts-are)))

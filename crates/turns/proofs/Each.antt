@@ -10,6 +10,7 @@ use lib.Seq.{getD-set-same, getD-set-other}
 use Rattle.laws.specs.Sum.{sum}
 use Rattle.laws.proofs.Sum.{sum-set}
 use Rattle.graph.specs.Graph.{Graph}
+use Rattle.machine.specs.Tally.{talliesWords}
 use Rattle.machine.specs.Machine.{State, Worker, ended, worker}
 use Rattle.worker.specs.declared.registers.Block.{Block}
 use Rattle.worker.specs.Registers.{Stored}
@@ -41,15 +42,16 @@ module _ (G : Graph) (W L : ℕ) (ws : List Worker) (regs work : List ℕ) (long
       rw (getD-set-other ws b a w ended h, st .others a h, same a low h) (each a low))
 
 -- one worker changes
-module _ {G : Graph} {g : Setup} {s : State} {marks work regs : List ℕ} {p : Progress} (h : Holds G g s (memory marks work regs p))
+module _ {G : Graph} {g : Setup} {s : State} {marks work tallies regs : List ℕ} {p : Progress} (h : Holds G g s (memory marks work tallies regs p))
     (long : length (s .workers) ≡ g .workers) (b : ℕ) (low : b < g .workers) {x : Worker} (is : worker s b ≡ x) where
-  pub hold-one : (w : Worker) {r : Block} {marks′ regs′ : List ℕ} (work′ : List ℕ) {p′ : Progress} → Stored regs b r regs′ → length work′ ≡ length work
+  pub hold-one : (w : Worker) {r : Block} {marks′ tallies′ regs′ : List ℕ} (work′ : List ℕ) {p′ : Progress} → Stored regs b r regs′ → length work′ ≡ length work
       → SameBut (g .workers) (g .stretch) b work work′ → BlockIs G w r (stretchAt (g .stretch) b work′)
       → p′ .running + running? x ≡ p .running + running? w
-      → {s′ : State} → s′ .workers ≡ set (s .workers) b w → marks′ ≡ s′ .marks → p′ .counts ≡ s′ .counts → Holds G g s′ (memory marks′ work′ regs′ p′)
-  hold-one w {r} {marks′} {regs′} work′ {p′} st wl same bl ru {s′} ws ma co =
+      → {s′ : State} → s′ .workers ≡ set (s .workers) b w → marks′ ≡ s′ .marks → tallies′ ≡ talliesWords (s′ .tallies) → p′ .counts ≡ s′ .counts → Holds G g s′ (memory marks′ work′ tallies′ regs′ p′)
+  hold-one w {r} {marks′} {tallies′} {regs′} work′ {p′} st wl same bl ru {s′} ws ma ta co =
       record {
         marks-are = ma;
+        tallies-are = ta;
         counts-are = co;
         running-is = rw ws (omega (arith, ru, h .running-is, sum-set running? ended (s .workers) b x w is (omega (arith, long))));
         regs-long = st .long ∙ h .regs-long;
@@ -59,15 +61,16 @@ module _ {G : Graph} {g : Setup} {s : State} {marks work regs : List ℕ} {p : P
 
   -- and another one
   pub hold-two : (w : Worker) {r : Block} {regs₁ : List ℕ} → Stored regs b r regs₁ → (a : ℕ) → a < g .workers → a ≢ b → {y : Worker}
-      → worker s a ≡ y → (z : Worker) {q : Block} {marks′ regs′ : List ℕ} (work′ : List ℕ) {p′ : Progress} → Stored regs₁ a q regs′
+      → worker s a ≡ y → (z : Worker) {q : Block} {marks′ tallies′ regs′ : List ℕ} (work′ : List ℕ) {p′ : Progress} → Stored regs₁ a q regs′
       → length work′ ≡ length work
       → ((i : ℕ) → i < g .workers → i ≢ b → i ≢ a → stretchAt (g .stretch) i work′ ≡ stretchAt (g .stretch) i work)
       → BlockIs G w r (stretchAt (g .stretch) b work′) → BlockIs G z q (stretchAt (g .stretch) a work′)
       → p′ .running + running? x + running? y ≡ p .running + running? w + running? z
-      → {s′ : State} → s′ .workers ≡ set (set (s .workers) b w) a z → marks′ ≡ s′ .marks → p′ .counts ≡ s′ .counts → Holds G g s′ (memory marks′ work′ regs′ p′)
-  hold-two w {r} {regs₁} st a la other {y} iy z {q} {marks′} {regs′} work′ {p′} st′ wl same bl bl′ ru {s′} ws ma co =
+      → {s′ : State} → s′ .workers ≡ set (set (s .workers) b w) a z → marks′ ≡ s′ .marks → tallies′ ≡ talliesWords (s′ .tallies) → p′ .counts ≡ s′ .counts → Holds G g s′ (memory marks′ work′ tallies′ regs′ p′)
+  hold-two w {r} {regs₁} st a la other {y} iy z {q} {marks′} {tallies′} {regs′} work′ {p′} st′ wl same bl bl′ ru {s′} ws ma ta co =
       record {
         marks-are = ma;
+        tallies-are = ta;
         counts-are = co;
         running-is = rw ws (omega (arith, ru, h .running-is, sums, sums′));
         regs-long = st′ .long ∙ st .long ∙ h .regs-long;

@@ -3,6 +3,7 @@ pub mod Asking
 pub mod Bounds
 pub mod Dividing
 pub mod Each
+pub mod Raising
 pub mod Looking
 pub mod Advance
 pub mod Onward

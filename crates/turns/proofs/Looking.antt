@@ -1,5 +1,6 @@
 -- Looks and claims: what is found at the target, and that the turn then is following.
 use mathlib.Core.Path.{_≡_, refl, sym, ap, _∙_, subst}
+use mathlib.Core.Bool.{Bool, true, false}
 use mathlib.Core.Logic.{_≢_}
 use mathlib.Core.List.{List, [], _∷_}
 use Prim.Native.Nat.{ℕ, zero, suc, _+_, _-_, _≤_, _<_}
@@ -12,7 +13,8 @@ use Rattle.graph.proofs.OverMarked.{after-limit}
 use Rattle.machine.specs.Row.{countMove}
 use Rattle.machine.specs.declared.Counts.{Counts}
 use Rattle.machine.specs.Run.{Run, run, runFrom, leaving}
-use Rattle.machine.specs.Machine.{busy, look, claim, worker, markOf, claimMark, lookTurn, Claimed, claims, claimLost, onwardRuns, follows}
+use Rattle.machine.specs.Tally.{tally, tallied, talliesWords}
+use Rattle.machine.specs.Machine.{busy, look, claim, worker, markOf, claimMark, lookTurn, Claimed, claims, notClaimed, onwardRuns, follows}
 use Rattle.machine.specs.Limits.{most-workers}
 use Rattle.machine.specs.Owners.{claimTells}
 use Rattle.machine.proofs.Facts.{busy-below, busy-some, first-target}
@@ -22,10 +24,12 @@ use Rattle.turns.specs.declared.Setup.{Setup}
 use Rattle.turns.specs.declared.Progress.{Progress}
 use Rattle.turns.specs.declared.follow.Opened.{Opened}
 use Rattle.turns.specs.Counting.{movedOn}
-use Rattle.turns.specs.Claiming.{openedNone, openedBy, openedAt, marksBy, claimedMarks}
+use Rattle.turns.specs.Claiming.{openedNone, openedBy, openedAt, claimTally, marksBy, claimedMarks}
 use Rattle.turns.specs.Held.{memory, stretchAt, BusyIs, Holds}
 use Rattle.turns.specs.Turned.{turned, Ready, IsLooking, IsClaiming, IsFollowing}
 use Rattle.turns.proofs.Bounds.{block-room}
+use Rattle.turns.specs.Raising.{raisedWords}
+use Rattle.turns.proofs.Raising.{raisable, raised-held}
 use Rattle.turns.proofs.Each.{all-same, hold-one}
 use Rattle.turns.proofs.Asking.{turn-as}
 
@@ -42,8 +46,8 @@ first-of (run f j ∷ rs) h = record { first = f; more = j; below = rs; is = ref
 
 -- ---- a look
 
-module _ {g : Setup} {targets : List ℕ} {b : ℕ} {marks work regs : List ℕ} {p : Progress}
-    (x : Ready (IsLooking targets b) g (memory marks work regs p)) where
+module _ {g : Setup} {targets : List ℕ} {b : ℕ} {marks work tallies regs : List ℕ} {p : Progress}
+    (x : Ready (IsLooking targets b) g (memory marks work tallies regs p)) where
   pub look-low : b < g .workers
   look-low = busy-below (x .scene .accepted) (x .scene .sound) b (x .here .is)
 
@@ -82,7 +86,7 @@ module _ {g : Setup} {targets : List ℕ} {b : ℕ} {marks work regs : List ℕ}
       ∙ ap (λ (k : ℕ). lookTurn k (x .state) b (x .here .cell) (x .here .since) (x .here .left) (f .first) (f .more) (f .below)) mark-read
 
   -- a marked target: the reference is followed
-  pub seen-here : getD marks (blockAt regs b .target) 0 ≢ 0 → IsFollowing g targets marks openedNone b (x .graph) (x .state)
+  pub seen-here : getD marks (blockAt regs b .target) 0 ≢ 0 → IsFollowing g targets marks (raisedWords tallies b (tally 1 0 0 0)) openedNone b (x .graph) (x .state)
   seen-here n =
       record {
         cell = x .here .cell;
@@ -94,29 +98,30 @@ module _ {g : Setup} {targets : List ℕ} {b : ℕ} {marks work regs : List ℕ}
         below = f .below;
         is = is;
         batch-is = refl;
-        found = claimLost (x .state);
+        found = notClaimed (x .state);
         order = omega arith;
         limit = omega arith;
         opened-is = refl;
         won-is = refl;
         won-limit = omega arith;
         marks-are = x .holds .marks-are;
+        tallies-are = raised-held (x .scene) (x .holds) b look-low (tally 1 0 0 0);
         turn-is = λ v. look-as v ∙ by (getD marks (blockAt regs b .target) 0) n;
         targets-are = x .here .targets-are;
       }
     where
       by : (k : ℕ) → k ≢ 0
           → lookTurn k (x .state) b (x .here .cell) (x .here .since) (x .here .left) (f .first) (f .more) (f .below)
-          ≡ follows (x .state) b (x .here .cell) (x .here .since) (x .here .left) (claimLost (x .state)) (onwardRuns (f .first) (f .more) [] (f .below))
+          ≡ follows (x .state) b (x .here .cell) (x .here .since) (x .here .left) (notClaimed (x .state)) (onwardRuns (f .first) (f .more) [] (f .below))
       by zero n = absurd (n refl)
       by (suc k) n = refl
 
-  abbrev pub seen : getD marks (blockAt regs b .target) 0 ≢ 0 → Ready (IsFollowing g targets marks openedNone b) g (memory marks work regs p)
+  abbrev pub seen : getD marks (blockAt regs b .target) 0 ≢ 0 → Ready (IsFollowing g targets marks (raisedWords tallies b (tally 1 0 0 0)) openedNone b) g (memory marks work tallies regs p)
   seen n = record { graph = x .graph; state = x .state; scene = x .scene; holds = x .holds; here = seen-here n }
 
   -- an unmarked one: the next turn is a claim
   pub holds-claims : getD marks (blockAt regs b .target) 0 ≡ 0 → (v : ℕ)
-      → Holds (x .graph) g (turned g b v (x .graph) (x .state)) (memory marks work (putAt regs b 0 7) (movedOn p 0 0))
+      → Holds (x .graph) g (turned g b v (x .graph) (x .state)) (memory marks work tallies (putAt regs b 0 7) (movedOn p 0 0))
   holds-claims z v =
       rw (look-as v, z)
       (hold-one (x .holds) (x .scene .sound .workers-length) b look-low is
@@ -135,12 +140,18 @@ module _ {g : Setup} {targets : List ℕ} {b : ℕ} {marks work regs : List ℕ}
       refl
       refl
       (x .holds .marks-are)
+      (x .holds .tallies-are)
       (ap (λ (n : Counts). countMove n 0 0) (x .holds .counts-are)))
 
 -- ---- a claim
 
-module _ {g : Setup} {offsets targets : List ℕ} {b : ℕ} {marks work regs : List ℕ} {p : Progress}
-    (x : Ready (IsClaiming offsets targets b) g (memory marks work regs p)) where
+-- one mark at most is new
+pub opened-limit : {o : Opened} (t : Bool) (offsets : List ℕ) (v : ℕ) → o ≡ openedBy t offsets v → o .won ≤ 1
+opened-limit true offsets v e = omega (arith, ap (λ (o : Opened). o .won) e)
+opened-limit false offsets v e = omega (arith, ap (λ (o : Opened). o .won) e)
+
+module _ {g : Setup} {offsets targets : List ℕ} {b : ℕ} {marks work tallies regs : List ℕ} {p : Progress}
+    (x : Ready (IsClaiming offsets targets b) g (memory marks work tallies regs p)) where
   pub claim-low : b < g .workers
   claim-low = busy-below (x .scene .accepted) (x .scene .sound) b (x .here .is)
 
@@ -191,6 +202,7 @@ module _ {g : Setup} {offsets targets : List ℕ} {b : ℕ} {marks work regs : L
     pub opened-is : d .opened ≡ runFrom (o .first) (o .end - o .first)
     pub won-is : o .won ≡ d .won
     pub won-limit : o .won ≤ 1
+    pub lost-is : 1 - o .won ≡ d .lost
 
   finds : (k : ℕ) → Finds (openedBy (claimTells k b .won) offsets t) (claims k (x .graph) (x .state) b t)
   finds zero =
@@ -204,8 +216,9 @@ module _ {g : Setup} {offsets targets : List ℕ} {b : ℕ} {marks work regs : L
         opened-is = ap (λ (G : Graph). leaving G t) (x .here .graph-is);
         won-is = refl;
         won-limit = omega arith;
+        lost-is = refl;
       })
-  finds (suc k) = record { order = omega arith; limit = omega arith; opened-is = refl; won-is = refl; won-limit = omega arith }
+  finds (suc k) = record { order = omega arith; limit = omega arith; opened-is = refl; won-is = refl; won-limit = omega arith; lost-is = refl }
 
   claim-as : (v : ℕ) → turned g b v (x .graph) (x .state)
       ≡ follows (x .state) b (x .here .cell) (x .here .since) (x .here .left) found (onwardRuns (cf .first) (cf .more) (found .opened) (cf .below))
@@ -219,7 +232,15 @@ module _ {g : Setup} {offsets targets : List ℕ} {b : ℕ} {marks work regs : L
       by zero = ap (λ (l : List ℕ). set l t (claimMark b)) (x .holds .marks-are)
       by (suc k) = x .holds .marks-are
 
-  claimed-at : IsFollowing g targets (claimedMarks marks b t) (openedAt offsets marks b t) b (x .graph) (x .state)
+  -- the tallies, where the claim is won or lost
+  claim-tally : {o : Opened} → Finds o found
+      → raisedWords tallies b (claimTally o) ≡ talliesWords (tallied (x .state .tallies) b (tally 1 (found .won) (found .lost) 0))
+  claim-tally {o} d =
+      raised-held (x .scene) (x .holds) b claim-low (claimTally o)
+      ∙ ap (λ (k : ℕ). talliesWords (tallied (x .state .tallies) b (tally 1 k (1 - o .won) 0))) (d .won-is)
+      ∙ ap (λ (k : ℕ). talliesWords (tallied (x .state .tallies) b (tally 1 (found .won) k 0))) (d .lost-is)
+
+  claimed-at : IsFollowing g targets (claimedMarks marks b t) (raisedWords tallies b (claimTally (openedAt offsets marks b t))) (openedAt offsets marks b t) b (x .graph) (x .state)
   claimed-at =
       let d = subst (λ (k : ℕ). Finds (openedAt offsets marks b t) (claims k (x .graph) (x .state) b t)) (sym read) (finds (getD marks t 0)) in
       record {
@@ -239,13 +260,14 @@ module _ {g : Setup} {offsets targets : List ℕ} {b : ℕ} {marks work regs : L
         won-is = d .won-is;
         won-limit = d .won-limit;
         marks-are = marks-claimed;
+        tallies-are = claim-tally d;
         turn-is = claim-as;
         targets-are = sym (ap (λ (G : Graph). G .targets) (x .here .graph-is));
       }
 
-  pub claimed-here : IsFollowing g targets (claimedMarks marks b (blockAt regs b .target)) (openedAt offsets marks b (blockAt regs b .target)) b (x .graph) (x .state)
+  pub claimed-here : IsFollowing g targets (claimedMarks marks b (blockAt regs b .target)) (raisedWords tallies b (claimTally (openedAt offsets marks b (blockAt regs b .target)))) (openedAt offsets marks b (blockAt regs b .target)) b (x .graph) (x .state)
   claimed-here =
-      subst (λ (i : ℕ). IsFollowing g targets (claimedMarks marks b i) (openedAt offsets marks b i) b (x .graph) (x .state)) (sym target-word) claimed-at
+      subst (λ (i : ℕ). IsFollowing g targets (claimedMarks marks b i) (raisedWords tallies b (claimTally (openedAt offsets marks b i))) (openedAt offsets marks b i) b (x .graph) (x .state)) (sym target-word) claimed-at
 
-  abbrev pub claimed : Ready (IsFollowing g targets (claimedMarks marks b (blockAt regs b .target)) (openedAt offsets marks b (blockAt regs b .target)) b) g (memory marks work regs p)
+  abbrev pub claimed : Ready (IsFollowing g targets (claimedMarks marks b (blockAt regs b .target)) (raisedWords tallies b (claimTally (openedAt offsets marks b (blockAt regs b .target)))) (openedAt offsets marks b (blockAt regs b .target)) b) g (memory marks work tallies regs p)
   claimed = record { graph = x .graph; state = x .state; scene = x .scene; holds = x .holds; here = claimed-here }

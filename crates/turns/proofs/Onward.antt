@@ -86,12 +86,12 @@ from-limit : (G : Graph) (f k : ℕ) → f + k ≤ references G → Every (InTar
 from-limit G f zero l = tt
 from-limit G f (suc k) l = (l, tt)
 
-module _ {g : Setup} {targets marks′ : List ℕ} {o : Opened} {b : ℕ} {marks work regs : List ℕ} {p : Progress}
-    (x : Ready (IsFollowing g targets marks′ o b) g (memory marks work regs p)) where
+module _ {g : Setup} {targets marks′ tallies′ : List ℕ} {o : Opened} {b : ℕ} {marks work tallies regs : List ℕ} {p : Progress}
+    (x : Ready (IsFollowing g targets marks′ tallies′ o b) g (memory marks work tallies regs p)) where
   abbrev c : Scene (x .graph) g (x .state)
   c = x .scene
 
-  abbrev y : IsFollowing g targets marks′ o b (x .graph) (x .state)
+  abbrev y : IsFollowing g targets marks′ tallies′ o b (x .graph) (x .state)
   y = x .here
 
   abbrev block : Block
@@ -237,7 +237,7 @@ module _ {g : Setup} {targets marks′ : List ℕ} {o : Opened} {b : ℕ} {marks
   -- something is left
   pub holds-onward : goesOn (topOf block) (o .first) (o .end) ≡ true → {regs′ : List ℕ}
       → Stored regs b (advancedBlock block (o .first) (o .end) top (getD targets (top .first) 0)) regs′ → (v : ℕ)
-      → Holds (x .graph) g (turned g b v (x .graph) (x .state)) (memory marks′ after regs′ (followedOn p (o .won) 0 0))
+      → Holds (x .graph) g (turned g b v (x .graph) (x .state)) (memory marks′ after tallies′ regs′ (followedOn p (o .won) 0 0))
   holds-onward l st v =
       let some = some-runs runs (sym left-is ∙ l) in
       let on = gone-on (x .state .workers) b (suc (y .since)) (y .left) (y .cell) runs some in
@@ -265,12 +265,13 @@ module _ {g : Setup} {targets marks′ : List ℕ} {o : Opened} {b : ℕ} {marks
       refl
       (on .0)
       (y .marks-are)
+      (y .tallies-are)
       (counts 0 0 ∙ sym (on .1 (x .state .counts) (y .found .won))))
 
   -- nothing is left
   pub holds-stopped : goesOn (topOf block) (o .first) (o .end) ≡ false → (v : ℕ) → {work′ regs′ : List ℕ} {q : Progress} → work′ ≡ after
       → regs′ ≡ stoppedAt regs b (block .cell) → q ≡ followedOn p (o .won) (stoppedCount (block .cell)) 1
-      → Holds (x .graph) g (turned g b v (x .graph) (x .state)) (memory marks′ work′ regs′ q)
+      → Holds (x .graph) g (turned g b v (x .graph) (x .state)) (memory marks′ work′ tallies′ regs′ q)
   holds-stopped l v ew er eq = rw (emptied v, ew, er, eq) (by (y .cell) (y .is) (is .cell))
     where
       emptied : (v : ℕ) → turned g b v (x .graph) (x .state) ≡ follows (x .state) b (y .cell) (y .since) (y .left) (y .found) []
@@ -281,7 +282,7 @@ module _ {g : Setup} {targets marks′ : List ℕ} {o : Opened} {b : ℕ} {marks
       by : (cell : Cell) → worker (x .state) b ≡ busy cell (y .since) (y .phase) (run (y .first) (y .more) ∷ y .below)
           → block .cell ≡ cellWord cell
           → Holds (x .graph) g (follows (x .state) b cell (y .since) (y .left) (y .found) [])
-          (memory marks′ after (stoppedAt regs b (block .cell)) (followedOn p (o .won) (stoppedCount (block .cell)) 1))
+          (memory marks′ after tallies′ (stoppedAt regs b (block .cell)) (followedOn p (o .won) (stoppedCount (block .cell)) 1))
       by empty e q =
           rw q
           (hold-one (x .holds) (c .sound .workers-length) b follow-low (y .is) idle after
@@ -292,6 +293,7 @@ module _ {g : Setup} {targets marks′ : List ℕ} {o : Opened} {b : ℕ} {marks
           refl
           refl
           (y .marks-are)
+          (y .tallies-are)
           (counts 0 1))
       by (from a) e q =
           let la = asker-below (c .accepted) (c .sound) b e in
@@ -311,4 +313,5 @@ module _ {g : Setup} {targets marks′ : List ℕ} {o : Opened} {b : ℕ} {marks
           refl
           refl
           (y .marks-are)
+          (y .tallies-are)
           (counts 1 1))

@@ -77,8 +77,8 @@ like-itself (busy c n (claim k) rs) = refl
 
 -- ---- a state that is lent
 
-module _ {g : Setup} {offsets targets : List ℕ} {b : ℕ} {marks work regs : List ℕ} {p : Progress}
-    (x : Ready (IsLent g offsets targets b) g (memory marks work regs p)) where
+module _ {g : Setup} {offsets targets : List ℕ} {b : ℕ} {marks work tallies regs : List ℕ} {p : Progress}
+    (x : Ready (IsLent g offsets targets b) g (memory marks work tallies regs p)) where
   abbrev w : Worker
   w = worker (x .state) b
 
@@ -128,13 +128,13 @@ module _ {g : Setup} {offsets targets : List ℕ} {b : ℕ} {marks work regs : L
       }
 
   -- the same state, with what is known of the worker
-  abbrev pub told : {P : Graph → State → Type 0} → P (x .graph) (x .state) → Ready P g (memory marks work regs p)
+  abbrev pub told : {P : Graph → State → Type 0} → P (x .graph) (x .state) → Ready P g (memory marks work tallies regs p)
   told h = record { graph = x .graph; state = x .state; scene = x .scene; holds = x .holds; here = h }
 
   -- with any other status nothing changes
   pub holds-quiet : blockAt regs b .status ≢ 0 → blockAt regs b .status ≢ 2 → blockAt regs b .status ≢ 4 → blockAt regs b .status ≢ 5
       → blockAt regs b .status ≢ 6 → blockAt regs b .status ≢ 7 → (v : ℕ)
-      → Holds (x .graph) g (turned g b v (x .graph) (x .state)) (memory marks work regs p)
+      → Holds (x .graph) g (turned g b v (x .graph) (x .state)) (memory marks work tallies regs p)
   holds-quiet n₀ n₂ n₄ n₅ n₆ n₇ v = rw (turn-as g b v (x .graph) (x .state) refl ∙ quiet w status) (x .holds)
     where
       quiet : (w : Worker) → blockAt regs b .status ≡ statusOf w → workerTurn w (x .graph) (settingOf g) (x .state) b v ≡ x .state

@@ -6,6 +6,7 @@ use mathlib.Core.List.{List}
 use lib.ListN.{length, getD, set}
 use lib.Dec.{ltb, eqb}
 use Rattle.laws.specs.Choice.{pick}
+use Rattle.machine.specs.Tally.{Tally, tally}
 use Rattle.machine.specs.Machine.{claimMark}
 use Rattle.machine.specs.Owners.{ClaimRow, claimTells}
 use Rattle.worker.specs.Registers.{status-idle, status-denied, status-poll, status-look, Room, blockAt, putAt, Stored}
@@ -36,6 +37,10 @@ openedBy false offsets t = openedNone
 
 abbrev pub openedAt : List ℕ → List ℕ → ℕ → ℕ → Opened
 openedAt offsets marks b t = openedBy (claimTells (getD marks t 0) b .won) offsets t
+
+-- what the tally of its worker counts: the reference followed, and the claim won or lost
+abbrev pub claimTally : Opened → Tally
+claimTally o = tally 1 (o .won) (1 - o .won) 0
 
 -- the marks afterwards
 abbrev pub marksBy : ℕ → List ℕ → ℕ → ℕ → List ℕ

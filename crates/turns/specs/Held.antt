@@ -7,6 +7,7 @@ use Rattle.laws.specs.Sum.{sum}
 use Rattle.graph.specs.Graph.{Graph, objects, references, target}
 use Rattle.graph.specs.Limits.{most-objects, most-references}
 use Rattle.machine.specs.Run.{Run, run, carried}
+use Rattle.machine.specs.Tally.{talliesWords}
 use Rattle.machine.specs.Machine.{Setting, State, Worker, idle, asking, denied, ended, given, busy, Cell, empty, from, Phase, poll, look, claim, stretchLength}
 use Rattle.machine.specs.Accepted.{Accepted}
 use Rattle.machine.specs.Sound.{Sound, batchOf}
@@ -22,11 +23,12 @@ use Rattle.turns.specs.Counting.{running?}
 pub record Memory : Type 0 where
   pub marks : List ℕ
   pub work : List ℕ
+  pub tallies : List ℕ
   pub regs : List ℕ
   pub progress : Progress
 
-abbrev pub memory : List ℕ → List ℕ → List ℕ → Progress → Memory
-memory marks work regs p = record { marks = marks; work = work; regs = regs; progress = p }
+abbrev pub memory : List ℕ → List ℕ → List ℕ → List ℕ → Progress → Memory
+memory marks work tallies regs p = record { marks = marks; work = work; tallies = tallies; regs = regs; progress = p }
 
 -- D and K
 abbrev pub settingOf : Setup → Setting
@@ -90,6 +92,7 @@ Each G W L ws regs work = (b : ℕ) → b < W → BlockIs G (getD ws b ended) (b
 -- the memories hold the state
 pub record Holds (G : Graph) (g : Setup) (s : State) (μ : Memory) : Type 0 where
   pub marks-are : μ .marks ≡ s .marks
+  pub tallies-are : μ .tallies ≡ talliesWords (s .tallies)
   pub counts-are : μ .progress .counts ≡ s .counts
   pub running-is : μ .progress .running ≡ sum running? (s .workers)
   pub regs-long : length (μ .regs) ≡ block-words * g .workers

@@ -2,4 +2,5 @@ pub mod Claiming
 pub mod Counting
 pub mod Held
 pub mod Polling
+pub mod Raising
 pub mod Turned

@@ -7,6 +7,7 @@ use mathlib.Core.List.{List, _∷_}
 use lib.ListN.{length}
 use Rattle.graph.specs.Graph.{Graph, graph, references}
 use Rattle.machine.specs.Run.{Run, run, runFrom, carried, keep, rest}
+use Rattle.machine.specs.Tally.{tally, tallied, talliesWords}
 use Rattle.machine.specs.Machine.{State, idle, given, busy, Cell, from, Phase, poll, look, claim, worker, turn, shares, Claimed, follows, onwardRuns}
 use Rattle.machine.specs.Sound.{batchOf}
 use Rattle.worker.specs.declared.stretch.Top.{Top}
@@ -79,8 +80,8 @@ pub record IsClaiming (offsets targets : List ℕ) (b : ℕ) (G : Graph) (s : St
   pub graph-is : G ≡ graph offsets targets
 
 -- it follows that reference, at whose target `found` is what opens: a run from f to e, if any, and so many new marks; the
--- marks are these then
-pub record IsFollowing (g : Setup) (targets marks : List ℕ) (o : Opened) (b : ℕ) (G : Graph) (s : State) : Type 0 where
+-- marks and the tallies are these then
+pub record IsFollowing (g : Setup) (targets marks tallies : List ℕ) (o : Opened) (b : ℕ) (G : Graph) (s : State) : Type 0 where
   pub cell : Cell
   pub since : ℕ
   pub phase : Phase
@@ -97,6 +98,7 @@ pub record IsFollowing (g : Setup) (targets marks : List ℕ) (o : Opened) (b : 
   pub won-is : o .won ≡ found .won
   pub won-limit : o .won ≤ 1
   pub marks-are : marks ≡ found .marks
+  pub tallies-are : tallies ≡ talliesWords (tallied (s .tallies) b (tally 1 (found .won) (found .lost) 0))
   pub turn-is : (v : ℕ) → turned g b v G s ≡ follows s b cell since left found (onwardRuns first more (found .opened) below)
   pub targets-are : targets ≡ G .targets
 

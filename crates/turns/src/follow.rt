@@ -169,7 +169,8 @@ fn stop(regs: &mut [u32], b: u32, cell: u32) -> u64
     1
 }
 
-// Worker b, with the block r, follows its first reference, at whose target c was found.
+// Worker b, with the block r, follows its first reference, at whose target c was found. Its tally was
+// raised before.
 fn follow(
     targets: &[u32],
     setup: Setup,
@@ -181,10 +182,11 @@ fn follow(
     c: Opened,
 ) -> Progress
     requires { ⌜ r ≡ blockAt (now regs) b ⌝ }
-    requires { ⌜ ((marks : List ℕ) × ((marks′ : List ℕ) × Ready (IsFollowing setup (now targets) marks′ c b) setup (memory marks (now work) (now regs) p))) ⌝ }
-    ensures { λ q. ⌜ ((marks marks′ : List ℕ) → DoesAny (IsFollowing setup (now (targets .entry)) marks′ c b) setup b
-        (memory marks (now (work .entry)) (now (regs .entry)) p)
-        (memory marks′ (now (work .exit)) (now (regs .exit)) q)) ⌝ }
+    requires { ⌜ ((marks : List ℕ) × ((marks′ : List ℕ) × ((tallies : List ℕ) × ((tallies′ : List ℕ)
+        × Ready (IsFollowing setup (now targets) marks′ tallies′ c b) setup (memory marks (now work) tallies (now regs) p))))) ⌝ }
+    ensures { λ q. ⌜ ((marks marks′ tallies tallies′ : List ℕ) → DoesAny (IsFollowing setup (now (targets .entry)) marks′ tallies′ c b) setup b
+        (memory marks (now (work .entry)) tallies (now (regs .entry)) p)
+        (memory marks′ (now (work .exit)) tallies′ (now (regs .exit)) q)) ⌝ }
 {
     let len = setup.stretch;
     let from = b as usize * len;
@@ -216,19 +218,21 @@ pub fn look(
     setup: Setup,
     marks: &[u8],
     work: &mut [u32],
+    tallies: &mut [u64],
     regs: &mut [u32],
     p: Progress,
     b: u32,
 ) -> Progress
-    requires { ⌜ Ready (IsLooking (now targets) b) setup (memory (now marks) (now work) (now regs) p) ⌝ }
+    requires { ⌜ Ready (IsLooking (now targets) b) setup (memory (now marks) (now work) (now tallies) (now regs) p) ⌝ }
     ensures { λ q. ⌜ DoesAny (IsLooking (now (targets .entry)) b) setup b
-        (memory (now (marks .entry)) (now (work .entry)) (now (regs .entry)) p)
-        (memory (now (marks .entry)) (now (work .exit)) (now (regs .exit)) q) ⌝ }
+        (memory (now (marks .entry)) (now (work .entry)) (now (tallies .entry)) (now (regs .entry)) p)
+        (memory (now (marks .entry)) (now (work .exit)) (now (tallies .exit)) (now (regs .exit)) q) ⌝ }
 {
     let r = registers::load(regs, b);
     let t = r.target as usize;
     let seen = marks[t];
     if seen != 0 {
+        crate::raise(tallies, b, 1, 0, 0, 0);
         return follow(targets, setup, work, regs, p, b, r, lost());
     }
     registers::put(regs, b, registers::STATUS, registers::CLAIM);
@@ -242,27 +246,30 @@ pub fn claim(
     setup: Setup,
     marks: &mut [u8],
     work: &mut [u32],
+    tallies: &mut [u64],
     regs: &mut [u32],
     p: Progress,
     b: u32,
 ) -> Progress
-    requires { ⌜ Ready (IsClaiming (now offsets) (now targets) b) setup (memory (now marks) (now work) (now regs) p) ⌝ }
+    requires { ⌜ Ready (IsClaiming (now offsets) (now targets) b) setup (memory (now marks) (now work) (now tallies) (now regs) p) ⌝ }
     ensures { λ q. ⌜ DoesAny (IsClaiming (now (offsets .entry)) (now (targets .entry)) b) setup b
-        (memory (now (marks .entry)) (now (work .entry)) (now (regs .entry)) p)
-        (memory (now (marks .exit)) (now (work .exit)) (now (regs .exit)) q) ⌝ }
+        (memory (now (marks .entry)) (now (work .entry)) (now (tallies .entry)) (now (regs .entry)) p)
+        (memory (now (marks .exit)) (now (work .exit)) (now (tallies .exit)) (now (regs .exit)) q) ⌝ }
 {
     let r = registers::load(regs, b);
     let told = claim_target(marks, b, r.target);
     let found = opens(offsets, r.target, told);
+    let won = found.won;
+    crate::raise(tallies, b, 1, won, 1 - won, 0);
     follow(targets, setup, work, regs, p, b, r, found)
 }
 
 // An asker takes the hand-over up that it is owed.
 pub fn take_up(targets: &[u32], setup: Setup, regs: &mut [u32], p: Progress, b: u32) -> Progress
-    requires { ⌜ ((marks : List ℕ) × ((work : List ℕ) × Ready (IsGiven (now targets) b) setup (memory marks work (now regs) p))) ⌝ }
-    ensures { λ q. ⌜ ((marks work : List ℕ) → DoesAny (IsGiven (now (targets .entry)) b) setup b
-        (memory marks work (now (regs .entry)) p)
-        (memory marks work (now (regs .exit)) q)) ⌝ }
+    requires { ⌜ ((marks : List ℕ) × ((work : List ℕ) × ((tallies : List ℕ) × Ready (IsGiven (now targets) b) setup (memory marks work tallies (now regs) p)))) ⌝ }
+    ensures { λ q. ⌜ ((marks work tallies : List ℕ) → DoesAny (IsGiven (now (targets .entry)) b) setup b
+        (memory marks work tallies (now (regs .entry)) p)
+        (memory marks work tallies (now (regs .exit)) q)) ⌝ }
 {
     let r = registers::load(regs, b);
     let first = r.first as usize;

@@ -10,10 +10,10 @@ ghost use Rattle.turns.specs.Turned.{Ready, Does, IsIdle};
 // The worker ends if nobody carries anything. Else it asks the named worker, if that is busy and its
 // cell is empty.
 pub fn idle_turn(setup: Setup, regs: &mut [u32], p: Progress, b: u32, v: u32) -> Progress
-    requires { ⌜ ((marks : List ℕ) × ((work : List ℕ) × Ready (IsIdle b) setup (memory marks work (now regs) p))) ⌝ }
-    ensures { λ r. ⌜ ((marks work : List ℕ) → Does (IsIdle b) setup b v
-        (memory marks work (now (regs .entry)) p)
-        (memory marks work (now (regs .exit)) r)) ⌝ }
+    requires { ⌜ ((marks : List ℕ) × ((work : List ℕ) × ((tallies : List ℕ) × Ready (IsIdle b) setup (memory marks work tallies (now regs) p)))) ⌝ }
+    ensures { λ r. ⌜ ((marks work tallies : List ℕ) → Does (IsIdle b) setup b v
+        (memory marks work tallies (now (regs .entry)) p)
+        (memory marks work tallies (now (regs .exit)) r)) ⌝ }
 {
     let counts = p.counts;
     let carrying = counts.carrying;

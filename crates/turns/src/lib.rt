@@ -1,4 +1,4 @@
-// A turn of the machine on the lent memories: marks, work memory and registers.
+// A turn of the machine on the lent memories: marks, work memory, tallies and registers.
 mod follow;
 mod idle;
 mod poll;
@@ -8,8 +8,10 @@ use worker::registers;
 ghost use mathlib.Core.Path.{_≡_};
 ghost use Prim.Native.Nat.{_≤_};
 ghost use Rattle.machine.specs.Row.{Roomy};
+ghost use Rattle.machine.specs.Tally.{tally};
 ghost use Rattle.turns.specs.Counting.{movedOn};
 ghost use Rattle.turns.specs.Held.{memory};
+ghost use Rattle.turns.specs.Raising.{Raisable, raisedWords};
 ghost use Rattle.turns.specs.Turned.{Ready, Does, IsLent};
 
 // W, D, K and the length of a stretch.
@@ -39,6 +41,23 @@ fn moved(p: Progress, handed: u64, refused: u64) -> Progress
     }
 }
 
+// Worker b's tally, with so many more followed, won, lost and handed. Where a number is 0, no word is
+// written for it: the call is compiled in place.
+fn raise(tallies: &mut [u64], b: u32, followed: u64, won: u64, lost: u64, handed: u64)
+    requires { ⌜ Raisable (now tallies) b (tally followed won lost handed) ⌝ }
+    ensures { λ _. ⌜ now (tallies .exit) ≡ raisedWords (now (tallies .entry)) b (tally followed won lost handed) ⌝ }
+{
+    let at = machine::TALLY * b as usize;
+    let f = tallies[at] + followed;
+    let w = tallies[at + 1] + won;
+    let l = tallies[at + 2] + lost;
+    let h = tallies[at + 3] + handed;
+    tallies[at] = f;
+    tallies[at + 1] = w;
+    tallies[at + 2] = l;
+    tallies[at + 3] = h;
+}
+
 // Worker b's turn, which names v.
 pub fn turn(
     offsets: &[u32],
@@ -46,15 +65,16 @@ pub fn turn(
     setup: Setup,
     marks: &mut [u8],
     work: &mut [u32],
+    tallies: &mut [u64],
     regs: &mut [u32],
     p: Progress,
     b: u32,
     v: u32,
 ) -> Progress
-    requires { ⌜ Ready (IsLent setup (now offsets) (now targets) b) setup (memory (now marks) (now work) (now regs) p) ⌝ }
+    requires { ⌜ Ready (IsLent setup (now offsets) (now targets) b) setup (memory (now marks) (now work) (now tallies) (now regs) p) ⌝ }
     ensures { λ r. ⌜ Does (IsLent setup (now (offsets .entry)) (now (targets .entry)) b) setup b v
-        (memory (now (marks .entry)) (now (work .entry)) (now (regs .entry)) p)
-        (memory (now (marks .exit)) (now (work .exit)) (now (regs .exit)) r) ⌝ }
+        (memory (now (marks .entry)) (now (work .entry)) (now (tallies .entry)) (now (regs .entry)) p)
+        (memory (now (marks .exit)) (now (work .exit)) (now (tallies .exit)) (now (regs .exit)) r) ⌝ }
 {
     let r = registers::load(regs, b);
     let status = r.status;
@@ -65,9 +85,19 @@ pub fn turn(
             moved(p, 0, 0)
         }
         registers::GIVEN => follow::take_up(targets, setup, regs, p, b),
-        registers::POLL => poll::poll(setup, work, regs, p, b),
-        registers::LOOK => follow::look(targets, setup, marks, work, regs, p, b),
-        registers::CLAIM => follow::claim(offsets, targets, setup, marks, work, regs, p, b),
+        registers::POLL => poll::poll(setup, work, tallies, regs, p, b),
+        registers::LOOK => follow::look(targets, setup, marks, work, tallies, regs, p, b),
+        registers::CLAIM => follow::claim(
+            offsets,
+            targets,
+            setup,
+            marks,
+            work,
+            tallies,
+            regs,
+            p,
+            b,
+        ),
         _ => p,
     }
 }

@@ -116,16 +116,17 @@ fn given(t: Top, carried: u32) -> Block
 fn share(
     setup: Setup,
     work: &mut [u32],
+    tallies: &mut [u64],
     regs: &mut [u32],
     p: Progress,
     b: u32,
     r: Block,
 ) -> Progress
     requires { ⌜ r ≡ blockAt (now regs) b ⌝ }
-    requires { ⌜ ((marks : List ℕ) × Ready (IsAsked setup true b) setup (memory marks (now work) (now regs) p)) ⌝ }
+    requires { ⌜ ((marks : List ℕ) × Ready (IsAsked setup true b) setup (memory marks (now work) (now tallies) (now regs) p)) ⌝ }
     ensures { λ q. ⌜ ((marks : List ℕ) → DoesAny (IsAsked setup true b) setup b
-        (memory marks (now (work .entry)) (now (regs .entry)) p)
-        (memory marks (now (work .exit)) (now (regs .exit)) q)) ⌝ }
+        (memory marks (now (work .entry)) (now (tallies .entry)) (now (regs .entry)) p)
+        (memory marks (now (work .exit)) (now (tallies .exit)) (now (regs .exit)) q)) ⌝ }
 {
     let asker = r.cell - 1;
     let carried = r.carried;
@@ -138,16 +139,17 @@ fn share(
     let parts = divide(work, setup.stretch, b, asker, top, half);
     registers::store(regs, b, shared(r, setup.batch, half, parts.kept));
     registers::store(regs, asker, given(parts.given, carried - half));
+    crate::raise(tallies, b, 0, 0, 0, 1);
     crate::moved(p, 1, 0)
 }
 
 // The asker is answered no.
 fn refuse(setup: Setup, regs: &mut [u32], p: Progress, b: u32, r: Block) -> Progress
     requires { ⌜ r ≡ blockAt (now regs) b ⌝ }
-    requires { ⌜ ((marks : List ℕ) × ((work : List ℕ) × Ready (IsAsked setup false b) setup (memory marks work (now regs) p))) ⌝ }
-    ensures { λ q. ⌜ ((marks work : List ℕ) → DoesAny (IsAsked setup false b) setup b
-        (memory marks work (now (regs .entry)) p)
-        (memory marks work (now (regs .exit)) q)) ⌝ }
+    requires { ⌜ ((marks : List ℕ) × ((work : List ℕ) × ((tallies : List ℕ) × Ready (IsAsked setup false b) setup (memory marks work tallies (now regs) p)))) ⌝ }
+    ensures { λ q. ⌜ ((marks work tallies : List ℕ) → DoesAny (IsAsked setup false b) setup b
+        (memory marks work tallies (now (regs .entry)) p)
+        (memory marks work tallies (now (regs .exit)) q)) ⌝ }
 {
     let carried = r.carried;
     let batch = least(setup.batch, carried);
@@ -172,11 +174,18 @@ fn shares(cutoff: u32, since: u32, carried: u32) -> bool
 }
 
 // The cell empties, its asker is answered, and a batch begins.
-pub fn poll(setup: Setup, work: &mut [u32], regs: &mut [u32], p: Progress, b: u32) -> Progress
-    requires { ⌜ ((marks : List ℕ) × Ready (IsPolling b) setup (memory marks (now work) (now regs) p)) ⌝ }
+pub fn poll(
+    setup: Setup,
+    work: &mut [u32],
+    tallies: &mut [u64],
+    regs: &mut [u32],
+    p: Progress,
+    b: u32,
+) -> Progress
+    requires { ⌜ ((marks : List ℕ) × Ready (IsPolling b) setup (memory marks (now work) (now tallies) (now regs) p)) ⌝ }
     ensures { λ q. ⌜ ((marks : List ℕ) → DoesAny (IsPolling b) setup b
-        (memory marks (now (work .entry)) (now (regs .entry)) p)
-        (memory marks (now (work .exit)) (now (regs .exit)) q)) ⌝ }
+        (memory marks (now (work .entry)) (now (tallies .entry)) (now (regs .entry)) p)
+        (memory marks (now (work .exit)) (now (tallies .exit)) (now (regs .exit)) q)) ⌝ }
 {
     let r = registers::load(regs, b);
     let cell = r.cell;
@@ -187,7 +196,7 @@ pub fn poll(setup: Setup, work: &mut [u32], regs: &mut [u32], p: Progress, b: u3
         return crate::moved(p, 0, 0);
     }
     if shares(setup.cutoff, r.since, r.carried) {
-        return share(setup, work, regs, p, b, r);
+        return share(setup, work, tallies, regs, p, b, r);
     }
     refuse(setup, regs, p, b, r)
 }

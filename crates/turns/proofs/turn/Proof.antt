@@ -11,11 +11,11 @@ use Rattle.turns.proofs.turn.Tie as tie
 
 -- back to the entry
 abbrev entry : tie.After-load → tie.Start
-entry c = c .before .before .before .before .before .before .before
+entry c = c .before .before .before .before .before .before .before .before
 
 load-requires : tie.Need-load-requires
 load-requires c κs =
-    let start = c .before .before .before .before .before .before in
+    let start = c .before .before .before .before .before .before .before in
     let x = start .pre in
     block-room (x .scene) (x .holds) (start .args .b) (x .here .low)
 
@@ -25,17 +25,17 @@ idle-turn-requires c κs =
     let at-load = at-match .before in
     let start = entry at-load in
     let z = rw (at-load .load .ensures) at (at-match .match .keys1) in
-    (start .args .marks .now, (start .args .work .now, told (start .pre) (idle-here (start .pre) z)))
+    (start .args .marks .now, (start .args .work .now, (start .args .tallies .now, told (start .pre) (idle-here (start .pre) z))))
 
 put-requires : tie.Need-put-requires
 put-requires c κs =
-    let start = c .before .before .before .before .before .before .before .before .before in
+    let start = c .before .before .before .before .before .before .before .before .before .before in
     let x = start .pre in
     (block-room (x .scene) (x .holds) (start .args .b) (x .here .low), omega arith)
 
 moved-requires : tie.Need-moved-requires
 moved-requires c κs =
-    let start = c .before .before .before .before .before .before .before .before .before .before .before .before in
+    let start = c .before .before .before .before .before .before .before .before .before .before .before .before .before in
     let x = start .pre in
     (roomy (x .scene) (x .holds), omega arith, omega arith)
 
@@ -45,11 +45,11 @@ take-up-requires c κs =
     let at-load = at-match .before in
     let start = entry at-load in
     let z = rw (at-load .load .ensures) at (at-match .match .keys3) in
-    (start .args .marks .now, (start .args .work .now, told (start .pre) (given-here (start .pre) z)))
+    (start .args .marks .now, (start .args .work .now, (start .args .tallies .now, told (start .pre) (given-here (start .pre) z))))
 
 poll-requires : tie.Need-poll-requires
 poll-requires c κs =
-    let at-match = c .before .before in
+    let at-match = c .before .before .before in
     let at-load = at-match .before in
     let start = entry at-load in
     let z = rw (at-load .load .ensures) at (at-match .match .keys4) in
@@ -57,7 +57,7 @@ poll-requires c κs =
 
 look-requires : tie.Need-look-requires
 look-requires c κs =
-    let at-match = c .before .before .before in
+    let at-match = c .before .before .before .before in
     let at-load = at-match .before in
     let start = entry at-load in
     let z = rw (at-load .load .ensures) at (at-match .match .keys5) in
@@ -65,7 +65,7 @@ look-requires c κs =
 
 claim-requires : tie.Need-claim-requires
 claim-requires c κs =
-    let at-match = c .before .before .before in
+    let at-match = c .before .before .before .before in
     let at-load = at-match .before in
     let start = entry at-load in
     let z = rw (at-load .load .ensures) at (at-match .match .keys6) in
@@ -77,7 +77,7 @@ returns c =
     let at-match = at-idle-turn .before .before in
     let at-load = at-match .before in
     let z = rw (at-load .load .ensures) at (at-match .match .keys1) in
-    λ x. at-idle-turn .idle-turn .ensures _ _ (told x (idle-here x z))
+    λ x. at-idle-turn .idle-turn .ensures _ _ _ (told x (idle-here x z))
 
 returns-2 : tie.Need-returns-2
 returns-2 c =
@@ -97,12 +97,12 @@ returns-3 c =
     let start = entry at-load in
     let z = rw (at-load .load .ensures) at (at-match .match .keys3) in
     let v = start .args .v in
-    λ x. at-take-up .take-up .ensures _ _ v (told x (given-here x z))
+    λ x. at-take-up .take-up .ensures _ _ _ v (told x (given-here x z))
 
 returns-4 : tie.Need-returns-4
 returns-4 c =
-    let at-poll = c .before .before .before .before in
-    let at-match = at-poll .before .before .before in
+    let at-poll = c .before .before .before .before .before .before in
+    let at-match = at-poll .before .before .before .before in
     let at-load = at-match .before in
     let start = entry at-load in
     let z = rw (at-load .load .ensures) at (at-match .match .keys4) in
@@ -111,8 +111,8 @@ returns-4 c =
 
 returns-5 : tie.Need-returns-5
 returns-5 c =
-    let at-look = c .before .before .before .before in
-    let at-match = at-look .before .before .before .before in
+    let at-look = c .before .before .before .before .before .before in
+    let at-match = at-look .before .before .before .before .before in
     let at-load = at-match .before in
     let start = entry at-load in
     let z = rw (at-load .load .ensures) at (at-match .match .keys5) in
@@ -121,8 +121,8 @@ returns-5 c =
 
 returns-6 : tie.Need-returns-6
 returns-6 c =
-    let at-claim = c .before .before .before .before .before .before in
-    let at-match = at-claim .before .before .before .before in
+    let at-claim = c .before .before .before .before .before .before .before .before in
+    let at-match = at-claim .before .before .before .before .before in
     let at-load = at-match .before in
     let start = entry at-load in
     let z = rw (at-load .load .ensures) at (at-match .match .keys6) in
@@ -143,6 +143,6 @@ turn-spec =
     tie.close
     (tie.spec load-requires idle-turn-requires put-requires moved-requires take-up-requires poll-requires
     look-requires claim-requires (λ c. search needs) returns (λ c. search needs) returns-2 (λ c. search needs)
-    returns-3 (λ c. search needs) (λ c. search needs) returns-4 (λ c. search needs) (λ c. search needs)
-    (λ c. search needs) returns-5 (λ c. search needs) (λ c. search needs) (λ c. search needs) returns-6
-    (λ c. search needs) returns-7)
+    returns-3 (λ c. search needs) (λ c. search needs) (λ c. search needs) returns-4 (λ c. search needs) (λ c. search needs)
+    (λ c. search needs) (λ c. search needs) returns-5 (λ c. search needs) (λ c. search needs) (λ c. search needs) (λ c. search needs)
+    returns-6 (λ c. search needs) returns-7)

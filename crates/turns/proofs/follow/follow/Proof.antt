@@ -16,25 +16,25 @@ entry c = c .before .before .before .before .before .before .before
 mul-from : tie.Need-mul-from
 mul-from c =
     let start = c .before .before .before in
-    let x = start .pre .1 .1 .1 in
+    let x = start .pre .1 .1 .1 .1 .1 in
     omega (arith, place-limit (x .scene) (x .holds) (start .args .b) (follow-low x))
 
 add-advance : tie.Need-add-advance
 add-advance c =
     let start = c .before .before .before .before in
-    let x = start .pre .1 .1 .1 in
+    let x = start .pre .1 .1 .1 .1 .1 in
     omega (arith, place-limit (x .scene) (x .holds) (start .args .b) (follow-low x))
 
 mul-advance : tie.Need-mul-advance
 mul-advance c =
     let start = c .before .before .before .before in
-    let x = start .pre .1 .1 .1 in
+    let x = start .pre .1 .1 .1 .1 .1 in
     omega (arith, place-limit (x .scene) (x .holds) (start .args .b) (follow-low x))
 
 part-advance-end : tie.Need-part-advance-end
 part-advance-end c =
     let start = c .before .before .before .before in
-    let x = start .pre .1 .1 .1 in
+    let x = start .pre .1 .1 .1 .1 .1 in
     omega (arith, stretch-room (x .scene) (x .holds) (start .args .b) (follow-low x))
 
 advance-requires : tie.Need-advance-requires
@@ -42,12 +42,12 @@ advance-requires c κs =
     let start = c .before .before .before .before .before .before in
     let a = start .args in
     let m : a .b * a .setup .stretch + a .setup .stretch - a .b * a .setup .stretch ≡ a .setup .stretch = omega arith in
-    rw m (advanceable (start .pre .1 .1 .1) (start .pre .0))
+    rw m (advanceable (start .pre .1 .1 .1 .1 .1) (start .pre .0))
 
 count-follow-requires : tie.Need-count-follow-requires
 count-follow-requires c κs =
     let start = entry (c .before .before .before .before .before) in
-    let x = start .pre .1 .1 .1 in
+    let x = start .pre .1 .1 .1 .1 .1 in
     (roomy (x .scene) (x .holds), x .here .won-limit, omega arith, omega arith)
 
 returns : tie.Need-returns
@@ -59,14 +59,14 @@ returns c =
     let m : a .b * a .setup .stretch + a .setup .stretch - a .b * a .setup .stretch ≡ a .setup .stretch = omega arith in
     let d = rw (start .pre .0, m) at (at-advance .advance .ensures) in
     let t = at-if1 .if1 .taken in
-    λ marks marks′ v x. rw (d .words, c .count-follow .ensures, m) (holds-onward x (sym (d .says) ∙ t) (d .onward t) v)
+    λ marks marks′ tallies tallies′ v x. rw (d .words, c .count-follow .ensures, m) (holds-onward x (sym (d .says) ∙ t) (d .onward t) v)
 
 stop-requires : tie.Need-stop-requires
 stop-requires c κs =
     let at-if1 = c .before in
     let at-advance = at-if1 .before .before .before .before .before in
     let start = entry at-advance in
-    let x = start .pre .1 .1 .1 in
+    let x = start .pre .1 .1 .1 .1 .1 in
     let e = ap (λ (r : Block). r .cell) (start .pre .0) in
     rw (at-advance .advance .ensures .nothing (at-if1 .if1 .left), start .pre .0)
     (block-room (x .scene) (x .holds) (start .args .b) (follow-low x), λ z. asker-room x z)
@@ -75,7 +75,7 @@ count-follow-requires-2 : tie.Need-count-follow-requires-2
 count-follow-requires-2 c κs =
     let at-stop = c .before .before in
     let start = entry (at-stop .before .before .before .before .before .before .before) in
-    let x = start .pre .1 .1 .1 in
+    let x = start .pre .1 .1 .1 .1 .1 in
     (roomy (x .scene) (x .holds), x .here .won-limit, omega (arith, at-stop .stop .ensures .0, stopped-one (start .args .r .cell)), omega (arith, carries-one x))
 
 returns-2 : tie.Need-returns-2
@@ -90,7 +90,7 @@ returns-2 c =
     let t = at-if1 .if1 .left in
     let regs = rw (d .nothing t, start .pre .0) at (at-stop .stop .ensures .1) in
     let refused = rw (start .pre .0) at (at-stop .stop .ensures .0) in
-    λ marks marks′ v x.
+    λ marks marks′ tallies tallies′ v x.
     holds-stopped x (sym (d .says) ∙ t) v (rw (d .words, m)) regs (rw (c .count-follow2 .ensures, refused))
 
 pub follow-spec : {M : Type 1} → statement M

@@ -1,5 +1,8 @@
 -- `look`: a marked target is followed, an unmarked one is claimed next.
 use native.Mathlib.Omega.{arith}
+use Rattle.machine.specs.Tally.{tally}
+use Rattle.turns.specs.Raising.{raisedWords}
+use Rattle.turns.proofs.Raising.{raisable}
 use Rattle.turns.proofs.Bounds.{block-room, roomy}
 use Rattle.turns.proofs.Looking.{look-low, look-there, seen, holds-claims}
 use borrow.Author.Needs.{needs}
@@ -8,43 +11,50 @@ use Rattle.turns.proofs.follow.look.Tie as tie
 
 load-requires : tie.Need-load-requires
 load-requires c κs =
-    let start = c .before .before .before .before .before in
+    let start = c .before .before .before .before .before .before in
     let x = start .pre in
     block-room (x .scene) (x .holds) (start .args .b) (look-low x)
 
 shared-slice-read-seen : tie.Need-shared-slice-read-seen
 shared-slice-read-seen c =
     let at-load = c .before .before in
-    let start = at-load .before .before .before .before .before .before in
+    let start = at-load .before .before .before .before .before .before .before in
     rw (at-load .load .ensures) (look-there (start .pre))
+
+raise-requires : tie.Need-raise-requires
+raise-requires c κs =
+    let start = c .before .before .before .before .before .before .before .before .before .before .before in
+    let x = start .pre in
+    raisable (x .scene) (x .holds) (start .args .b) (look-low x) (tally 1 0 0 0) (omega arith) (omega arith) (omega arith) (omega arith)
 
 follow-requires : tie.Need-follow-requires
 follow-requires c κs =
-    let at-if1 = c .before .before .before in
+    let at-if1 = c .before .before .before .before .before .before .before in
     let at-load = at-if1 .before .before .before in
-    let start = at-load .before .before .before .before .before .before in
+    let start = at-load .before .before .before .before .before .before .before in
     let n = rw (at-load .load .ensures) at (at-if1 .if1 .taken) in
-    (at-load .load .ensures, (start .args .marks .now, (start .args .marks .now, rw (c .lost .ensures) (seen (start .pre) n))))
+    (at-load .load .ensures, (start .args .marks .now, (start .args .marks .now, (start .args .tallies .now, (raisedWords (start .args .tallies .now) (start .args .b) (tally 1 0 0 0), rw (c .lost .ensures) (seen (start .pre) n))))))
 
 returns : tie.Need-returns
 returns c =
     let at-follow = c .before .before .before .before in
     let at-lost = at-follow .before in
-    let at-if1 = at-lost .before .before .before in
+    let at-raise = at-lost .before .before .before .before .before in
+    let at-if1 = at-raise .before .before in
     let at-load = at-if1 .before .before .before in
     let n = rw (at-load .load .ensures) at (at-if1 .if1 .taken) in
     let d = rw (at-lost .lost .ensures) at (at-follow .follow .ensures) in
-    λ v x. d _ _ v (seen x n)
+    λ v x. rw (at-raise .raise .ensures) (d _ _ _ _ v (seen x n))
 
 put-requires : tie.Need-put-requires
 put-requires c κs =
-    let start = c .before .before .before .before .before .before .before .before .before .before in
+    let start = c .before .before .before .before .before .before .before .before .before .before .before in
     let x = start .pre in
     (block-room (x .scene) (x .holds) (start .args .b) (look-low x), omega arith)
 
 moved-requires : tie.Need-moved-requires
 moved-requires c κs =
-    let start = c .before .before .before .before .before .before .before .before .before .before .before .before .before in
+    let start = c .before .before .before .before .before .before .before .before .before .before .before .before .before .before in
     let x = start .pre in
     (roomy (x .scene) (x .holds), omega arith, omega arith)
 
@@ -59,5 +69,5 @@ returns-2 c =
 pub look-spec : {M : Type 1} → statement M
 look-spec =
     tie.close
-    (tie.spec load-requires (λ c. search needs) shared-slice-read-seen (λ c κs. search needs) follow-requires
-    (λ c. search needs) (λ c. search needs) returns put-requires moved-requires (λ c. search needs) returns-2)
+    (tie.spec load-requires (λ c. search needs) shared-slice-read-seen raise-requires (λ c κs. search needs) follow-requires
+    (λ c. search needs) (λ c. search needs) (λ c. search needs) returns put-requires moved-requires (λ c. search needs) returns-2)

@@ -9,27 +9,27 @@ use Rattle.turns.proofs.follow.take_up.Tie as tie
 load-requires : tie.Need-load-requires
 load-requires c κs =
     let start = c .before .before .before in
-    let x = start .pre .1 .1 in
+    let x = start .pre .1 .1 .1 in
     block-room (x .scene) (x .holds) (start .args .b) (given-low (x .scene) (x .holds) (start .args .b) (x .here .is))
 
 shared-slice-read-taken : tie.Need-shared-slice-read-taken
 shared-slice-read-taken c =
     let at-load = c .before .before .before in
     let start = at-load .before .before .before .before in
-    let x = start .pre .1 .1 in
+    let x = start .pre .1 .1 .1 in
     let f = first-given (x .scene) (x .holds) (start .args .b) (x .here .is) .0 in
     rw (at-load .load .ensures, x .here .targets-are) f
 
 store-requires : tie.Need-store-requires
 store-requires c κs =
     let start = c .before .before .before .before .before .before .before .before in
-    let x = start .pre .1 .1 in
+    let x = start .pre .1 .1 .1 in
     block-room (x .scene) (x .holds) (start .args .b) (given-low (x .scene) (x .holds) (start .args .b) (x .here .is))
 
 moved-requires : tie.Need-moved-requires
 moved-requires c κs =
     let start = c .before .before .before .before .before .before .before .before .before .before .before in
-    let x = start .pre .1 .1 in
+    let x = start .pre .1 .1 .1 in
     (roomy (x .scene) (x .holds), omega arith, omega arith)
 
 returns : tie.Need-returns
@@ -39,7 +39,7 @@ returns c =
     let at-load = at-taken .before .before .before .before in
     let start = at-load .before .before .before .before in
     let a = start .args in
-    λ marks work v x.
+    λ marks work tallies v x.
     rw (at-store .store .ensures, at-taken .taken .ensures, at-load .load .ensures, c .moved .ensures)
     (holds-taken (x .scene) (x .holds) (a .b) (x .here .is) v _ (rw (x .here .targets-are)))
 

@@ -21,19 +21,19 @@ entry-loaded c = entry (c .before .before .before .before)
 put-requires : tie.Need-put-requires
 put-requires c κs =
     let start = entry (c .before .before) in
-    let x = start .pre .1 .1 in
+    let x = start .pre .1 .1 .1 in
     (block-room (x .scene) (x .holds) (start .args .b) (idle-low (x .scene) (x .holds) (start .args .b) 0 (x .here)), omega arith)
 
 count-move-requires : tie.Need-count-move-requires
 count-move-requires c κs =
     let start = entry (c .before .before .before .before .before) in
-    let x = start .pre .1 .1 in
+    let x = start .pre .1 .1 .1 in
     (roomy (x .scene) (x .holds), omega arith, omega arith)
 
 sub-t17 : tie.Need-sub-t17
 sub-t17 c =
     let start = entry (c .before .before .before .before .before .before .before) in
-    let x = start .pre .1 .1 in
+    let x = start .pre .1 .1 .1 in
     idle-running (x .scene) (x .holds) (start .args .b) 0 (x .here)
 
 returns : tie.Need-returns
@@ -43,14 +43,14 @@ returns c =
     let at-if1 = at-put .before .before in
     let start = entry (at-if1 .before) in
     let a = start .args in
-    λ marks work x. rw (at-put .put .ensures, at-count-move .count-move .ensures) (holds-ended (x .scene) (x .holds) (a .b) (a .v) (x .here) (at-if1 .if1 .taken))
+    λ marks work tallies x. rw (at-put .put .ensures, at-count-move .count-move .ensures) (holds-ended (x .scene) (x .holds) (a .b) (a .v) (x .here) (at-if1 .if1 .taken))
 
 returns-2 : tie.Need-returns-2
 returns-2 c =
     let at-if1 = c .before in
     let start = entry (at-if1 .before) in
     let a = start .args in
-    λ marks work x. holds-still (x .scene) (x .holds) (a .b) (a .v) (x .here) (at-if1 .if1 .left) (not-there (x .scene) (x .holds) (a .v) (c .if2 .taken))
+    λ marks work tallies x. holds-still (x .scene) (x .holds) (a .b) (a .v) (x .here) (at-if1 .if1 .left) (not-there (x .scene) (x .holds) (a .v) (c .if2 .taken))
 
 returns-3 : tie.Need-returns-3
 returns-3 c =
@@ -58,7 +58,7 @@ returns-3 c =
     let at-if1 = at-load .before .before .before in
     let a = entry (at-if1 .before) .args in
     let l = rw (at-load .load .ensures) at (c .if3 .taken) in
-    λ marks work x. holds-still (x .scene) (x .holds) (a .b) (a .v) (x .here) (at-if1 .if1 .left) (not-free (x .scene) (x .holds) (a .v) (inl l))
+    λ marks work tallies x. holds-still (x .scene) (x .holds) (a .b) (a .v) (x .here) (at-if1 .if1 .left) (not-free (x .scene) (x .holds) (a .v) (inl l))
 
 returns-4 : tie.Need-returns-4
 returns-4 c =
@@ -66,26 +66,26 @@ returns-4 c =
     let at-if1 = at-load .before .before .before in
     let a = entry (at-if1 .before) .args in
     let l = rw (at-load .load .ensures) at (c .if4 .taken) in
-    λ marks work x. holds-still (x .scene) (x .holds) (a .b) (a .v) (x .here) (at-if1 .if1 .left) (not-free (x .scene) (x .holds) (a .v) (inr l))
+    λ marks work tallies x. holds-still (x .scene) (x .holds) (a .b) (a .v) (x .here) (at-if1 .if1 .left) (not-free (x .scene) (x .holds) (a .v) (inr l))
 
 add-put : tie.Need-add-put
 add-put c =
     let start = entry-loaded (loaded c) in
-    let x = start .pre .1 .1 in
+    let x = start .pre .1 .1 .1 in
     omega (arith, idle-low (x .scene) (x .holds) (start .args .b) 0 (x .here), workers-limit (x .scene))
 
 put-requires-3 : tie.Need-put-requires-3
 put-requires-3 c κs =
     let at-put2 = c .before .before .before in
     let start = entry-loaded (loaded (at-put2 .before)) in
-    let x = start .pre .1 .1 in
+    let x = start .pre .1 .1 .1 in
     let r = block-room (x .scene) (x .holds) (start .args .b) (idle-low (x .scene) (x .holds) (start .args .b) 0 (x .here)) in
     (record { low = r .low; long = omega (arith, r .long, at-put2 .put2 .kept .0) }, omega arith)
 
 moved-requires : tie.Need-moved-requires
 moved-requires c κs =
     let start = entry-loaded (loaded (c .before .before .before .before .before .before .before)) in
-    let x = start .pre .1 .1 in
+    let x = start .pre .1 .1 .1 in
     (roomy (x .scene) (x .holds), omega arith, omega arith)
 
 returns-5 : tie.Need-returns-5
@@ -100,7 +100,7 @@ returns-5 c =
     let a = entry (at-if1 .before) .args in
     let st = rw (at-load .load .ensures) at (at-if3 .if3 .left) in
     let ce = rw (at-load .load .ensures) at (at-if4 .if4 .left) in
-    λ marks work x.
+    λ marks work tallies x.
     let f = free-if (x .scene) (x .holds) (a .v) (at-if2 .if2 .left) st ce in
     rw (at-put3 .put3 .ensures, at-put2 .put2 .ensures, c .moved .ensures)
     (holds-asked (x .scene) (x .holds) (a .b) (a .v) (x .here) (at-if1 .if1 .left) (at-if2 .if2 .left) (f .since) (f .phase) (f .runs) (f .is))

@@ -11,11 +11,11 @@ use Rattle.turns.proofs.poll.poll.Tie as tie
 
 -- back to the entry
 abbrev entry : tie.After-load → tie.Start
-entry c = c .before .before .before .before
+entry c = c .before .before .before .before .before
 
 load-requires : tie.Need-load-requires
 load-requires c κs =
-    let start = c .before .before .before in
+    let start = c .before .before .before .before in
     let x = start .pre .1 in
     block-room (x .scene) (x .holds) (start .args .b) (poll-low (x .scene) (x .holds) (start .args .b) (x .here .is))
 
@@ -62,7 +62,7 @@ returns c =
 
 share-requires : tie.Need-share-requires
 share-requires c κs =
-    let at-if2 = c .before .before in
+    let at-if2 = c .before .before .before in
     let at-shares = at-if2 .before in
     let at-if1 = at-shares .before in
     let at-load = at-if1 .before in
@@ -73,8 +73,8 @@ share-requires c κs =
 
 returns-2 : tie.Need-returns-2
 returns-2 c =
-    let at-share = c .before .before .before .before in
-    let at-if2 = at-share .before .before .before in
+    let at-share = c .before .before .before .before .before .before in
+    let at-if2 = at-share .before .before .before .before in
     let at-shares = at-if2 .before in
     let at-if1 = at-shares .before in
     let at-load = at-if1 .before in
@@ -92,7 +92,7 @@ refuse-requires c κs =
     let start = entry at-load in
     let n = rw (at-load .load .ensures) at (at-if1 .if1 .left) in
     let q = rw (at-load .load .ensures) at (sym (at-shares .shares .ensures) ∙ at-if2 .if2 .left) in
-    (at-load .load .ensures, (_, (start .args .work .now, asked (start .args .b) false n q (start .pre .1))))
+    (at-load .load .ensures, (_, (start .args .work .now, (start .args .tallies .now, asked (start .args .b) false n q (start .pre .1)))))
 
 returns-3 : tie.Need-returns-3
 returns-3 c =
@@ -104,11 +104,11 @@ returns-3 c =
     let start = entry at-load in
     let n = rw (at-load .load .ensures) at (at-if1 .if1 .left) in
     let q = rw (at-load .load .ensures) at (sym (at-shares .shares .ensures) ∙ at-if2 .if2 .left) in
-    λ marks v x. at-refuse .refuse .ensures marks _ v (asked (start .args .b) false n q x)
+    λ marks v x. at-refuse .refuse .ensures marks _ _ v (asked (start .args .b) false n q x)
 
 pub poll-spec : {M : Type 1} → statement M
 poll-spec =
     tie.close
     (tie.spec load-requires (λ c κs. search needs) add-begin sub-begin begin-requires moved-requires (λ c. search needs)
-    returns (λ c κs. search needs) share-requires (λ c. search needs) (λ c. search needs) returns-2 refuse-requires
+    returns (λ c κs. search needs) share-requires (λ c. search needs) (λ c. search needs) (λ c. search needs) returns-2 refuse-requires
     (λ c. search needs) returns-3)

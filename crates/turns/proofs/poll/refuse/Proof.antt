@@ -15,7 +15,7 @@ entry c = c .before .before .before .before
 put-requires : tie.Need-put-requires
 put-requires c κs =
     let start = c .before .before .before in
-    let x = start .pre .1 .1 .1 in
+    let x = start .pre .1 .1 .1 .1 in
     (block-room (x .scene) (x .holds) (start .args .b) (poll-low (x .scene) (x .holds) (start .args .b) (x .here .is)), omega arith)
 
 add-begin : tie.Need-add-begin
@@ -23,7 +23,7 @@ add-begin c =
     let at-put = c .before .before .before .before in
     let at-least = at-put .before .before in
     let start = entry at-put in
-    let x = start .pre .1 .1 .1 in
+    let x = start .pre .1 .1 .1 .1 in
     let e = start .pre .0 in
     omega (
       arith,
@@ -40,14 +40,14 @@ begin-requires : tie.Need-begin-requires
 begin-requires c κs =
     let at-put = c .before .before .before .before in
     let start = entry at-put in
-    let x = start .pre .1 .1 .1 in
+    let x = start .pre .1 .1 .1 .1 in
     let r = block-room (x .scene) (x .holds) (start .args .b) (poll-low (x .scene) (x .holds) (start .args .b) (x .here .is)) in
     record { low = r .low; long = omega (arith, r .long, at-put .put .kept .0) }
 
 sub-put : tie.Need-sub-put
 sub-put c =
     let start = entry (c .before .before .before .before .before .before .before .before .before) in
-    let x = start .pre .1 .1 .1 in
+    let x = start .pre .1 .1 .1 .1 in
     omega (arith, ap (λ (r : Block). r .cell) (start .pre .0), asker-word (x .scene) (x .holds) (start .args .b) (x .here .is))
 
 put-requires-2 : tie.Need-put-requires-2
@@ -55,7 +55,7 @@ put-requires-2 c κs =
     let at-begin = c .before .before .before .before in
     let at-put = at-begin .before .before .before .before .before in
     let start = entry at-put in
-    let x = start .pre .1 .1 .1 in
+    let x = start .pre .1 .1 .1 .1 in
     let i = asker-word (x .scene) (x .holds) (start .args .b) (x .here .is) in
     let r = block-room (x .scene) (x .holds) (x .here .asker) (asker-low (x .scene) (x .holds) (start .args .b) (x .here .is)) in
     let e = ap (λ (r : Block). r .cell) (start .pre .0) in (
@@ -66,7 +66,7 @@ put-requires-2 c κs =
 moved-requires : tie.Need-moved-requires
 moved-requires c κs =
     let start = entry (c .before .before .before .before .before .before .before .before .before .before .before .before) in
-    let x = start .pre .1 .1 .1 in
+    let x = start .pre .1 .1 .1 .1 in
     (roomy (x .scene) (x .holds), omega arith, omega arith)
 
 returns : tie.Need-returns
@@ -76,7 +76,7 @@ returns c =
     let at-put = at-begin .before .before .before .before .before in
     let at-least = at-put .before .before in
     let start = entry at-put in
-    λ marks work v x.
+    λ marks work tallies v x.
     rw (at-put2 .put2 .ensures, at-begin .begin .ensures, at-put .put .ensures, at-least .least .ensures, start .pre .0, c .moved .ensures)
     (holds-refused (x .scene) (x .holds) (start .args .b) (x .here .is) (x .here .answers) v)
 

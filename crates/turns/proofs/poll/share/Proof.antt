@@ -4,6 +4,8 @@ use native.Mathlib.Omega.{arith}
 use mathlib.Core.Path.{ap}
 use Rattle.worker.specs.declared.registers.Block.{Block}
 use Rattle.machine.specs.Run.{carried}
+use Rattle.machine.specs.Tally.{tally}
+use Rattle.turns.proofs.Raising.{raisable}
 use Rattle.machine.proofs.Facts.{busy-carried-limit}
 use Rattle.turns.proofs.Bounds.{block-room, roomy}
 use borrow.Author.Needs.{needs}
@@ -12,13 +14,13 @@ use Rattle.turns.proofs.poll.share.Tie as tie
 
 sub-asker : tie.Need-sub-asker
 sub-asker c =
-    let start = c .before .before .before in
+    let start = c .before .before .before .before in
     let x = start .pre .1 .1 in
     omega (arith, ap (λ (r : Block). r .cell) (start .pre .0), asker-word (x .scene) (x .holds) (start .args .b) (x .here .is))
 
 add-half : tie.Need-add-half
 add-half c =
-    let start = c .before .before .before in
+    let start = c .before .before .before .before in
     let x = start .pre .1 .1 in
     let n = ap (λ (r : Block). r .carried) (start .pre .0) in
     omega (
@@ -31,7 +33,7 @@ add-half c =
 
 divide-requires : tie.Need-divide-requires
 divide-requires c κs =
-    let start = c .before .before .before .before in
+    let start = c .before .before .before .before .before in
     let x = start .pre .1 .1 in
     rw (start .pre .0) (dividing-words (x .scene) (x .holds) (start .args .b) (x .here .is) (x .here .answers))
 
@@ -40,7 +42,7 @@ abbrev divided : tie.After-store → tie.After-divide
 divided c = c .before .before .before .before .before
 
 abbrev entry : tie.After-divide → tie.Start
-entry c = c .before .before .before .before .before
+entry c = c .before .before .before .before .before .before
 
 store-requires : tie.Need-store-requires
 store-requires c κs =
@@ -58,27 +60,40 @@ store-requires-2 c κs =
     let e = ap (λ (r : Block). r .cell) (start .pre .0) in
     record { low = omega (arith, e, i, r .low); long = omega (arith, e, i, r .long, at-store .store .kept .0) }
 
+-- and from where the tally is raised to the blocks
+abbrev stored : tie.After-raise-arg → tie.After-store
+stored c = c .before .before .before .before .before .before .before .before
+
+raise-requires : tie.Need-raise-requires
+raise-requires c κs =
+    let start = entry (divided (stored c)) in
+    let x = start .pre .1 .1 in
+    let low = poll-low (x .scene) (x .holds) (start .args .b) (x .here .is) in
+    raisable (x .scene) (x .holds) (start .args .b) low (tally 0 0 0 1) (omega arith) (omega arith) (omega arith) (omega arith)
+
 moved-requires : tie.Need-moved-requires
 moved-requires c κs =
-    let start = entry (divided (c .before .before .before .before .before .before .before)) in
+    let start = entry (divided (stored (c .before .before .before))) in
     let x = start .pre .1 .1 in
     (roomy (x .scene) (x .holds), omega arith, omega arith)
 
 returns : tie.Need-returns
 returns c =
-    let at-store2 = c .before .before .before in
+    let at-raise = c .before .before .before in
+    let at-store2 = at-raise .before .before .before .before in
     let at-given = at-store2 .before in
     let at-store = at-given .before .before .before .before in
     let at-shared = at-store .before in
     let at-divide = at-shared .before .before .before .before in
-    let start = at-divide .before .before .before .before .before in
+    let start = at-divide .before .before .before .before .before .before in
     let d = rw (start .pre .0) at (at-divide .divide .ensures) in
     λ marks v x.
-    rw (at-store2 .store2 .ensures, at-store .store .ensures, at-shared .shared .ensures, at-given .given .ensures, c .moved .ensures, start .pre .0)
+    rw (at-raise .raise .ensures, at-store2 .store2 .ensures, at-store .store .ensures, at-shared .shared .ensures, at-given .given .ensures, c .moved .ensures, start .pre .0)
     (holds-shared (x .scene) (x .holds) (start .args .b) (x .here .is) (x .here .answers) v _ _ _ d)
 
 pub share-spec : {M : Type 1} → statement M
 share-spec =
     tie.close
     (tie.spec sub-asker add-half divide-requires (λ c κs. search needs) store-requires (λ c. search needs)
-    (λ c κs. search needs) store-requires-2 moved-requires (λ c. search needs) (λ c. search needs) returns)
+    (λ c κs. search needs) store-requires-2 raise-requires moved-requires (λ c. search needs) (λ c. search needs)
+    (λ c. search needs) returns)
