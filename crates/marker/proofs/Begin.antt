@@ -22,6 +22,8 @@ use Rattle.worker.specs.declared.stretch.Top.{Top}
 use Rattle.worker.specs.Registers.{Room, storeAt, Stored}
 use Rattle.worker.specs.Stretch.{Told, Lowerable, Lowered}
 use Rattle.worker.proofs.Blocks.{store-stored}
+use Rattle.laws.proofs.Blocks.{laid-replicate}
+use Rattle.machine.specs.Tally.{noTally, tallyWords, talliesWords}
 use Rattle.turns.specs.declared.Setup.{Setup}
 use Rattle.turns.specs.Counting.{running?, progressWith}
 use Rattle.turns.specs.Held.{memory, BlockIs, Holds}
@@ -95,13 +97,14 @@ module _ {offsets targets starts : List ℕ} {g : Setup} {marks s regs : List �
   some-workers = omega (arith, x .accepted .some-worker)
 
   -- every worker is idle
-  idle-holds : (c : Counts) (s : State) → {marks′ : List ℕ} → marks′ ≡ s .marks → s .workers ≡ idle ∷ replicate (g .workers - 1) idle
+  idle-holds : (c : Counts) (s : State) → {marks′ tallies : List ℕ} → marks′ ≡ s .marks → tallies ≡ talliesWords (s .tallies) → s .workers ≡ idle ∷ replicate (g .workers - 1) idle
       → c ≡ s .counts → (work : List ℕ) → length work ≡ g .workers * g .stretch
-      → Holds G g s (memory marks′ work regs (progressWith c (g .workers)))
+      → Holds G g s (memory marks′ work tallies regs (progressWith c (g .workers)))
   unfolding sum
-  idle-holds c s ma ws co work long =
+  idle-holds c s ma ta ws co work long =
       record {
         marks-are = ma;
+        tallies-are = ta;
         counts-are = co;
         running-is = rw ws (omega (arith, idle-running (g .workers - 1), some-workers));
         regs-long = ap length (x .regs-are) ∙ length-replicate {A = ℕ} (9 * g .workers) 0;
@@ -140,12 +143,17 @@ module _ {offsets targets starts : List ℕ} {g : Setup} {marks s regs : List �
         ap (λ (l : ℕ). freshCounts l k) (d .live-is ∙ ap live (d .marks-are))
         ∙ ap (λ (c : ℕ). freshCounts (live (begin offsets targets starts g .marks)) c) e
 
+    -- no tally counts anything
+    begin-tallies : {tallies : List ℕ} → tallies ≡ replicate (g .workers * 4) 0 → tallies ≡ talliesWords (begin offsets targets starts g .tallies)
+    unfolding start talliesWords
+    begin-tallies e = e ∙ sym (laid-replicate tallyWords noTally (g .workers) 4 0 refl)
+
     -- none has references
     pub begin-none : t .carried ≡ 0 → Started offsets targets starts g marks₂ s₁ regs (progressWith (freshCounts (t .live) 0) (g .workers))
     unfolding carried sum
-    begin-none z work long is =
+    begin-none z work tallies long is zeros =
         let none : runs ≡ [] = no-runs runs (sym (d .carried-is) ∙ z) in
-        idle-holds (freshCounts (t .live) 0) (begin offsets targets starts g) begin-marks (begin-workers idle (ap withRuns none))
+        idle-holds (freshCounts (t .live) 0) (begin offsets targets starts g) begin-marks (begin-tallies zeros) (begin-workers idle (ap withRuns none))
         (begin-counts 0 (sym (ap (λ (rs : List Run). carries? (withRuns rs)) none))) work long
 
     module _ (h : t .carried ≢ 0) (sl : length s₁ ≡ length s) where
@@ -165,14 +173,15 @@ module _ {offsets targets starts : List ℕ} {g : Setup} {marks s regs : List �
 
         pub begin-some : (regs₁ : List ℕ) → regs₁ ≡ storeAt regs 0 (firstBlock (t .carried) top (getD targets (top .first) 0))
             → Started offsets targets starts g marks₂ s₂ regs₁ (progressWith (freshCounts (t .live) 1) (g .workers))
-        begin-some regs₁ er work long is =
+        begin-some regs₁ er work tallies long is zeros =
             let c = freshCounts (t .live) 1 in
             let counted : carries? (withRuns runs) ≡ 1 = ap carries? (some-runs runs some) ∙ set-some (carried runs) (omega (arith, d .carried-is, h)) in
-            let s₀ : State = record { marks = []; workers = idle ∷ replicate (g .workers - 1) idle; counts = c } in
+            let s₀ : State = record { marks = []; workers = idle ∷ replicate (g .workers - 1) idle; tallies = []; counts = c } in
             let r = firstBlock (t .carried) top (getD targets (top .first) 0) in
             let st : Stored regs 0 r regs₁ = rw er (store-stored regs 0 (first-room .long) r) in
-            hold-one (idle-holds c s₀ refl refl refl work long) (ap suc (length-replicate (g .workers - 1) idle) ∙ some-workers) 0
+            hold-one (idle-holds c s₀ refl refl refl refl work long) (ap suc (length-replicate (g .workers - 1) idle) ∙ some-workers) 0
             (omega (arith, x .accepted .some-worker)) refl (busy empty 0 poll runs) work st refl (all-same (g .workers) (g .stretch) 0 work)
             (rw is (first-is G runs top s₂ told some (t .carried) (d .carried-is)))
             refl {s′ = begin offsets targets starts g} (begin-workers (busy empty 0 poll runs) (some-runs runs some)) begin-marks
+            (begin-tallies zeros)
             (begin-counts 1 (sym counted))

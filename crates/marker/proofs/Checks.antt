@@ -14,6 +14,7 @@ use Rattle.laws.specs.Choice.{both}
 use Rattle.refusal.proofs.None.{or-none}
 use Rattle.graph.specs.Graph.{objects, allBelow, wellFormed}
 use Rattle.graph.specs.Limits.{most-objects, most-references, most-starts}
+use Rattle.machine.specs.Tally.{tally-words}
 use Rattle.machine.specs.Machine.{stretchLength}
 use Rattle.machine.specs.Limits.{most-workers, most-setting}
 use Rattle.machine.specs.Call.{Call, graphOf, outside, scheduleFits, fault}
@@ -76,8 +77,8 @@ Setting? W D K = outside most-workers W || outside most-setting D || outside mos
 abbrev pub Count? : ℕ → ℕ → Bool
 Count? offsets targets = ltb offsets 2 || ltb most-objects (offsets - 1) || ltb most-references targets
 
-abbrev pub Buffer? : ℕ → ℕ → ℕ → ℕ → Bool
-Buffer? n W marks work = not (eqb marks n) || not (eqb work (W * stretchLength n))
+abbrev pub Buffer? : ℕ → ℕ → ℕ → ℕ → ℕ → Bool
+Buffer? n W marks work tallies = not (eqb marks n) || not (eqb work (W * stretchLength n)) || not (eqb tallies (W * tally-words))
 
 -- what a check that finds no fault leaves to the next
 pub workers-low : (W D K : ℕ) → Setting? W D K ≡ false → W ≤ most-workers
@@ -92,48 +93,48 @@ objects-low o m e =
     let t = or-none (ltb o 2) (ltb most-objects (o - 1)) (s .0) in
     (ltb-false o 2 (t .0), ltb-false most-objects (o - 1) (t .1))
 
-module _ {c : Call} {marks work : ℕ} where
-  pub finds-8 : Setting? (c .workers) (c .batch) (c .cutoff) ≡ true → Finds (Faulty Setting) c marks work
+module _ {c : Call} {marks work tallies : ℕ} where
+  pub finds-8 : Setting? (c .workers) (c .batch) (c .cutoff) ≡ true → Finds (Faulty Setting) c marks work tallies
   unfolding fault
   finds-8 e = record { number-is = rw e }
 
   module _ (e₈ : Setting? (c .workers) (c .batch) (c .cutoff) ≡ false) where
-    pub finds-4 : Count? (length (c .offsets)) (length (c .targets)) ≡ true → Finds (Faulty Count) c marks work
+    pub finds-4 : Count? (length (c .offsets)) (length (c .targets)) ≡ true → Finds (Faulty Count) c marks work tallies
     unfolding fault
     finds-4 e = record { number-is = rw (e₈, e) }
 
     module _ (e₄ : Count? (length (c .offsets)) (length (c .targets)) ≡ false) where
-      pub finds-7 : Buffer? (objects (graphOf c)) (c .workers) marks work ≡ true → Finds (Faulty Buffer) c marks work
+      pub finds-7 : Buffer? (objects (graphOf c)) (c .workers) marks work tallies ≡ true → Finds (Faulty Buffer) c marks work tallies
       unfolding fault
       finds-7 e = record { number-is = rw (e₈, e₄, e) }
 
-      module _ (e₇ : Buffer? (objects (graphOf c)) (c .workers) marks work ≡ false) where
-        pub finds-10 : wellFormed (graphOf c) ≡ false → Finds (Faulty Graph) c marks work
+      module _ (e₇ : Buffer? (objects (graphOf c)) (c .workers) marks work tallies ≡ false) where
+        pub finds-10 : wellFormed (graphOf c) ≡ false → Finds (Faulty Graph) c marks work tallies
         unfolding fault
         finds-10 e = record { number-is = rw (e₈, e₄, e₇, e) }
 
 -- the first four checks find nothing
-pub record Clear (c : Call) (marks work : ℕ) : Type 0 where
+pub record Clear (c : Call) (marks work tallies : ℕ) : Type 0 where
   pub setting : Setting? (c .workers) (c .batch) (c .cutoff) ≡ false
   pub count : Count? (length (c .offsets)) (length (c .targets)) ≡ false
-  pub buffer : Buffer? (objects (graphOf c)) (c .workers) marks work ≡ false
+  pub buffer : Buffer? (objects (graphOf c)) (c .workers) marks work tallies ≡ false
   pub graph : wellFormed (graphOf c) ≡ true
 
-module _ {c : Call} {marks work : ℕ} (x : Clear c marks work) where
-  pub finds-13 : outside most-starts (length (c .starts)) ≡ true → Finds (Faulty Starts) c marks work
+module _ {c : Call} {marks work tallies : ℕ} (x : Clear c marks work tallies) where
+  pub finds-13 : outside most-starts (length (c .starts)) ≡ true → Finds (Faulty Starts) c marks work tallies
   unfolding fault
   finds-13 e = record { number-is = rw (x .setting, x .count, x .buffer, x .graph, e) }
 
   module _ (e₁₃ : outside most-starts (length (c .starts)) ≡ false) where
-    pub finds-5 : allBelow (objects (graphOf c)) (c .starts) ≡ false → Finds (Faulty Object) c marks work
+    pub finds-5 : allBelow (objects (graphOf c)) (c .starts) ≡ false → Finds (Faulty Object) c marks work tallies
     unfolding fault
     finds-5 e = record { number-is = rw (x .setting, x .count, x .buffer, x .graph, e₁₃, e) }
 
     module _ (e₅ : allBelow (objects (graphOf c)) (c .starts) ≡ true) where
-      pub finds-9 : scheduleFits (c .workers) (c .schedule) ≡ false → Finds (Faulty Schedule) c marks work
+      pub finds-9 : scheduleFits (c .workers) (c .schedule) ≡ false → Finds (Faulty Schedule) c marks work tallies
       unfolding fault
       finds-9 e = record { number-is = rw (x .setting, x .count, x .buffer, x .graph, e₁₃, e₅, e) }
 
-      pub finds-none : scheduleFits (c .workers) (c .schedule) ≡ true → Finds Fine c marks work
+      pub finds-none : scheduleFits (c .workers) (c .schedule) ≡ true → Finds Fine c marks work tallies
       unfolding fault
       finds-none e = record { number-is = rw (x .setting, x .count, x .buffer, x .graph, e₁₃, e₅, e) }

@@ -13,17 +13,17 @@ use Rattle.marker.specs.declared.Marked.{Marked}
 use Rattle.marker.specs.Answer.{row, Answered}
 
 -- a call that reports finished has no fault
-finished-faultless : {c : Call} {marks work : List ℕ} {r : Marked} {marks′ work′ : List ℕ} → Answered c marks work r marks′ work′
-    → row r .finished ≡ true → fault c (length marks) (length work) ≡ 0
-finished-faultless {c} {marks} {work} {r} a done = by (fault c (length marks) (length work)) (a .row-is)
+finished-faultless : {c : Call} {marks work tallies : List ℕ} {r : Marked} {marks′ work′ tallies′ : List ℕ} → Answered c marks work tallies r marks′ work′ tallies′
+    → row r .finished ≡ true → fault c (length marks) (length work) (length tallies) ≡ 0
+finished-faultless {c} {marks} {work} {tallies} {r} a done = by (fault c (length marks) (length work) (length tallies)) (a .row-is)
   where
     by : (k : ℕ) → row r ≡ answerFor k c → k ≡ 0
     by zero e = omega arith
     by (suc k) e = let z : _≡_ {A = ℕ} 0 1 = cc in absurd (omega arith)
 
 -- whatever their W, D, K, schedules and buffers
-pub same-marked : {c c′ : Call} {marks work marks′ work′ m w m′ w′ : List ℕ} {r r′ : Marked} → Answered c marks work r m w
-    → Answered c′ marks′ work′ r′ m′ w′ → graphOf c′ ≡ graphOf c → c′ .starts ≡ c .starts → row r .finished ≡ true
+pub same-marked : {c c′ : Call} {marks work tallies marks′ work′ tallies′ m w t m′ w′ t′ : List ℕ} {r r′ : Marked} → Answered c marks work tallies r m w t
+    → Answered c′ marks′ work′ tallies′ r′ m′ w′ t′ → graphOf c′ ≡ graphOf c → c′ .starts ≡ c .starts → row r .finished ≡ true
     → row r′ .finished ≡ true → (v : ℕ) → state.Marked m v ↔ state.Marked m′ v
 same-marked a a′ g s done done′ v =
     let here = a .demand2 (finished-faultless a done) .marked-exactly done v in

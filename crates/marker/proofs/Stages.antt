@@ -13,7 +13,7 @@ use Rattle.refusal.proofs.Numbers.{numbered}
 use Rattle.machine.specs.Machine.{start, entries, allEnded}
 use Rattle.machine.specs.Row.{refusedRow}
 use Rattle.machine.specs.Sound.{Sound}
-use Rattle.machine.specs.Call.{Call, graphOf, settingOf, fault, final, answerFor, marksFor, workFor}
+use Rattle.machine.specs.Call.{Call, graphOf, settingOf, fault, final, answerFor, marksFor, workFor, talliesFor}
 use Rattle.machine.proofs.Accept.{Checked, checked}
 use Rattle.machine.proofs.Facts.{runs-room}
 use Rattle.machine.proofs.Start.{sound-start, sound}
@@ -21,6 +21,7 @@ use Rattle.machine.proofs.Demand2.{demand2}
 use Rattle.machine.proofs.Demand3.{demand3}
 use Rattle.machine.proofs.Lamp.{lamp}
 use Rattle.machine.proofs.Owners.{owners}
+use Rattle.machine.proofs.Tallies as tallies-proved
 use Rattle.turns.specs.declared.Setup.{Setup}
 use Rattle.turns.specs.declared.Progress.{Progress}
 use Rattle.turns.specs.Held.{memory, stretchAt, Holds}
@@ -35,8 +36,8 @@ use Rattle.marker.specs.Starting.{Startable, Started}
 use Rattle.marker.proofs.Loop.{all-ended}
 
 -- what the checks establish
-facts : {c : Call} {marks work : List ℕ} → Faultless c marks work → Checked c (length marks) (length work)
-facts {c} {marks} {work} x = checked c (length marks) (length work) (x .none)
+facts : {c : Call} {marks work tallies : List ℕ} → Faultless c marks work tallies → Checked c (length marks) (length work) (length tallies)
+facts {c} {marks} {work} {tallies} x = checked c (length marks) (length work) (length tallies) (x .none)
 
 -- the first stretch of the work memory, of L words, and the memory with it written anew
 abbrev firstPart : ℕ → List ℕ → List ℕ
@@ -56,12 +57,12 @@ module _ (L : ℕ) (work : List ℕ) (room : L ≤ length work) where
     front-here : stretchAt L 0 (firstAnew L work s) ≡ s
     front-here = let e : 0 * L ≡ 0 = omega arith in rw e (take-at s (drop (L - 0) work) L (long ∙ front-part))
 
-module _ {offsets targets starts : List ℕ} {g : Setup} {schedule marks work regs : List ℕ}
-    (x : Collectable (callWith offsets targets starts g schedule) g marks work regs) where
+module _ {offsets targets starts : List ℕ} {g : Setup} {schedule marks work tallies regs : List ℕ}
+    (x : Collectable (callWith offsets targets starts g schedule) g marks work tallies regs) where
   abbrev call : Call
   call = callWith offsets targets starts g schedule
 
-  known : Checked call (length marks) (length work)
+  known : Checked call (length marks) (length work) (length tallies)
   known = facts (x .faultless)
 
   sound-final : Sound (graphOf call) (call .starts) (g .workers) (settingOf call) (final call)
@@ -85,13 +86,13 @@ module _ {offsets targets starts : List ℕ} {g : Setup} {schedule marks work re
         regs-are = x .regs-are;
       }
 
-  -- after the start
-  module _ {marks₁ s₁ regs₁ : List ℕ} {p₁ : Progress} (d : Started offsets targets starts g marks₁ s₁ regs₁ p₁)
-      (l₁ : length s₁ ≡ length (firstPart (g .stretch) work)) where
+  -- after the start, with the tallies cleared
+  module _ {marks₁ s₁ tallies₁ regs₁ : List ℕ} {p₁ : Progress} (d : Started offsets targets starts g marks₁ s₁ regs₁ p₁)
+      (l₁ : length s₁ ≡ length (firstPart (g .stretch) work)) (z₁ : tallies₁ ≡ replicate (length tallies) 0) where
     abbrev work₁ : List ℕ
     work₁ = firstAnew (g .stretch) work s₁
 
-    pub turns-ready : Ready (IsBegun g offsets targets schedule) g (memory marks₁ work₁ regs₁ p₁)
+    pub turns-ready : Ready (IsBegun g offsets targets schedule) g (memory marks₁ work₁ tallies₁ regs₁ p₁)
     unfolding start
     turns-ready =
         record {
@@ -109,7 +110,8 @@ module _ {offsets targets starts : List ℕ} {g : Setup} {schedule marks work re
                 moved-room = omega arith;
               };
           holds =
-              d work₁ (front-long (g .stretch) work first-stretch s₁ l₁ ∙ work-long) (front-here (g .stretch) work first-stretch s₁ l₁);
+              d work₁ tallies₁ (front-long (g .stretch) work first-stretch s₁ l₁ ∙ work-long) (front-here (g .stretch) work first-stretch s₁ l₁)
+              (z₁ ∙ ap (λ (k : ℕ). replicate {A = ℕ} k 0) (known .tallies-exact));
           here =
               record {
                 graph-is = refl;
@@ -120,9 +122,9 @@ module _ {offsets targets starts : List ℕ} {g : Setup} {schedule marks work re
         }
 
     -- after the turns
-    module _ {marks₂ work₂ regs₂ : List ℕ} {p₂ : Progress}
-        (t : DoesAll (IsBegun g offsets targets schedule) g schedule (memory marks₁ work₁ regs₁ p₁) (memory marks₂ work₂ regs₂ p₂)) where
-      final-held : Holds (graphOf call) g (final call) (memory marks₂ work₂ regs₂ p₂)
+    module _ {marks₂ work₂ tallies₂ regs₂ : List ℕ} {p₂ : Progress}
+        (t : DoesAll (IsBegun g offsets targets schedule) g schedule (memory marks₁ work₁ tallies₁ regs₁ p₁) (memory marks₂ work₂ tallies₂ regs₂ p₂)) where
+      final-held : Holds (graphOf call) g (final call) (memory marks₂ work₂ tallies₂ regs₂ p₂)
       unfolding turns-ready
       final-held = t turns-ready
 
@@ -143,7 +145,7 @@ module _ {offsets targets starts : List ℕ} {g : Setup} {schedule marks work re
 
       -- after the stretches are written out
       pub all-collected : {work₃ : List ℕ} → Settled (g .workers) (g .stretch) work₂ regs₂ work₃
-          → (r : Marked) → row r ≡ rowOf p₂ → Collected (callWith offsets targets starts g schedule) r marks₂ work₃
+          → (r : Marked) → row r ≡ rowOf p₂ → Collected (callWith offsets targets starts g schedule) r marks₂ work₃ tallies₂
       unfolding settle-ready
       all-collected s r e =
           let f : eqb (p₂ .running) 0 ≡ allEnded (final call .workers) =
@@ -152,6 +154,7 @@ module _ {offsets targets starts : List ℕ} {g : Setup} {schedule marks work re
             row-is = e ∙ rw (f, final-held .counts-are);
             marks-are = final-held .marks-are;
             work-is = s settle-ready;
+            tallies-are = final-held .tallies-are;
           }
 
 -- ---- the registers, all zero
@@ -161,7 +164,7 @@ zeros-front zero m h = refl
 zeros-front (suc k) zero h = absurd (omega arith)
 zeros-front (suc k) (suc m) h = ap (λ (t : List ℕ). 0 ∷ t) (zeros-front k m (omega arith))
 
-module _ {c : Call} {marks work : List ℕ} (x : Faultless c marks work) where
+module _ {c : Call} {marks work tallies : List ℕ} (x : Faultless c marks work tallies) where
   pub offsets-some : 2 ≤ length (c .offsets)
   offsets-some = facts x .offsets-some
 
@@ -171,7 +174,7 @@ module _ {c : Call} {marks work : List ℕ} (x : Faultless c marks work) where
   pub registers-long : length (take {A = ℕ} (9 * c .workers) (replicate 144 0)) ≡ 9 * c .workers
   registers-long = length-take-le (9 * c .workers) (replicate 144 0) (omega (arith, workers-few))
 
-  pub collectable : Collectable c (setupOf c) marks work (take (9 * c .workers) (replicate 144 0))
+  pub collectable : Collectable c (setupOf c) marks work tallies (take (9 * c .workers) (replicate 144 0))
   collectable =
       record {
         faultless = x;
@@ -181,39 +184,43 @@ module _ {c : Call} {marks work : List ℕ} (x : Faultless c marks work) where
 
 -- ---- the promise
 
-module _ (c : Call) (marks work : List ℕ) where
+module _ (c : Call) (marks work tallies : List ℕ) where
   -- what the call leaves, by the number k of the fault
-  abbrev Leaves : ℕ → Marked → List ℕ → List ℕ → Type 0
-  Leaves k r marks′ work′ = (row r ≡ answerFor k c) × ((marks′ ≡ marksFor k c marks) × (work′ ≡ workFor k c work))
+  abbrev Leaves : ℕ → Marked → List ℕ → List ℕ → List ℕ → Type 0
+  Leaves k r marks′ work′ tallies′ =
+      (row r ≡ answerFor k c) × ((marks′ ≡ marksFor k c marks) × ((work′ ≡ workFor k c work) × (tallies′ ≡ talliesFor k c tallies)))
 
-  promised : {r : Marked} {marks′ work′ : List ℕ} → Leaves (fault c (length marks) (length work)) r marks′ work′
-      → Answered c marks work r marks′ work′
+  promised : {r : Marked} {marks′ work′ tallies′ : List ℕ} → Leaves (fault c (length marks) (length work) (length tallies)) r marks′ work′ tallies′
+      → Answered c marks work tallies r marks′ work′ tallies′
   promised l =
       record {
         row-is = l .0;
         marks-are = l .1 .0;
-        work-is = l .1 .1;
+        work-is = l .1 .1 .0;
+        tallies-are = l .1 .1 .1;
         demand2 = λ e.
-            rw (rw e at (l .0), rw e at (l .1 .0)) (demand2 (checked c (length marks) (length work) e .accepted) (entries (c .schedule)));
-        demand3 = λ e. rw (rw e at (l .0)) (demand3 (checked c (length marks) (length work) e .accepted) (entries (c .schedule)));
-        lamp = λ e. rw (rw e at (l .0)) (lamp (checked c (length marks) (length work) e .accepted) (entries (c .schedule)));
+            rw (rw e at (l .0), rw e at (l .1 .0)) (demand2 (checked c (length marks) (length work) (length tallies) e .accepted) (entries (c .schedule)));
+        demand3 = λ e. rw (rw e at (l .0)) (demand3 (checked c (length marks) (length work) (length tallies) e .accepted) (entries (c .schedule)));
+        lamp = λ e. rw (rw e at (l .0)) (lamp (checked c (length marks) (length work) (length tallies) e .accepted) (entries (c .schedule)));
         owners = λ e.
-            rw (rw e at (l .0), rw e at (l .1 .0)) (owners (checked c (length marks) (length work) e .accepted) (entries (c .schedule)));
+            rw (rw e at (l .0), rw e at (l .1 .0)) (owners (checked c (length marks) (length work) (length tallies) e .accepted) (entries (c .schedule)));
+        counted = λ e. rw (rw e at (l .0)) (tallies-proved.tallies (checked c (length marks) (length work) (length tallies) e .accepted) (entries (c .schedule)));
       }
 
   -- any other number than 0 is a refusal, and the buffers stay
-  refused : (cause : Refusal) (k : ℕ) → number cause ≡ k → Leaves k (Refused cause) marks work
+  refused : (cause : Refusal) (k : ℕ) → number cause ≡ k → Leaves k (Refused cause) marks work tallies
   refused cause zero e = absurd (omega (arith, numbered cause))
-  refused cause (suc k) e = (ap refusedRow e, (refl, refl))
+  refused cause (suc k) e = (ap refusedRow e, (refl, (refl, refl)))
 
-module _ {c : Call} {marks work : List ℕ} {v : Verdict} (found : Finds v c (length marks) (length work)) where
+module _ {c : Call} {marks work tallies : List ℕ} {v : Verdict} (found : Finds v c (length marks) (length work) (length tallies)) where
   -- by what the checks find
-  pub answered-refused : {cause : Refusal} → v ≡ Faulty cause → Answered c marks work (Refused cause) marks work
+  pub answered-refused : {cause : Refusal} → v ≡ Faulty cause → Answered c marks work tallies (Refused cause) marks work tallies
   answered-refused {cause} e =
-      promised c marks work (refused c marks work cause (fault c (length marks) (length work)) (sym (ap numberOf e) ∙ found .number-is))
+      promised c marks work tallies (refused c marks work tallies cause (fault c (length marks) (length work) (length tallies)) (sym (ap numberOf e) ∙ found .number-is))
 
-  pub none-found : v ≡ Fine → Faultless c marks work
+  pub none-found : v ≡ Fine → Faultless c marks work tallies
   none-found e = record { none = sym (found .number-is) ∙ ap numberOf e }
 
-  pub answered-fine : v ≡ Fine → {r : Marked} {marks′ work′ : List ℕ} → Collected c r marks′ work′ → Answered c marks work r marks′ work′
-  answered-fine e d = promised c marks work (rw (none-found e .none) (d .row-is, (d .marks-are, d .work-is)))
+  pub answered-fine : v ≡ Fine → {r : Marked} {marks′ work′ tallies′ : List ℕ} → Collected c r marks′ work′ tallies′
+      → Answered c marks work tallies r marks′ work′ tallies′
+  answered-fine e d = promised c marks work tallies (rw (none-found e .none) (d .row-is, (d .marks-are, (d .work-is, d .tallies-are))))

@@ -11,8 +11,9 @@ use Rattle.machine.specs.Row.{Row, refusedRow}
 use Rattle.machine.specs.Demand2.{Demand2}
 use Rattle.machine.specs.Demand3.{Demand3}
 use Rattle.machine.specs.Lamp.{Lamp}
-use Rattle.machine.specs.Call.{Call, graphOf, settingOf, fault, marking, marksAfter, workAfter}
+use Rattle.machine.specs.Call.{Call, graphOf, settingOf, fault, final, marking, marksAfter, workAfter, talliesAfter}
 use Rattle.machine.specs.Owners.{Owners}
+use Rattle.machine.specs.Tallies.{Tallies}
 use Rattle.marker.specs.declared.Marked.{Marked}
 use Rattle.marker.specs.declared.Marked.the-variants.{Finished, Unfinished, Refused}
 
@@ -35,22 +36,25 @@ row (Finished t) = record { number = 0; finished = true; counts = t }
 row (Unfinished t) = record { number = 0; finished = false; counts = t }
 row (Refused r) = refusedRow (number r)
 
--- what the checks find is the first fault of a call with so many marks and work words
-pub record Finds (v : Verdict) (c : Call) (marks work : ℕ) : Type 0 where
-  pub number-is : numberOf v ≡ fault c marks work
+-- what the checks find is the first fault of a call with so many marks, work words and tally words
+pub record Finds (v : Verdict) (c : Call) (marks work tallies : ℕ) : Type 0 where
+  pub number-is : numberOf v ≡ fault c marks work tallies
 
--- the call's promise, for all inputs: the answer, every mark and every work word; and, where the call has no fault,
--- demands 2 and 3 of the answer and the marks, what its count of workers that carry says, and who
--- claimed what
-pub record Answered (c : Call) (marks work : List ℕ) (r : Marked) (marks′ work′ : List ℕ) : Type 0 where
-  pub row-is : row r ≡ marking c marks work
-  pub marks-are : marks′ ≡ marksAfter c marks work
-  pub work-is : work′ ≡ workAfter c marks work
-  pub demand2 : fault c (length marks) (length work) ≡ 0
+-- the call's promise, for all inputs: the answer, every mark, every work word and every tally word; and, where the call has
+-- no fault, demands 2 and 3 of the answer and the marks, what its count of workers that carry says, who claimed what, and
+-- what the tallies count
+pub record Answered (c : Call) (marks work tallies : List ℕ) (r : Marked) (marks′ work′ tallies′ : List ℕ) : Type 0 where
+  pub row-is : row r ≡ marking c marks work tallies
+  pub marks-are : marks′ ≡ marksAfter c marks work tallies
+  pub work-is : work′ ≡ workAfter c marks work tallies
+  pub tallies-are : tallies′ ≡ talliesAfter c marks work tallies
+  pub demand2 : fault c (length marks) (length work) (length tallies) ≡ 0
       → Demand2 (graphOf c) (c .starts) (c .workers) (settingOf c) (entries (c .schedule)) (row r) marks′
-  pub demand3 : fault c (length marks) (length work) ≡ 0
+  pub demand3 : fault c (length marks) (length work) (length tallies) ≡ 0
       → Demand3 (graphOf c) (c .starts) (c .workers) (settingOf c) (entries (c .schedule)) (row r)
-  pub lamp : fault c (length marks) (length work) ≡ 0
+  pub lamp : fault c (length marks) (length work) (length tallies) ≡ 0
       → Lamp (graphOf c) (c .starts) (c .workers) (settingOf c) (entries (c .schedule)) (row r)
-  pub owners : fault c (length marks) (length work) ≡ 0
+  pub owners : fault c (length marks) (length work) (length tallies) ≡ 0
       → Owners (graphOf c) (c .starts) (c .workers) (settingOf c) (entries (c .schedule)) (row r) marks′
+  pub counted : fault c (length marks) (length work) (length tallies) ≡ 0
+      → Tallies (graphOf c) (c .starts) (c .workers) (settingOf c) (entries (c .schedule)) (row r) (final c .tallies)

@@ -10,6 +10,7 @@ use Rattle.graph.specs.Graph.{Graph, graph, objects}
 use Rattle.graph.specs.Limits.{most-objects}
 use Rattle.machine.specs.Limits.{most-workers}
 use Rattle.machine.specs.Row.{Row}
+use Rattle.machine.specs.Tally.{talliesWords}
 use Rattle.machine.specs.Machine as machine
 use Rattle.machine.specs.Machine.{State, Worker, ended, runsOf, turns, entries, result, stretchLength}
 use Rattle.machine.specs.Call.{Call, graphOf, fault, final, scheduleFits}
@@ -85,17 +86,18 @@ setupOf c =
     }
 
 -- the checks find no fault
-pub record Faultless (c : Call) (marks work : List ℕ) : Type 0 where
-  pub none : fault c (length marks) (length work) ≡ 0
+pub record Faultless (c : Call) (marks work tallies : List ℕ) : Type 0 where
+  pub none : fault c (length marks) (length work) (length tallies) ≡ 0
 
 -- a call without a fault, with registers that are all zero
-pub record Collectable (c : Call) (g : Setup) (marks work regs : List ℕ) : Type 0 where
-  pub faultless : Faultless c marks work
+pub record Collectable (c : Call) (g : Setup) (marks work tallies regs : List ℕ) : Type 0 where
+  pub faultless : Faultless c marks work tallies
   pub stretch-is : g .stretch ≡ stretchLength (objects (graphOf c))
   pub regs-are : regs ≡ replicate (block-words * g .workers) 0
 
--- what it leaves: the result, the marks and the work words of the state after its turns
-pub record Collected (c : Call) (r : Marked) (marks′ work′ : List ℕ) : Type 0 where
+-- what it leaves: the result, the marks, the work words and the tallies of the state after its turns
+pub record Collected (c : Call) (r : Marked) (marks′ work′ tallies′ : List ℕ) : Type 0 where
   pub row-is : row r ≡ result (final c)
   pub marks-are : marks′ ≡ final c .marks
   pub work-is : work′ ≡ machine.memory (objects (graphOf c)) (final c .workers)
+  pub tallies-are : tallies′ ≡ talliesWords (final c .tallies)

@@ -8,6 +8,7 @@ use Rattle.graph.specs.Graph.{Graph, graph, objects, references}
 use Rattle.graph.specs.Chain.{marksAt}
 use Rattle.graph.specs.Limits.{most-objects, most-references}
 use Rattle.machine.specs.Run.{Run, carried}
+use Rattle.machine.specs.Tally.{tally-words}
 use Rattle.machine.specs.Machine.{Setting, State, live, unmarked, startRuns, start, stretchLength}
 use Rattle.machine.specs.Accepted.{Accepted}
 use Rattle.worker.specs.Registers.{block-words}
@@ -72,8 +73,9 @@ pub record Startable (offsets targets starts : List ℕ) (g : Setup) (marks s re
 abbrev pub begin : List ℕ → List ℕ → List ℕ → Setup → State
 begin offsets targets starts g = start (graph offsets targets) starts (g .workers)
 
--- the memories hold it, whatever words the other stretches have
+-- the memories hold it, whatever words the other stretches have, with tallies that are all zero
 abbrev pub Started : List ℕ → List ℕ → List ℕ → Setup → List ℕ → List ℕ → List ℕ → Progress → Type 0
 Started offsets targets starts g marks′ s′ regs′ p =
-    (work : List ℕ) → length work ≡ g .workers * g .stretch → stretchAt (g .stretch) 0 work ≡ s′
-    → Holds (graph offsets targets) g (begin offsets targets starts g) (memory marks′ work regs′ p)
+    (work tallies : List ℕ) → length work ≡ g .workers * g .stretch → stretchAt (g .stretch) 0 work ≡ s′
+    → tallies ≡ replicate (g .workers * tally-words) 0
+    → Holds (graph offsets targets) g (begin offsets targets starts g) (memory marks′ work tallies regs′ p)

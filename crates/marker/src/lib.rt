@@ -17,6 +17,7 @@ ghost use lib.ListN.{length};
 ghost use lib.Dec.{ltb, eqb};
 ghost use Rattle.graph.specs.Limits.{most-objects, most-references};
 ghost use Rattle.machine.specs.Limits.{most-workers, most-setting};
+ghost use Rattle.machine.specs.Tally.{tally-words};
 ghost use Rattle.machine.specs.Machine.{stretchLength};
 ghost use Rattle.machine.specs.Call.{outside, scheduleFits};
 ghost use Rattle.turns.specs.Held.{memory};
@@ -79,15 +80,18 @@ fn counts_outside(offsets: usize, targets: usize) -> bool
 }
 
 // Check 7: the lent buffers' lengths.
-fn buffers_wrong(n: usize, workers: u32, marks: usize, work: usize) -> bool
+fn buffers_wrong(n: usize, workers: u32, marks: usize, work: usize, tallies: usize) -> bool
     requires { ⌜ (n ≤ most-objects) × (workers ≤ most-workers) ⌝ }
-    ensures { λ r. ⌜ r ≡ (not (eqb marks n) || not (eqb work (workers * stretchLength n))) ⌝ }
+    ensures { λ r. ⌜ r ≡ (not (eqb marks n) || not (eqb work (workers * stretchLength n)) || not (eqb tallies (workers * tally-words))) ⌝ }
 {
     let wanted = workers as usize * (2 * n + 4);
     if marks != n {
         return true;
     }
-    work != wanted
+    if work != wanted {
+        return true;
+    }
+    tallies != workers as usize * machine::TALLY
 }
 
 // Check 9: whole entries, each with a worker below W.
@@ -120,8 +124,9 @@ fn check(
     schedule: &[u8],
     marks: usize,
     work: usize,
+    tallies: usize,
 ) -> Verdict
-    ensures { λ v. ⌜ Finds v (callOf (now (offsets .entry)) (now (targets .entry)) (now (starts .entry)) workers batch cutoff (now (schedule .entry))) marks work ⌝ }
+    ensures { λ v. ⌜ Finds v (callOf (now (offsets .entry)) (now (targets .entry)) (now (starts .entry)) workers batch cutoff (now (schedule .entry))) marks work tallies ⌝ }
 {
     if setting_outside(workers, batch, cutoff) {
         return Verdict::Faulty(Refusal::Setting);
@@ -130,7 +135,7 @@ fn check(
         return Verdict::Faulty(Refusal::Count);
     }
     let n = offsets.len() - 1;
-    if buffers_wrong(n, workers, marks, work) {
+    if buffers_wrong(n, workers, marks, work, tallies) {
         return Verdict::Faulty(Refusal::Buffer);
     }
     if !graph::well_formed(offsets, targets) {
@@ -189,13 +194,14 @@ fn take_turns(
     schedule: &[u8],
     marks: &mut [u8],
     work: &mut [u32],
+    tallies: &mut [u64],
     regs: &mut [u32],
     begun: Progress,
 ) -> Progress
-    requires { ⌜ Ready (IsBegun setup (now offsets) (now targets) (now schedule)) setup (memory (now marks) (now work) (now regs) begun) ⌝ }
+    requires { ⌜ Ready (IsBegun setup (now offsets) (now targets) (now schedule)) setup (memory (now marks) (now work) (now tallies) (now regs) begun) ⌝ }
     ensures { λ p. ⌜ DoesAll (IsBegun setup (now (offsets .entry)) (now (targets .entry)) (now (schedule .entry)))
-        setup (now (schedule .entry)) (memory (now (marks .entry)) (now (work .entry)) (now (regs .entry)) begun)
-        (memory (now (marks .exit)) (now (work .exit)) (now (regs .exit)) p) ⌝ }
+        setup (now (schedule .entry)) (memory (now (marks .entry)) (now (work .entry)) (now (tallies .entry)) (now (regs .entry)) begun)
+        (memory (now (marks .exit)) (now (work .exit)) (now (tallies .exit)) (now (regs .exit)) p) ⌝ }
 {
     let mut p = begun;
     let mut i: usize = 0;
@@ -206,7 +212,7 @@ fn take_turns(
         }
         let b = schedule[i] as u32;
         let v = schedule[i + 1] as u32;
-        p = turns::turn(offsets, targets, setup, marks, work, regs, p, b, v);
+        p = turns::turn(offsets, targets, setup, marks, work, tallies, regs, p, b, v);
         i += 2;
     }
     p
@@ -233,11 +239,12 @@ fn collected(
     schedule: &[u8],
     marks: &mut [u8],
     work: &mut [u32],
+    tallies: &mut [u64],
     regs: &mut [u32],
 ) -> Marked
-    requires { ⌜ Collectable (callWith (now offsets) (now targets) (now starts) setup (now schedule)) setup (now marks) (now work) (now regs) ⌝ }
+    requires { ⌜ Collectable (callWith (now offsets) (now targets) (now starts) setup (now schedule)) setup (now marks) (now work) (now tallies) (now regs) ⌝ }
     ensures { λ r. ⌜ Collected (callWith (now (offsets .entry)) (now (targets .entry)) (now (starts .entry)) setup (now (schedule .entry)))
-        r (now (marks .exit)) (now (work .exit)) ⌝ }
+        r (now (marks .exit)) (now (work .exit)) (now (tallies .exit)) ⌝ }
 {
     let len = setup.stretch;
     let begun = start::start(
@@ -249,7 +256,18 @@ fn collected(
         &mut work[0..len],
         regs,
     );
-    let p = take_turns(offsets, targets, setup, schedule, marks, work, regs, begun);
+    start::clear_tallies(tallies);
+    let p = take_turns(
+        offsets,
+        targets,
+        setup,
+        schedule,
+        marks,
+        work,
+        tallies,
+        regs,
+        begun,
+    );
     settle(setup, work, regs);
     answer(p)
 }
@@ -265,10 +283,11 @@ fn mark_checked(
     schedule: &[u8],
     marks: &mut [u8],
     work: &mut [u32],
+    tallies: &mut [u64],
 ) -> Marked
-    requires { ⌜ Faultless (callOf (now offsets) (now targets) (now starts) workers batch cutoff (now schedule)) (now marks) (now work) ⌝ }
+    requires { ⌜ Faultless (callOf (now offsets) (now targets) (now starts) workers batch cutoff (now schedule)) (now marks) (now work) (now tallies) ⌝ }
     ensures { λ r. ⌜ Collected (callOf (now (offsets .entry)) (now (targets .entry)) (now (starts .entry)) workers batch cutoff (now (schedule .entry)))
-        r (now (marks .exit)) (now (work .exit)) ⌝ }
+        r (now (marks .exit)) (now (work .exit)) (now (tallies .exit)) ⌝ }
 {
     let n = offsets.len() - 1;
     let setup = Setup {
@@ -287,6 +306,7 @@ fn mark_checked(
         schedule,
         marks,
         work,
+        tallies,
         &mut registers[..size],
     )
 }
@@ -302,9 +322,10 @@ pub fn mark(
     schedule: &[u8],
     marks: &mut [u8],
     work: &mut [u32],
+    tallies: &mut [u64],
 ) -> Marked
     ensures { λ r. ⌜ Answered (callOf (now (offsets .entry)) (now (targets .entry)) (now (starts .entry)) workers batch cutoff (now (schedule .entry)))
-        (now (marks .entry)) (now (work .entry)) r (now (marks .exit)) (now (work .exit)) ⌝ }
+        (now (marks .entry)) (now (work .entry)) (now (tallies .entry)) r (now (marks .exit)) (now (work .exit)) (now (tallies .exit)) ⌝ }
 {
     let verdict = check(
         offsets,
@@ -316,6 +337,7 @@ pub fn mark(
         schedule,
         marks.len(),
         work.len(),
+        tallies.len(),
     );
     match verdict {
         Verdict::Faulty(cause) => Marked::Refused(cause),
@@ -329,6 +351,7 @@ pub fn mark(
             schedule,
             marks,
             work,
+            tallies,
         ),
     }
 }

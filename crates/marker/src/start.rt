@@ -25,6 +25,15 @@ fn clear_marks(marks: &mut [u8])
     slices::clear_bytes(marks, 0, n);
 }
 
+// No tally counts anything.
+pub fn clear_tallies(tallies: &mut [u64])
+    ensures { λ _. ⌜ now (tallies .exit) ≡ replicate (length (now (tallies .entry))) 0 ⌝ }
+{
+    for i in 0..tallies.len() {
+        tallies[i] = 0;
+    }
+}
+
 // One start more: where it is not marked yet, it adds a mark, and its run if it has references.
 fn gather_one(offsets: &[u32], v: u32, marks: &mut [u8], s: &mut [u32], t: Gathered) -> Gathered
     requires { ⌜ Gathering (now offsets) v (now marks) (now s) t ⌝ }

@@ -58,7 +58,7 @@ call c =
     let a = c .args in
     callOf (a .offsets .now) (a .targets .now) (a .starts .now) (a .workers) (a .batch) (a .cutoff) (a .schedule .now)
 
-clear : (c : tie.Else4) → Clear (call (entry (first c))) (entry (first c) .args .marks) (entry (first c) .args .work)
+clear : (c : tie.Else4) → Clear (call (entry (first c))) (entry (first c) .args .marks) (entry (first c) .args .work) (entry (first c) .args .tallies)
 clear c =
     let t7 = c .before .before in
     let t4 = t7 .before .before in

@@ -1,40 +1,70 @@
--- The start in worker 0's stretch, the turns and the stretches written out, each on what the one before it left.
+-- The start in worker 0's stretch, the tallies cleared, the turns and the stretches written out, each on what the one before it
+-- left.
 use native.Mathlib.Omega.{arith}
 use Rattle.marker.proofs.Stages.{first-stretch, start-ready, turns-ready, settle-ready, all-collected}
 use borrow.Author.Needs.{needs}
 use Rattle.marker.proofs.collected.Statement.{statement}
 use Rattle.marker.proofs.collected.Tie as tie
 
+-- back from the turns to the tallies, from there to the start, and from there to the entry
+abbrev clear : tie.After-take-turns → tie.After-clear-tallies
+clear c = c .before .before .before .before .before .before .before
+
+abbrev started : tie.After-clear-tallies → tie.After-start
+started c = c .before .before .before .before .before .before .before .before
+
+abbrev entry : tie.After-start → tie.Start
+entry c = c .before .before .before .before .before .before .before .before .before .before .before .before
+
 part-start-end : tie.Need-part-start-end
-part-start-end c = omega (arith, first-stretch (c .before .before .before .before .before .before .before .before .pre))
+part-start-end c = omega (arith, first-stretch (c .before .before .before .before .before .before .before .before .before .pre))
 
 start-requires : tie.Need-start-requires
-start-requires c κs = start-ready (c .before .before .before .before .before .before .before .before .before .before .pre)
+start-requires c κs = start-ready (c .before .before .before .before .before .before .before .before .before .before .before .pre)
 
 take-turns-requires : tie.Need-take-turns-requires
 take-turns-requires c κs =
-    let started = c .before .before .before .before .before .before .before .before .before in
-    let begin = started .before .before .before .before .before .before .before .before .before .before .before in
-    turns-ready (begin .pre) (started .start .ensures) (started .start .kept .1 .1 .1 .1 .1 .0)
+    let cleared = c .before .before .before .before .before .before in
+    let begun = started cleared in
+    turns-ready (entry begun .pre) (begun .start .ensures) (begun .start .kept .1 .1 .1 .1 .1 .0) (cleared .clear-tallies .ensures)
 
 settle-requires : tie.Need-settle-requires
 settle-requires c κs =
-    let turned = c .before .before .before .before .before .before .before .before in
-    let started = turned .before .before .before .before .before .before .before .before .before .before in
-    let begin = started .before .before .before .before .before .before .before .before .before .before .before in
-    settle-ready (begin .pre) (started .start .ensures) (started .start .kept .1 .1 .1 .1 .1 .0) (turned .take-turns .ensures)
+    let turned = c .before .before .before .before .before .before .before .before .before .before in
+    let cleared = clear turned in
+    let begun = started cleared in
+    settle-ready (entry begun .pre) (begun .start .ensures) (begun .start .kept .1 .1 .1 .1 .1 .0) (cleared .clear-tallies .ensures)
+    (turned .take-turns .ensures)
 
 returns : tie.Need-returns
 returns c =
     let settled = c .before .before .before in
-    let turned = settled .before .before .before .before .before .before .before .before .before in
-    let started = turned .before .before .before .before .before .before .before .before .before .before in
-    let begin = started .before .before .before .before .before .before .before .before .before .before .before in
-    all-collected (begin .pre) (started .start .ensures) (started .start .kept .1 .1 .1 .1 .1 .0) (turned .take-turns .ensures)
-    (settled .settle .ensures) (c .answer .result) (c .answer .ensures)
+    let turned = settled .before .before .before .before .before .before .before .before .before .before .before in
+    let cleared = clear turned in
+    let begun = started cleared in
+    all-collected (entry begun .pre) (begun .start .ensures) (begun .start .kept .1 .1 .1 .1 .1 .0) (cleared .clear-tallies .ensures)
+    (turned .take-turns .ensures) (settled .settle .ensures) (c .answer .result) (c .answer .ensures)
+
+-- the buffers' lengths stay
+same-length : tie.Need-same-length
+same-length c =
+    let turned = c .before .before .before .before .before .before .before .before .before .before .before .before .before .before in
+    let begun = started (clear turned) in
+    omega (arith, begun .start .kept .1 .1 .1 .1 .0, turned .take-turns .kept .1 .1 .1 .1 .0)
+
+same-length-3 : tie.Need-same-length-3
+same-length-3 c =
+    let turned = c .before .before .before .before .before .before .before .before .before .before .before .before .before .before in
+    omega (arith, clear turned .clear-tallies .kept .0, turned .take-turns .kept .1 .1 .1 .1 .1 .1 .0)
+
+same-length-4 : tie.Need-same-length-4
+same-length-4 c =
+    let turned = c .before .before .before .before .before .before .before .before .before .before .before .before .before .before in
+    let begun = started (clear turned) in
+    omega (arith, begun .start .kept .1 .1 .1 .1 .1 .1 .0, turned .take-turns .kept .1 .1 .1 .1 .1 .1 .1 .0)
 
 pub collected-spec : {M : Type 1} → statement M
 collected-spec =
     tie.close
-    (tie.spec (λ c. search needs) (λ c. search needs) part-start-end start-requires take-turns-requires settle-requires
-    (λ c κs. search needs) (λ c. search needs) (λ c. search needs) (λ c. search needs) returns)
+    (tie.spec (λ c. search needs) (λ c. search needs) part-start-end start-requires (λ c κs. search needs) take-turns-requires settle-requires
+    (λ c κs. search needs) same-length (λ c. search needs) same-length-3 same-length-4 returns)

@@ -11,16 +11,16 @@ use Rattle.marker.proofs.take_turns.Statement.{statement}
 use Rattle.marker.proofs.take_turns.Tie as tie
 
 abbrev Inv-loop : tie.InvT-loop
-Inv-loop offsets targets setup schedule marks₀ work₀ regs₀ p₀ i₀ marks work regs p i =
+Inv-loop offsets targets setup schedule marks₀ work₀ tallies₀ regs₀ p₀ i₀ marks work tallies regs p i =
     (i ≤ length schedule)
-    × (((length marks ≡ length marks₀) × ((length work ≡ length work₀) × (length regs ≡ length regs₀)))
-    × ((x : Ready (IsBegun setup offsets targets schedule) setup (memory marks₀ work₀ regs₀ p₀)) → LoopAt x i (memory marks work regs p)))
+    × (((length marks ≡ length marks₀) × ((length work ≡ length work₀) × ((length tallies ≡ length tallies₀) × (length regs ≡ length regs₀))))
+    × ((x : Ready (IsBegun setup offsets targets schedule) setup (memory marks₀ work₀ tallies₀ regs₀ p₀)) → LoopAt x i (memory marks work tallies regs p)))
 
 abbrev μ-loop : tie.MeasureT-loop
-μ-loop offsets targets setup schedule marks₀ work₀ regs₀ p₀ i₀ marks work regs p i = length schedule - i
+μ-loop offsets targets setup schedule marks₀ work₀ tallies₀ regs₀ p₀ i₀ marks work tallies regs p i = length schedule - i
 
 loop-holds : tie.Need-loop-holds Inv-loop μ-loop
-loop-holds c = (omega arith, ((refl, (refl, refl)), λ x. at-start x))
+loop-holds c = (omega arith, ((refl, (refl, (refl, refl))), λ x. at-start x))
 
 returns : tie.Need-returns Inv-loop μ-loop
 returns c =
@@ -33,7 +33,7 @@ cast-b c = omega (arith, c .shared-slice-known4 .given (c .before .before .befor
 shared-slice-read-v : tie.Need-shared-slice-read-v Inv-loop μ-loop
 shared-slice-read-v c =
     let tested = c .before .before .before in
-    let start = tested .before .before .before .before .before .before .before .before in
+    let start = tested .before .before .before .before .before .before .before .before .before in
     let x = start .pre in
     at-pair x (tested .before .loop .inv .1 .1 x) (tested .loop-test .taken)
 
@@ -42,29 +42,35 @@ cast-v c = omega (arith, c .shared-slice-known5 .given (c .before .before .befor
 
 turn-requires : tie.Need-turn-requires Inv-loop μ-loop
 turn-requires c κs =
-    let tested = c .before .before .before .before .before .before in
-    let start = tested .before .before .before .before .before .before .before .before in
+    let tested = c .before .before .before .before .before .before .before in
+    let start = tested .before .before .before .before .before .before .before .before .before in
     let x = start .pre in
     at-turn x (tested .before .loop .inv .1 .1 x) (tested .loop-test .taken) (omega arith)
 
 add-i : tie.Need-add-i Inv-loop μ-loop
 add-i c =
-    let tested = c .before .before .before .before .before .before .before .before .before .before .before .before .before in
-    let start = tested .before .before .before .before .before .before .before .before in
+    let tested = c .before .before .before .before .before .before .before .before .before .before .before .before .before .before .before .before in
+    let start = tested .before .before .before .before .before .before .before .before .before in
     let x = start .pre in
     omega (arith, at-pair x (tested .before .loop .inv .1 .1 x) (tested .loop-test .taken))
 
 loop-again : tie.Need-loop-again Inv-loop μ-loop
 loop-again c =
-    let turned = c .before .before .before .before .before .before in
+    let turned = c .before .before .before .before .before .before .before .before in
     let t = turned .turn in
-    let tested = turned .before .before .before .before .before .before .before in
+    let tested = turned .before .before .before .before .before .before .before .before in
     let l = tested .before .loop in
-    let start = tested .before .before .before .before .before .before .before .before in
+    let start = tested .before .before .before .before .before .before .before .before .before in
     let x = start .pre in (
       omega (arith, at-pair x (l .inv .1 .1 x) (tested .loop-test .taken)),
       (
-        (omega (arith, t .kept .1 .1 .1 .0), (omega (arith, t .kept .1 .1 .1 .1 .0), omega (arith, t .kept .1 .1 .1 .1 .1 .0))),
+        (
+          omega (arith, t .kept .1 .1 .1 .0, l .inv .1 .0 .0),
+          (
+            omega (arith, t .kept .1 .1 .1 .1 .0, l .inv .1 .0 .1 .0),
+            (omega (arith, t .kept .1 .1 .1 .1 .1 .0, l .inv .1 .0 .1 .1 .0), omega (arith, t .kept .1 .1 .1 .1 .1 .1 .0, l .inv .1 .0 .1 .1 .1)),
+          ),
+        ),
         λ y. at-next y (l .inv .1 .1 y) (tested .loop-test .taken) (omega (arith, start .good)) (t .ensures),
       ),
     )
@@ -77,6 +83,6 @@ returns-2 c =
 pub take-turns-spec : {M : Type 1} → statement M
 take-turns-spec =
     tie.close
-    (tie.spec Inv-loop μ-loop loop-holds (λ c. omega arith) (λ c. omega arith) (λ c. omega arith) returns
+    (tie.spec Inv-loop μ-loop loop-holds (λ c. omega arith) (λ c. omega arith) (λ c. omega arith) (λ c. omega arith) returns
     (λ c. omega arith) cast-b (λ c. omega arith) shared-slice-read-v cast-v turn-requires add-i (λ c. omega arith)
-    loop-again (λ c. omega arith) (λ c. omega arith) (λ c. omega arith) returns-2)
+    loop-again (λ c. omega arith) (λ c. omega arith) (λ c. omega arith) (λ c. omega arith) returns-2)
