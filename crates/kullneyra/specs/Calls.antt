@@ -12,7 +12,7 @@ use Rattle.catalogue.specs.Answer.{Row, ReadRow, headerRow, taken, readRow, off
 use Rattle.catalogue.specs.Reading.{Reading, refused}
 use Rattle.machine.specs.declared.Counts.{Counts}
 use Rattle.machine.specs.Row.{Row as MarkRow, counts-number, countWords}
-use Rattle.machine.specs.Call.{Call, marking, marksAfter, workAfter}
+use Rattle.machine.specs.Call.{Call, marking, marksAfter, workAfter, talliesAfter}
 use Rattle.sweep.specs.Sweep.{sweeping, listAfter}
 
 -- 7 where the result words are not as many as the call has results, else what the call answers
@@ -91,8 +91,9 @@ abbrev pub markWords : MarkRow → List ℕ
 markWords r = resultWords (flag (r .finished)) (r .counts)
 
 -- the number answered and every lent byte and word afterwards
-pub record MarksIn (c : Call) (marks work result marks′ work′ result′ : List ℕ) (answer : ℕ) : Type 0 where
-  pub answers : answer ≡ answerIn mark-words result (marking c marks work .number)
-  pub fills-marks : marks′ ≡ pick (eqb (length result) mark-words) (marksAfter c marks work) marks
-  pub fills-work : work′ ≡ pick (eqb (length result) mark-words) (workAfter c marks work) work
-  pub fills-result : result′ ≡ wordsFor (answerIn mark-words result (marking c marks work .number)) (markWords (marking c marks work)) result
+pub record MarksIn (c : Call) (marks work tallies result marks′ work′ tallies′ result′ : List ℕ) (answer : ℕ) : Type 0 where
+  pub answers : answer ≡ answerIn mark-words result (marking c marks work tallies .number)
+  pub fills-marks : marks′ ≡ pick (eqb (length result) mark-words) (marksAfter c marks work tallies) marks
+  pub fills-work : work′ ≡ pick (eqb (length result) mark-words) (workAfter c marks work tallies) work
+  pub fills-tallies : tallies′ ≡ pick (eqb (length result) mark-words) (talliesAfter c marks work tallies) tallies
+  pub fills-result : result′ ≡ wordsFor (answerIn mark-words result (marking c marks work tallies .number)) (markWords (marking c marks work tallies)) result

@@ -170,7 +170,8 @@ fn give_marked(answer: Marked, result: &mut [u64]) -> u32
     }
 }
 
-// The marker; result words: finished (1 or 0), then the counts in the order of `Counts`.
+// The marker; the tallies are four words for each worker: followed, won, lost and handed. Result
+// words: finished (1 or 0), then the counts in the order of `Counts`.
 #[no_mangle]
 pub extern "C" fn kullneyra_mark(
     offsets: &[u32],
@@ -182,9 +183,10 @@ pub extern "C" fn kullneyra_mark(
     schedule: &[u8],
     marks: &mut [u8],
     work: &mut [u32],
+    tallies: &mut [u64],
     result: &mut [u64],
 ) -> u32
-    ensures { λ r. ⌜ MarksIn (callOf (now (offsets .entry)) (now (targets .entry)) (now (starts .entry)) workers batch cutoff (now (schedule .entry))) (now (marks .entry)) (now (work .entry)) (now (result .entry)) (now (marks .exit)) (now (work .exit)) (now (result .exit)) r ⌝ }
+    ensures { λ r. ⌜ MarksIn (callOf (now (offsets .entry)) (now (targets .entry)) (now (starts .entry)) workers batch cutoff (now (schedule .entry))) (now (marks .entry)) (now (work .entry)) (now (tallies .entry)) (now (result .entry)) (now (marks .exit)) (now (work .exit)) (now (tallies .exit)) (now (result .exit)) r ⌝ }
 {
     if result.len() != MARK_WORDS {
         return 7;
@@ -199,6 +201,7 @@ pub extern "C" fn kullneyra_mark(
         schedule,
         marks,
         work,
+        tallies,
     );
     give_marked(answer, result)
 }

@@ -145,10 +145,12 @@ fn mark_graph(
     let mut schedule = [0u8; 512];
     let mut marks = [0u8; 64];
     let mut work = [0u32; 512];
+    let mut tallies = [0u64; 128];
     copy_words(cells, places, 3, &mut setting);
     let s = copy_bytes(cells, places, 4, &mut schedule);
     let m = copy_bytes(cells, places, 5, &mut marks);
     let w = copy_words(cells, places, 6, &mut work);
+    let c = copy_longs(cells, places, 7, &mut tallies);
     mark_into(
         offsets,
         targets,
@@ -157,6 +159,7 @@ fn mark_graph(
         &schedule[..s],
         &mut marks[..m],
         &mut work[..w],
+        &mut tallies[..c],
     );
 }
 
@@ -168,6 +171,7 @@ fn mark_into(
     schedule: &[u8],
     marks: &mut [u8],
     work: &mut [u32],
+    tallies: &mut [u64],
 ) {
     let answer = marker::mark(
         offsets,
@@ -179,9 +183,10 @@ fn mark_into(
         schedule,
         marks,
         work,
+        tallies,
     );
     show::marked(answer);
-    show::memory(marks, work);
+    show::memory(marks, work, tallies);
 }
 
 fn sweep(cells: &[u64], places: &[usize; 512]) {

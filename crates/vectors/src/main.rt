@@ -3,7 +3,7 @@
 //     list S: LIST                                     keeps numbers under a letter
 //     read NAME: BYTES | OFFSETS | TARGETS | SIZES | STARTS    the header call, then the reader
 //     view NAME: OFFSETS | TARGETS | OBJECT            the references of one object
-//     mark NAME: OFFSETS | TARGETS | STARTS | W D K | SCHEDULE | MARKS | WORK
+//     mark NAME: OFFSETS | TARGETS | STARTS | W D K | SCHEDULE | MARKS | WORK | TALLIES
 //     sweep NAME: MARKS | SIZES | LIST
 //
 // and a line that begins with no small letter is a comment. A list is words with a space between

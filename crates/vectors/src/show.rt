@@ -158,7 +158,8 @@ pub fn store(offsets: &[u32], targets: &[u32], sizes: &[u64], starts: &[u32]) {
     words(starts);
 }
 
-pub fn memory(marks: &[u8], work: &[u32]) {
+pub fn memory(marks: &[u8], work: &[u32], tallies: &[u64]) {
     bytes(marks);
     words(work);
+    longs(tallies);
 }

@@ -8,16 +8,16 @@ use Rattle.kullneyra.proofs.kullneyra_mark.Tie as tie
 
 returns : tie.Need-returns
 returns c =
-    let start = c .before .before .before .before .before .before .before .before in
+    let start = c .before .before .before .before .before .before .before .before .before in
     let f = ne-eqb (length (start .args .result .now)) mark-words (c .if1 .taken) in
-    record { answers = rw f; fills-marks = rw f; fills-work = rw f; fills-result = rw f }
+    record { answers = rw f; fills-marks = rw f; fills-work = rw f; fills-tallies = rw f; fills-result = rw f }
 
 returns-2 : tie.Need-returns-2
 returns-2 c =
     let at-give-marked = c .before .before in
-    let at-mark = at-give-marked .before .before .before .before .before .before in
-    let at-if1 = at-mark .before .before .before in
-    let start = at-if1 .before .before .before .before .before .before .before .before in
+    let at-mark = at-give-marked .before .before .before .before .before .before .before .before in
+    let at-if1 = at-mark .before .before .before .before in
+    let start = at-if1 .before .before .before .before .before .before .before .before .before in
     let f = eq-eqb (length (start .args .result .now)) mark-words (at-if1 .if1 .left) in
     let done = at-mark .mark .ensures in
     let h = done .row-is in
@@ -26,6 +26,7 @@ returns-2 c =
       answers = rw (f, ← h) (given .0);
       fills-marks = rw f (done .marks-are);
       fills-work = rw f (done .work-is);
+      fills-tallies = rw f (done .tallies-are);
       fills-result = rw (f, ← h) (given .1);
     }
 
@@ -33,4 +34,4 @@ pub kullneyra-mark-spec : {M : Type 1} → statement M
 kullneyra-mark-spec =
     tie.close
     (tie.spec returns (λ c κs. search needs) (λ c κs. search needs) (λ c. search needs) (λ c. search needs)
-    (λ c. search needs) returns-2)
+    (λ c. search needs) (λ c. search needs) returns-2)
