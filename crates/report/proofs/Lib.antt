@@ -5,3 +5,4 @@ pub mod Printed
 pub mod Promise
 pub mod Reading
 pub mod Sweeping
+pub mod Tallying

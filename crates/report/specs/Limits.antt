@@ -37,6 +37,10 @@ text-room = 49152
 abbrev pub counts-room : ℕ
 counts-room = 256
 
+-- the tally lines of so many workers
+abbrev pub tally-room : ℕ → ℕ
+tally-room k = 134 * k
+
 -- so many dead lines
 abbrev pub dead-room : ℕ → ℕ
 dead-room k = 47 * k

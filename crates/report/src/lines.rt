@@ -1,11 +1,11 @@
 // The lines that the program prints. Each function writes behind the first `at` bytes and returns
 // how many bytes there are then.
 use machine::Counts;
-ghost use Prim.Native.Nat.{_+_, _≤_};
+ghost use Prim.Native.Nat.{_+_, _*_, _/_, _≤_, _<_};
 ghost use lib.ListN.{length};
 ghost use Rattle.text.specs.Text.{PutIn};
-ghost use Rattle.report.specs.Limits.{counts-room, dead-room};
-ghost use Rattle.report.specs.Lines.{refusalLine, stateLine, foundLines, workerLines, countLines, deadLine, deadLines, freedLine};
+ghost use Rattle.report.specs.Limits.{counts-room, tally-room, dead-room};
+ghost use Rattle.report.specs.Lines.{refusalLine, stateLine, foundLines, workerLines, countLines, tallyLine, tallyAt, wordLines, deadLine, deadLines, freedLine};
 ghost use Rattle.report.specs.Ready.{Below};
 
 // The line of a refusal.
@@ -55,6 +55,33 @@ pub fn put_counts(out: &mut [u8], at: usize, finished: bool, counts: Counts) -> 
 {
     let end = put_found(out, at, finished, counts);
     put_workers(out, end, counts)
+}
+
+// The line of one worker, by the words of all tallies.
+fn put_tally(out: &mut [u8], at: usize, tallies: &[u64], worker: usize) -> usize
+    requires { ⌜ at + 134 ≤ length (now out) ⌝ }
+    requires { ⌜ 4 * worker + 3 < length (now tallies) ⌝ }
+    ensures { λ r. ⌜ PutIn 134 (now (out .entry)) at (tallyLine worker (tallyAt (now (tallies .entry)) worker)) (now (out .exit)) r ⌝ }
+{
+    let word = 4 * worker;
+    let mut end = text::put_named(out, at, b"box", worker as u64);
+    end = text::put_named(out, end, b" followed", tallies[word]);
+    end = text::put_named(out, end, b" won", tallies[word + 1]);
+    end = text::put_named(out, end, b" lost", tallies[word + 2]);
+    text::put_line(out, end, b" handed", tallies[word + 3])
+}
+
+// A line for each worker, by the words of all tallies.
+pub fn put_tallies(out: &mut [u8], at: usize, tallies: &[u64]) -> usize
+    requires { ⌜ at + tally-room (length (now tallies) / 4) ≤ length (now out) ⌝ }
+    ensures { λ r. ⌜ PutIn (tally-room (length (now (tallies .entry)) / 4)) (now (out .entry)) at
+        (wordLines (now (tallies .entry)) (length (now (tallies .entry)) / 4)) (now (out .exit)) r ⌝ }
+{
+    let mut end = at;
+    for worker in 0..tallies.len() / 4 {
+        end = put_tally(out, end, tallies, worker);
+    }
+    end
 }
 
 // One dead line.

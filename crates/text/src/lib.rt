@@ -61,7 +61,7 @@ fn put_spaced(out: &mut [u8], at: usize, v: u64) -> usize
 }
 
 // Writes a word, a space and a number.
-fn put_named(out: &mut [u8], at: usize, word: &[u8], v: u64) -> usize
+pub fn put_named(out: &mut [u8], at: usize, word: &[u8], v: u64) -> usize
     requires { ⌜ at + (length (now word) + 21) ≤ length (now out) ⌝ }
     ensures { λ r. ⌜ PutIn (length (now (word .entry)) + 21) (now (out .entry)) at (now (word .entry) ++ spaced v) (now (out .exit)) r ⌝ }
 {
