@@ -57,7 +57,18 @@ module _ {s : Contents} {order : List ℕ} {l : Lent} (ready : Orderly s order l
         let much = ready .much-work in
         omega (arith, mul-le-mul-right (2 * length (s .sizes) + 4) (both .1))
 
-    pub collectable : {work : List ℕ} → length work ≡ o .workers * stretchLength (length (s .sizes))
-        → Collectable s o (lent (l .marks) work (l .list) (l .out))
-    collectable e =
-        record { passing = ready .passing; fitting = ready .fitting; settings = both .0; all-work = e }
+    -- the words of the tallies
+    pub tallies-fit : o .workers * 4 ≤ length (l .tallies)
+    tallies-fit = let few = both .1 in let all = ready .all-words in omega arith
+
+    pub collectable : {work tallies : List ℕ} → length work ≡ o .workers * stretchLength (length (s .sizes))
+        → length tallies ≡ o .workers * 4 → Collectable s o (lent (l .marks) work tallies (l .list) (l .out))
+    collectable e f =
+        record {
+          passing = ready .passing;
+          fitting = ready .fitting;
+          settings = both .0;
+          few-workers = both .1;
+          all-work = e;
+          all-tallies = f;
+        }

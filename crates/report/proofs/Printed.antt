@@ -2,7 +2,7 @@
 use mathlib.Core.Path.{_≡_, refl, sym, ap, _∙_}
 use mathlib.Core.Bool.{true, false}
 use mathlib.Core.List.{List, [], _∷_, _++_, append-nil}
-use Prim.Native.Nat.{ℕ, zero, suc, _*_, _<_}
+use Prim.Native.Nat.{ℕ, zero, suc, _*_, _/_, _<_}
 use native.Mathlib.Omega.{arith}
 use lib.ListN.{length}
 use borrow.Author.Tests.{eq-eqb}
@@ -14,6 +14,7 @@ use Rattle.refusal.proofs.Numbers.{numbered}
 use Rattle.graph.specs.Graph.{graph, objects}
 use Rattle.machine.specs.declared.Counts.{Counts}
 use Rattle.machine.specs.Row.{Row, refusedRow}
+use Rattle.machine.specs.Tally.{Tally, talliesWords}
 use Rattle.machine.specs.Machine.{result, stretchLength}
 use Rattle.machine.specs.Call.{Call, fault, settingFault, bufferFault, scheduleFault, answerFor, marksFor, final}
 use Rattle.marker.proofs.Marked as TheMarked
@@ -22,9 +23,10 @@ use Rattle.marker.specs.declared.Marked.the-variants.{Finished, Unfinished, Ref
 use Rattle.marker.specs.Answer.{row, Answered}
 use Rattle.sweep.specs.Sweep.{dead}
 use Rattle.report.specs.declared.order.Order.{Order}
-use Rattle.report.specs.Lines.{refusalLine, countLines}
-use Rattle.report.specs.Report.{Contents, callOf, deadText, resultText, printed}
+use Rattle.report.specs.Lines.{refusalLine, countLines, tallyLines, wordLines}
+use Rattle.report.specs.Report.{Contents, callOf, deadText, talliesOf, resultText, printed}
 use Rattle.report.specs.Ready.{Lent, Passing, Collectable}
+use Rattle.report.proofs.Tallying.{lines-are}
 
 module _ (s : Contents) (o : Order) (schedule : List ℕ) where
   -- a fault's only line
@@ -36,10 +38,12 @@ module _ (s : Contents) (o : Order) (schedule : List ℕ) where
   pub printed-refusal : {v f : ℕ} (r : Refusal) → v ≡ number r → number r ≡ f → refusalLine v ≡ printed f s o schedule
   printed-refusal {f = f} r e h = ap refusalLine e ∙ beside (number r) f (numbered r) h
 
-  -- the result and the marks of the collection
-  printed-result : {f : ℕ} (r : Row) (marks : List ℕ) → f ≡ 0 → r ≡ result (final (callOf s o schedule))
-      → marks ≡ final (callOf s o schedule) .marks → resultText r (s .sizes) marks ≡ printed f s o schedule
-  printed-result r marks z e m = rw (z, e, m)
+  -- the result, the words of the tallies and the marks of the collection
+  printed-result : {f : ℕ} (r : Row) (words marks : List ℕ) → f ≡ 0 → r ≡ result (final (callOf s o schedule))
+      → words ≡ talliesWords (talliesOf (callOf s o schedule)) → marks ≡ final (callOf s o schedule) .marks
+      → countLines (r .finished) (r .counts) ++ wordLines words (length words / 4) ++ deadText (r .finished) (s .sizes) (dead marks)
+      ≡ printed f s o schedule
+  printed-result r words marks z e t m = rw (z, e, m, lines-are (talliesOf (callOf s o schedule)) words t)
 
 -- an answer that is neither finished nor unfinished is refused
 pub refused-one : (m : Marked) → OneOf (1 ∷ 2 ∷ []) (Declared.tagOf TheMarked.the-type m) → OneOf (0 ∷ 2 ∷ []) (Declared.tagOf TheMarked.the-type m)
@@ -87,16 +91,21 @@ module _ {s : Contents} {o : Order} {l : Lent} (ready : Collectable s o l) where
         printed-refusal s o schedule k (h ∙ ap (λ (x : Marked). row x .number) e)
         (refused-row (number k) (scheduleFault (o .workers) schedule) (callOf s o schedule) (numbered k) (ap row (sym e) ∙ answered))
 
-    pub unfinished-text : {t : Counts} → m ≡ Unfinished t
-        → countLines false t ≡ printed (scheduleFault (o .workers) schedule) s o schedule
-    unfinished-text {t} e =
-        let q = found e refl in
-        sym (append-nil (countLines false t))
-        ∙ printed-result s o schedule (row (Unfinished t)) (final (callOf s o schedule) .marks) (q .0) (q .1) refl
+    -- the words of the tallies where the call is accepted
+    abbrev Told : List ℕ → Type 0
+    Told words = scheduleFault (o .workers) schedule ≡ 0 → words ≡ talliesWords (talliesOf (callOf s o schedule))
 
-    pub finished-text : {t : Counts} → m ≡ Finished t
-        → countLines true t ++ deadText true (s .sizes) (dead marks′) ≡ printed (scheduleFault (o .workers) schedule) s o schedule
-    finished-text {t} e =
+    pub unfinished-text : {t : Counts} {words : List ℕ} → Told words → m ≡ Unfinished t
+        → countLines false t ++ wordLines words (length words / 4) ≡ printed (scheduleFault (o .workers) schedule) s o schedule
+    unfinished-text {t} {words} told e =
         let q = found e refl in
-        printed-result s o schedule (row (Finished t)) marks′ (q .0) (q .1)
+        sym (append-nil (countLines false t ++ wordLines words (length words / 4)))
+        ∙ printed-result s o schedule (row (Unfinished t)) words (final (callOf s o schedule) .marks) (q .0) (q .1) (told (q .0)) refl
+
+    pub finished-text : {t : Counts} {words : List ℕ} → Told words → m ≡ Finished t
+        → countLines true t ++ wordLines words (length words / 4) ++ deadText true (s .sizes) (dead marks′)
+        ≡ printed (scheduleFault (o .workers) schedule) s o schedule
+    finished-text {t} {words} told e =
+        let q = found e refl in
+        printed-result s o schedule (row (Finished t)) words marks′ (q .0) (q .1) (told (q .0))
         (done .marks-are ∙ ap (λ (f : ℕ). marksFor f (callOf s o schedule) (l .marks)) (only-schedule schedule ∙ q .0))

@@ -1,7 +1,7 @@
 -- The reader's promise, demand 2 and the lines in one: what is printed as dead, by the catalogue alone.
 use mathlib.Core.Path.{_≡_, refl, sym, subst, _∙_}
 use mathlib.Core.Bool.{Bool, true, false}
-use mathlib.Core.List.{List, append-nil}
+use mathlib.Core.List.{List, _++_, append-nil}
 use mathlib.Core.Logic.{_⊎_, inl, inr, _↔_}
 use Prim.Native.Nat.{ℕ, _*_, _≤_, _<_}
 use native.Mathlib.Omega.{arith}
@@ -27,8 +27,8 @@ use Rattle.sweep.specs.Sweep.{dead}
 use Rattle.sweep.proofs.Collection.{dead-upwards, dead-exactly}
 use Rattle.report.specs.declared.order.Order.{Order}
 use Rattle.report.specs.Limits.{text-room}
-use Rattle.report.specs.Lines.{countLines}
-use Rattle.report.specs.Report.{Files, contentsOf, orderOf, scheduleOf, callOf, filesFault, headerFault, orderFault, callFault, programFault, resultText, programText}
+use Rattle.report.specs.Lines.{countLines, tallyLines}
+use Rattle.report.specs.Report.{Files, contentsOf, orderOf, scheduleOf, callOf, filesFault, headerFault, orderFault, callFault, programFault, talliesOf, resultText, programText}
 use Rattle.report.specs.Ready.{Prints}
 use Rattle.report.specs.Promise.{FinishedText, UnfinishedText, Promise}
 use Rattle.report.proofs.Printed.{beside, passing-fault}
@@ -70,19 +70,20 @@ module _ (b : List ℕ) (clear : catalogueFault b ≡ 0) (o : Order) (schedule :
       )
 
   told-by : (x : Bool) → result (final call) .finished ≡ x
-      → FinishedText s (resultText (result (final call)) (s .sizes) (final call .marks))
-      ⊎ UnfinishedText (resultText (result (final call)) (s .sizes) (final call .marks))
+      → FinishedText s (resultText (result (final call)) (talliesOf call) (s .sizes) (final call .marks))
+      ⊎ UnfinishedText (resultText (result (final call)) (talliesOf call) (s .sizes) (final call .marks))
   told-by true e =
       inl
       (record {
         counts = result (final call) .counts;
+        tallies = talliesOf call;
         numbers = dead (final call .marks);
         upwards = dead-upwards 0 (final call .marks);
         exactly = dead-are e;
         lines-are = rw e;
       })
   told-by false e =
-      inr (record { counts = result (final call) .counts; lines-are = rw e (append-nil (countLines false (result (final call) .counts))) })
+      inr (record { counts = result (final call) .counts; tallies = talliesOf call; lines-are = rw e (append-nil (countLines false (result (final call) .counts) ++ tallyLines 0 (talliesOf call))) })
 
 module _ (f : Files) where
   -- accepted files have neither a fault in the catalogue nor in the call

@@ -127,4 +127,5 @@ module _ {b order o t s w : List ℕ} {l : Lent} (ready : Readable b order o t s
             fitting = record { few = omega arith; all-marks = omega arith; all-list = omega arith; room = f .room };
             whole-order = ready .whole-order;
             much-work = ready .much-work;
+            all-words = ready .all-words;
           }

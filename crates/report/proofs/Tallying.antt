@@ -1,12 +1,13 @@
 -- The tally lines, one worker after the other; by the words of the tallies they are those of the tallies.
 use mathlib.Core.Path.{_≡_, refl, sym, ap, subst, _∙_}
 use mathlib.Core.List.{List, [], _∷_, _++_, append-assoc, append-nil}
-use Prim.Native.Nat.{ℕ, zero, suc, _+_, _*_, _≤_, _<_}
+use Prim.Native.Nat.{ℕ, zero, suc, _+_, _*_, _/_, _≤_, _<_}
 use native.Mathlib.Numerals.{add-one}
 use native.Mathlib.Omega.{arith}
 use lib.ListN.{length, getD, take, drop}
 use lib.Seq.{take-suc, take-all, getD-drop, length-take-le}
 use Rattle.laws.specs.Blocks.{laid}
+use Rattle.laws.proofs.Blocks.{length-laid}
 use Rattle.machine.specs.Tally.{Tally, noTally, tallyWords, talliesWords}
 use Rattle.text.specs.Text.{PutIn}
 use Rattle.text.proofs.Written.{nothing, exactly, then-in}
@@ -72,7 +73,11 @@ lines-taken ts (suc k) h =
     ∙ ap (λ (l : List ℕ). tallyLines 0 (take k ts) ++ l) last))
 
 -- the lines by the words are those of the tallies
-pub lines-are : (ts : List Tally) (words : List ℕ) (w : ℕ) → words ≡ talliesWords ts → length ts ≡ w
-    → wordLines words w ≡ tallyLines 0 ts
-lines-are ts words w e n =
-    rw (e, sym n) (lines-taken ts (length ts) (omega arith) ∙ ap (tallyLines 0) (take-all (length ts) ts (omega arith)))
+pub lines-are : (ts : List Tally) (words : List ℕ) → words ≡ talliesWords ts → wordLines words (length words / 4) ≡ tallyLines 0 ts
+lines-are ts words e =
+    let long : length words ≡ length ts * 4 =
+    ap length e ∙ length-laid tallyWords 4 noTally ts (λ (i : ℕ). refl) in
+    let w : length words / 4 ≡ length ts = omega arith in
+    rw w (ap (λ (l : List ℕ). wordLines l (length ts)) e
+    ∙ lines-taken ts (length ts) (omega arith)
+    ∙ ap (tallyLines 0) (take-all (length ts) ts (omega arith)))

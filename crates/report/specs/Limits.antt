@@ -27,6 +27,10 @@ most-workers = 4
 abbrev pub work-room : ℕ
 work-room = 8016
 
+-- the words of so many workers' tallies
+abbrev pub tally-words : ℕ
+tally-words = 16
+
 -- ---- bytes of the answer; a number has at most 20 digits
 
 -- the whole answer

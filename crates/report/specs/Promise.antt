@@ -11,23 +11,26 @@ use Rattle.catalogue.specs.Store.{Store, objects, startsOf}
 use Rattle.catalogue.specs.Acceptance.{Lays}
 use Rattle.catalogue.specs.Chain.{Chain}
 use Rattle.machine.specs.declared.Counts.{Counts}
+use Rattle.machine.specs.Tally.{Tally}
 use Rattle.sweep.specs.Sweep.{sizesOf}
 use Rattle.sweep.specs.Collection.{UpwardsFrom}
-use Rattle.report.specs.Lines.{refusalLine, countLines, deadLines, freedLine}
+use Rattle.report.specs.Lines.{refusalLine, countLines, tallyLines, deadLines, freedLine}
 use Rattle.report.specs.Report.{Files, programFault}
 
 -- a finished collection of this store: the dead upwards, each with its size, and the sum of these sizes
 pub record FinishedText (s : Store) (text : List ℕ) : Type 0 where
   pub counts : Counts
+  pub tallies : List Tally
   pub numbers : List ℕ
   pub upwards : UpwardsFrom 0 numbers
   pub exactly : (v : ℕ) → (0 < sum (hit v) numbers) ↔ ((v < objects s) × (Chain s (startsOf s) v → ⊥))
-  pub lines-are : text ≡ countLines true counts ++ (deadLines (s .sizes) numbers ++ freedLine (sizesOf (s .sizes) numbers))
+  pub lines-are : text ≡ countLines true counts ++ tallyLines 0 tallies ++ (deadLines (s .sizes) numbers ++ freedLine (sizesOf (s .sizes) numbers))
 
--- an unfinished one: the counts and nothing more
+-- an unfinished one: the counts, the workers' tallies and nothing more
 pub record UnfinishedText (text : List ℕ) : Type 0 where
   pub counts : Counts
-  pub lines-are : text ≡ countLines false counts
+  pub tallies : List Tally
+  pub lines-are : text ≡ countLines false counts ++ tallyLines 0 tallies
 
 -- what is printed for these files
 pub record Promise (f : Files) (text : List ℕ) : Type 0 where

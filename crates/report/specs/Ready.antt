@@ -11,7 +11,7 @@ use Rattle.machine.specs.Machine.{stretchLength}
 use Rattle.machine.specs.Call.{settingFault, countFault, graphFault, startsFault, objectFault}
 use Rattle.sweep.specs.Sweep.{allFit}
 use Rattle.report.specs.declared.order.Order.{Order}
-use Rattle.report.specs.Limits.{order-length, most-objects, most-references, work-room, swept-room, text-room}
+use Rattle.report.specs.Limits.{order-length, most-objects, most-references, most-workers, work-room, tally-words, swept-room, text-room}
 use Rattle.report.specs.Report.{Contents}
 
 -- every number of a list lies below n
@@ -22,12 +22,13 @@ Below l n = (i : ℕ) → i < length l → getD l i 0 < n
 pub record Lent : Type 0 where
   pub marks : List ℕ
   pub work : List ℕ
+  pub tallies : List ℕ
   pub list : List ℕ
   pub out : List ℕ
 
 -- the buffers with these parts
-abbrev pub lent : List ℕ → List ℕ → List ℕ → List ℕ → Lent
-lent marks work list out = record { marks = marks; work = work; list = list; out = out }
+abbrev pub lent : List ℕ → List ℕ → List ℕ → List ℕ → List ℕ → Lent
+lent marks work tallies list out = record { marks = marks; work = work; tallies = tallies; list = list; out = out }
 
 -- as many marks and places of the list as the program's objects, and room for the answer
 pub record Fitting (sizes marks list out : List ℕ) : Type 0 where
@@ -60,14 +61,17 @@ pub record Collectable (s : Contents) (o : Order) (l : Lent) : Type 0 where
   pub passing : Passing s
   pub fitting : Fitting (s .sizes) (l .marks) (l .list) (l .out)
   pub settings : settingFault (o .workers) (o .batch) (o .cutoff) ≡ 0
+  pub few-workers : o .workers ≤ most-workers
   pub all-work : length (l .work) ≡ o .workers * stretchLength (length (s .sizes))
+  pub all-tallies : length (l .tallies) ≡ o .workers * 4
 
--- contents that were read, whole settings, and work words for every W that the program takes
+-- contents that were read, whole settings, and words for every W that the program takes
 pub record Orderly (s : Contents) (order : List ℕ) (l : Lent) : Type 0 where
   pub passing : Passing s
   pub fitting : Fitting (s .sizes) (l .marks) (l .list) (l .out)
   pub whole-order : order-length ≤ length order
   pub much-work : work-room ≤ length (l .work)
+  pub all-words : tally-words ≤ length (l .tallies)
 
 -- buffers of exactly the lengths of the store that the bytes tell, if they tell one
 pub record Readable (store order offsets targets sizes starts : List ℕ) (l : Lent) : Type 0 where
@@ -78,6 +82,7 @@ pub record Readable (store order offsets targets sizes starts : List ℕ) (l : L
   pub fitting : Fitting sizes (l .marks) (l .list) (l .out)
   pub whole-order : order-length ≤ length order
   pub much-work : work-room ≤ length (l .work)
+  pub all-words : tally-words ≤ length (l .tallies)
 
 -- the store that the bytes tell has n objects and m references, few enough for the program
 pub record Holding (store order : List ℕ) (n m : ℕ) (out : List ℕ) : Type 0 where

@@ -17,10 +17,11 @@ pub fn put_collection(
     schedule: &[u8],
     marks: &mut [u8],
     work: &mut [u32],
+    tallies: &mut [u64],
     list: &mut [u32],
     out: &mut [u8],
 ) -> usize
-    requires { ⌜ Collectable (contents (now offsets) (now targets) (now sizes) (now starts)) settings (lent (now marks) (now work) (now list) (now out)) ⌝ }
+    requires { ⌜ Collectable (contents (now offsets) (now targets) (now sizes) (now starts)) settings (lent (now marks) (now work) (now tallies) (now list) (now out)) ⌝ }
     ensures { λ r. ⌜ Put (now (out .entry)) 0
         (collectionText (contents (now (offsets .entry)) (now (targets .entry)) (now (sizes .entry)) (now (starts .entry))) settings (now (schedule .entry)))
         (now (out .exit)) r ⌝ }
@@ -40,8 +41,8 @@ pub fn put_collection(
         let Marked::Unfinished(so_far) = marked else {
             return lines::put_refusal(out, 0, marker::refusal_of(marked));
         };
-        return lines::put_counts(out, 0, false, so_far);
+        return lines::put_result(out, 0, false, so_far, tallies);
     };
-    let end = lines::put_counts(out, 0, true, counts);
+    let end = lines::put_result(out, 0, true, counts, tallies);
     dead::put_swept(sizes, marks, list, out, end)
 }

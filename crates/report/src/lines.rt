@@ -2,6 +2,7 @@
 // how many bytes there are then.
 use machine::Counts;
 ghost use Prim.Native.Nat.{_+_, _*_, _/_, _≤_, _<_};
+ghost use mathlib.Core.List.{_++_};
 ghost use lib.ListN.{length};
 ghost use Rattle.text.specs.Text.{PutIn};
 ghost use Rattle.report.specs.Limits.{counts-room, tally-room, dead-room};
@@ -48,8 +49,8 @@ fn put_workers(out: &mut [u8], at: usize, counts: Counts) -> usize
     text::put_line(out, end, b"carrying", counts.carrying)
 }
 
-// The lines of every collection.
-pub fn put_counts(out: &mut [u8], at: usize, finished: bool, counts: Counts) -> usize
+// What is counted of every collection.
+fn put_counts(out: &mut [u8], at: usize, finished: bool, counts: Counts) -> usize
     requires { ⌜ at + counts-room ≤ length (now out) ⌝ }
     ensures { λ r. ⌜ PutIn counts-room (now (out .entry)) at (countLines finished counts) (now (out .exit)) r ⌝ }
 {
@@ -72,7 +73,7 @@ fn put_tally(out: &mut [u8], at: usize, tallies: &[u64], worker: usize) -> usize
 }
 
 // A line for each worker, by the words of all tallies.
-pub fn put_tallies(out: &mut [u8], at: usize, tallies: &[u64]) -> usize
+fn put_tallies(out: &mut [u8], at: usize, tallies: &[u64]) -> usize
     requires { ⌜ at + tally-room (length (now tallies) / 4) ≤ length (now out) ⌝ }
     ensures { λ r. ⌜ PutIn (tally-room (length (now (tallies .entry)) / 4)) (now (out .entry)) at
         (wordLines (now (tallies .entry)) (length (now (tallies .entry)) / 4)) (now (out .exit)) r ⌝ }
@@ -82,6 +83,22 @@ pub fn put_tallies(out: &mut [u8], at: usize, tallies: &[u64]) -> usize
         end = put_tally(out, end, tallies, worker);
     }
     end
+}
+
+// The lines of every collection: the counts, and each worker's tally.
+pub fn put_result(
+    out: &mut [u8],
+    at: usize,
+    finished: bool,
+    counts: Counts,
+    tallies: &[u64],
+) -> usize
+    requires { ⌜ at + (counts-room + tally-room (length (now tallies) / 4)) ≤ length (now out) ⌝ }
+    ensures { λ r. ⌜ PutIn (counts-room + tally-room (length (now (tallies .entry)) / 4)) (now (out .entry)) at
+        (countLines finished counts ++ wordLines (now (tallies .entry)) (length (now (tallies .entry)) / 4)) (now (out .exit)) r ⌝ }
+{
+    let end = put_counts(out, at, finished, counts);
+    put_tallies(out, end, tallies)
 }
 
 // One dead line.

@@ -9,7 +9,7 @@ ghost use Rattle.text.specs.Text.{Put};
 ghost use Rattle.report.specs.Report.{contents, orderText, laterText};
 ghost use Rattle.report.specs.Ready.{lent, Orderly, Readable};
 
-// Checks the settings, and collects in work words of exactly the length that they ask for.
+// Checks the settings, and collects in words of exactly the lengths that they ask for.
 fn put_ordered(
     offsets: &[u32],
     targets: &[u32],
@@ -18,10 +18,11 @@ fn put_ordered(
     order: &[u8],
     marks: &mut [u8],
     work: &mut [u32],
+    tallies: &mut [u64],
     list: &mut [u32],
     out: &mut [u8],
 ) -> usize
-    requires { ⌜ Orderly (contents (now offsets) (now targets) (now sizes) (now starts)) (now order) (lent (now marks) (now work) (now list) (now out)) ⌝ }
+    requires { ⌜ Orderly (contents (now offsets) (now targets) (now sizes) (now starts)) (now order) (lent (now marks) (now work) (now tallies) (now list) (now out)) ⌝ }
     ensures { λ r. ⌜ Put (now (out .entry)) 0
         (orderText (contents (now (offsets .entry)) (now (targets .entry)) (now (sizes .entry)) (now (starts .entry))) (now (order .entry))) (now (out .exit)) r ⌝ }
 {
@@ -30,7 +31,9 @@ fn put_ordered(
     if let Verdict::Faulty(refusal) = found {
         return lines::put_refusal(out, 0, refusal::number_of(refusal));
     }
-    let words = settings.workers as usize * (2 * sizes.len() + 4);
+    let workers = settings.workers as usize;
+    let words = workers * (2 * sizes.len() + 4);
+    let tallied = workers * 4;
     collection::put_collection(
         offsets,
         targets,
@@ -40,6 +43,7 @@ fn put_ordered(
         &order[ORDER_LENGTH..],
         marks,
         &mut work[..words],
+        &mut tallies[..tallied],
         list,
         out,
     )
@@ -56,10 +60,11 @@ pub fn put_store(
     starts: &mut [u32],
     marks: &mut [u8],
     work: &mut [u32],
+    tallies: &mut [u64],
     list: &mut [u32],
     out: &mut [u8],
 ) -> usize
-    requires { ⌜ Readable (now store) (now order) (now offsets) (now targets) (now sizes) (now starts) (lent (now marks) (now work) (now list) (now out)) ⌝ }
+    requires { ⌜ Readable (now store) (now order) (now offsets) (now targets) (now sizes) (now starts) (lent (now marks) (now work) (now tallies) (now list) (now out)) ⌝ }
     ensures { λ r. ⌜ Put (now (out .entry)) 0 (laterText (now (store .entry)) (now (order .entry))) (now (out .exit)) r ⌝ }
 {
     let found = catalogue::read(store, offsets, targets, sizes, starts);
@@ -81,6 +86,7 @@ pub fn put_store(
         order,
         marks,
         work,
+        tallies,
         list,
         out,
     )

@@ -5,7 +5,7 @@ use native.Mathlib.Omega.{arith}
 use lib.ListN.{length, take, replicate, length-replicate}
 use lib.Seq.{length-take-le}
 use Rattle.catalogue.specs.Store.{start-words}
-use Rattle.report.specs.Limits.{most-objects, most-references, work-room}
+use Rattle.report.specs.Limits.{most-objects, most-references, work-room, tally-words}
 use borrow.Author.Needs.{needs}
 use Rattle.report.proofs.buffers.put_in_buffers.Statement.{statement}
 use Rattle.report.proofs.buffers.put_in_buffers.Tie as tie
@@ -39,12 +39,12 @@ slice-aggregate-put-store-3 c = sym (each (entry (c .before .before)))
 slice-aggregate-put-store-5 : tie.Need-slice-aggregate-put-store-5
 slice-aggregate-put-store-5 c = sym (each (entry (c .before .before .before .before)))
 
-slice-aggregate-put-store-7 : tie.Need-slice-aggregate-put-store-7
-slice-aggregate-put-store-7 c = sym (each (entry (c .before .before .before .before .before .before)))
+slice-aggregate-put-store-8 : tie.Need-slice-aggregate-put-store-8
+slice-aggregate-put-store-8 c = sym (each (entry (c .before .before .before .before .before .before .before)))
 
 put-store-requires : tie.Need-put-store-requires
 put-store-requires c κs =
-    let s = entry (c .before .before .before .before .before .before .before) in
+    let s = entry (c .before .before .before .before .before .before .before .before) in
     let p = s .pre in
     let e = each s in
     record {
@@ -55,6 +55,7 @@ put-store-requires c κs =
       fitting = record { few = omega arith; all-marks = omega arith; all-list = omega arith; room = p .room };
       whole-order = p .whole-order;
       much-work = omega (arith, length-replicate {A = ℕ} work-room 0);
+      all-words = omega (arith, length-replicate {A = ℕ} tally-words 0);
     }
 
 pub put-in-buffers-spec : {M : Type 1} → statement M
@@ -62,6 +63,6 @@ put-in-buffers-spec =
     tie.close
     (tie.spec (λ c. search needs) (λ c. search needs) slice-aggregate-put-store (λ c. search needs)
     slice-aggregate-put-store-2 (λ c. search needs) slice-aggregate-put-store-3 (λ c. search needs)
-    (λ c. search needs) slice-aggregate-put-store-5 (λ c. search needs) (λ c. search needs) slice-aggregate-put-store-7
+    (λ c. search needs) slice-aggregate-put-store-5 (λ c. search needs) (λ c. search needs) (λ c. search needs) slice-aggregate-put-store-8
     put-store-requires
     (λ c. search needs) (λ c. search needs))

@@ -8,9 +8,9 @@ use Rattle.report.proofs.collection.put_collection.Statement.{statement
 use Rattle.report.proofs.collection.put_collection.Tie as tie
 
 abbrev entry : tie.After-mark → tie.Start
-entry c = c .before .before .before .before .before .before .before .before .before .before .before .before
+entry c = c .before .before .before .before .before .before .before .before .before .before .before .before .before
 
-abbrev at-mark : tie.After-slice-known6 → tie.After-mark
+abbrev at-mark : tie.After-slice-known7 → tie.After-mark
 at-mark c = c .before .before .before .before
 
 returns : tie.Need-returns
@@ -24,38 +24,53 @@ returns c =
 
 returns-2 : tie.Need-returns-2
 returns-2 c =
-    let at-counts = c .before .before in
-    let at-marked = at-counts .before .before .before in
+    let at-result = c .before .before in
+    let at-marked = at-result .before .before .before .before in
     let m = at-mark (at-marked .before .before .before) in
-    as-text (unfinished-text (entry m .pre) (m .mark .ensures) (at-marked .marked2 .given .1)) (at-counts .put-counts .ensures .put)
+    as-text (unfinished-text (entry m .pre) (m .mark .ensures) ?told (at-marked .marked2 .given .1)) (at-result .put-result .ensures .put)
+
+put-result-requires : tie.Need-put-result-requires
+put-result-requires c κs =
+    let p = entry (at-mark (c .before .before .before .before .before .before)) .pre in
+    let room = p .fitting .room in
+    let few = p .few-workers in
+    let all = p .all-tallies in
+    omega arith
+
+put-result-requires-2 : tie.Need-put-result-requires-2
+put-result-requires-2 c κs =
+    let p = entry (at-mark (c .before .before .before .before .before)) .pre in
+    let room = p .fitting .room in
+    let few = p .few-workers in
+    let all = p .all-tallies in
+    omega arith
 
 put-swept-requires : tie.Need-put-swept-requires
 put-swept-requires c κs =
-    let at-counts = c .before .before .before .before .before in
-    let p = entry (at-mark (at-counts .before .before .before .before .before)) .pre in
+    let at-result = c .before .before .before .before .before in
+    let p = entry (at-mark (at-result .before .before .before .before .before .before)) .pre in
     let room = p .fitting .room in
+    let few = p .few-workers in
+    let all = p .all-tallies in
     record {
       some = p .passing .some;
       few = p .fitting .few;
       all-marks = search needs;
       all-list = p .fitting .all-list;
       sizes-fit = p .passing .sizes-fit;
-      room = room-left (at-counts .put-counts2 .ensures) swept-room (omega arith);
+      room = room-left (at-result .put-result2 .ensures) swept-room (omega arith);
     }
 
 returns-3 : tie.Need-returns-3
 returns-3 c =
     let at-swept = c .before .before .before .before in
-    let at-counts = at-swept .before .before .before .before .before .before in
-    let at-marked = at-counts .before .before .before in
+    let at-result = at-swept .before .before .before .before .before .before in
+    let at-marked = at-result .before .before .before .before in
     let m = at-mark (at-marked .before .before) in
-    as-text (finished-text (entry m .pre) (m .mark .ensures) (at-marked .marked .given .1))
-    (then (at-counts .put-counts2 .ensures .put) (at-swept .put-swept .ensures))
+    as-text (finished-text (entry m .pre) (m .mark .ensures) ?told-2 (at-marked .marked .given .1))
+    (then (at-result .put-result2 .ensures .put) (at-swept .put-swept .ensures))
 
 pub put-collection-spec : {M : Type 1} → statement M
 put-collection-spec =
     tie.close
-    (tie.spec (λ c κs. search needs) (λ c. search needs) (λ c. search needs) (λ c κs. search needs)
-    (λ c κs. search needs) (λ c. search needs) (λ c. search needs) (λ c. search needs) returns (λ c κs. search needs)
-    (λ c. search needs) (λ c. search needs) (λ c. search needs) returns-2 (λ c κs. search needs) put-swept-requires
-    (λ c. search needs) (λ c. search needs) (λ c. search needs) (λ c. search needs) returns-3)
+    (tie.spec (λ c κs. search needs) (λ c. search needs) (λ c. search needs) (λ c κs. search needs) (λ c κs. search needs) (λ c. search needs) (λ c. search needs) (λ c. search needs) returns put-result-requires (λ c. search needs) (λ c. search needs) (λ c. search needs) (λ c. search needs) returns-2 put-result-requires-2 put-swept-requires (λ c. search needs) (λ c. search needs) (λ c. search needs) (λ c. search needs) (λ c. search needs) returns-3)

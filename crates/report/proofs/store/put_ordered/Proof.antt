@@ -1,4 +1,4 @@
--- The settings and their check decide; the work words are cut to W stretches.
+-- The settings and their check decide; the work words are cut to W stretches, the tallies to W of them.
 use mathlib.Core.Path.{_≡_, sym}
 use Prim.Native.Nat.{_+_, _*_, _≤_}
 use native.Mathlib.Omega.{arith}
@@ -8,13 +8,13 @@ use Rattle.refusal.proofs.Numbers.{when-fine, when-faulty}
 use Rattle.text.proofs.Written.{as-text}
 use Rattle.report.specs.declared.order.Order.{Order}
 use Rattle.report.specs.Report.{orderFault}
-use Rattle.report.proofs.Ordering.{behind, due-order, due-collection, words-fit, collectable}
+use Rattle.report.proofs.Ordering.{behind, due-order, due-collection, words-fit, tallies-fit, collectable}
 use borrow.Author.Needs.{needs}
 use Rattle.report.proofs.store.put_ordered.Statement.{statement}
 use Rattle.report.proofs.store.put_ordered.Tie as tie
 
 abbrev entry : tie.After-order-of → tie.Start
-entry c = c .before .before .before .before .before .before .before .before .before .before
+entry c = c .before .before .before .before .before .before .before .before .before .before .before
 
 abbrev at-order : tie.After-struct-known → tie.After-order-of
 at-order c = c .before .before .before .before
@@ -28,6 +28,9 @@ fine c = when-fine (c .before .before .before .check .ensures) (c .before .enum-
 words : (c : tie.After-struct-known)
     → settings c .workers * (2 * length (entry (at-order c) .args .sizes .now) + 4) ≤ length (entry (at-order c) .args .work .now)
 words c = words-fit (entry (at-order c) .pre) (at-order c .order-of .ensures) (fine c)
+
+tallied : (c : tie.After-struct-known) → settings c .workers * 4 ≤ length (entry (at-order c) .args .tallies .now)
+tallied c = tallies-fit (entry (at-order c) .pre) (at-order c .order-of .ensures) (fine c)
 
 returns : tie.Need-returns
 returns c =
@@ -49,15 +52,24 @@ slice-relend-prefix-put-collection c = words (c .before .before)
 slice-aggregate-put-collection : tie.Need-slice-aggregate-put-collection
 slice-aggregate-put-collection c = sym (length-take-le _ _ (words (c .before .before .before)))
 
+mul-tallied : tie.Need-mul-tallied
+mul-tallied c = omega (arith, tallied c)
+
+slice-relend-prefix-put-collection-2 : tie.Need-slice-relend-prefix-put-collection-2
+slice-relend-prefix-put-collection-2 c = tallied (c .before .before .before)
+
+slice-aggregate-put-collection-2 : tie.Need-slice-aggregate-put-collection-2
+slice-aggregate-put-collection-2 c = sym (length-take-le _ _ (tallied (c .before .before .before .before)))
+
 put-collection-requires : tie.Need-put-collection-requires
 put-collection-requires c κs =
-    let s = c .before .before .before .before .before in
-    collectable (entry (at-order s) .pre) (at-order s .order-of .ensures) (fine s) (length-take-le _ _ (words s))
+    let s = c .before .before .before .before .before .before in
+    collectable (entry (at-order s) .pre) (at-order s .order-of .ensures) (fine s) (length-take-le _ _ (words s)) (length-take-le _ _ (tallied s))
 
 returns-2 : tie.Need-returns-2
 returns-2 c =
-    let at-collection = c .before .before .before .before .before .before .before .before in
-    let s = at-collection .before .before .before .before .before .before in
+    let at-collection = c .before .before .before .before .before .before .before .before .before .before in
+    let s = at-collection .before .before .before .before .before .before .before in
     as-text (due-collection (entry (at-order s) .pre) (at-order s .order-of .ensures) (fine s) (behind (entry (at-order s) .args .order .now)))
     (at-collection .put-collection .ensures)
 
@@ -66,6 +78,6 @@ put-ordered-spec =
     tie.close
     (tie.spec (λ c κs. search needs) (λ c κs. search needs) (λ c. search needs) (λ c κs. search needs)
     (λ c κs. search needs) (λ c. search needs) returns (λ c. search needs) (λ c. search needs) (λ c. search needs)
-    (λ c. search needs) mul-words-2 (λ c. search needs) (λ c. search needs) (λ c. search needs)
-    slice-relend-prefix-put-collection slice-aggregate-put-collection put-collection-requires (λ c. search needs)
-    (λ c. search needs) (λ c. search needs) (λ c. search needs) returns-2)
+    (λ c. search needs) mul-words-2 mul-tallied (λ c. search needs) (λ c. search needs) (λ c. search needs)
+    slice-relend-prefix-put-collection slice-aggregate-put-collection slice-relend-prefix-put-collection-2 slice-aggregate-put-collection-2 put-collection-requires (λ c. search needs)
+    (λ c. search needs) (λ c. search needs) (λ c. search needs) (λ c. search needs) returns-2)

@@ -10,13 +10,13 @@ use Rattle.report.proofs.store.put_store.Tie as tie
 abbrev at-start : tie.After-slice-known4 → tie.Start
 at-start c = c .before .before .before .before .before .before
 
-abbrev lent : tie.After-read → tie.After-slice-known8
+abbrev lent : tie.After-read → tie.After-slice-known9
 lent c = c .before .before .before .before .before
 
 abbrev entry : tie.After-read → tie.Start
-entry c = at-start (lent c .before .before .before .before)
+entry c = at-start (lent c .before .before .before .before .before)
 
-abbrev at-read : tie.After-slice-known12 → tie.After-read
+abbrev at-read : tie.After-slice-known13 → tie.After-read
 at-read c = c .before .before .before .before .before .before .before .before
 
 returns : tie.Need-returns
@@ -39,14 +39,14 @@ slice-aggregate-put-ordered c = sym (length-take-le _ _ (slice-reshare-prefix-pu
 
 put-ordered-requires : tie.Need-put-ordered-requires
 put-ordered-requires c κs =
-    let at-found = c .before .before .before .before .before .before .before .before .before in
+    let at-found = c .before .before .before .before .before .before .before .before .before .before in
     let r = at-read (at-found .before .before) in
     orderly (entry r .pre) (r .read .ensures .0) (at-found .found .given .1)
 
 returns-2 : tie.Need-returns-2
 returns-2 c =
-    let at-ordered = c .before .before .before .before .before .before .before .before in
-    let at-found = at-ordered .before .before .before .before .before .before .before .before .before .before in
+    let at-ordered = c .before .before .before .before .before .before .before .before .before .before in
+    let at-found = at-ordered .before .before .before .before .before .before .before .before .before .before .before in
     let r = at-read (at-found .before .before) in
     as-text (due-read (entry r .pre) (r .read .ensures .0) (at-found .found .given .1)) (at-ordered .put-ordered .ensures)
 
@@ -56,4 +56,4 @@ put-store-spec =
     (tie.spec (λ c κs. search needs) (λ c. search needs) (λ c. search needs) (λ c κs. search needs)
     (λ c κs. search needs) (λ c. search needs) (λ c. search needs) (λ c. search needs) (λ c. search needs)
     (λ c. search needs) returns (λ c. search needs) slice-reshare-prefix-put-ordered slice-aggregate-put-ordered put-ordered-requires (λ c. search needs) (λ c. search needs)
-    (λ c. search needs) (λ c. search needs) (λ c. search needs) (λ c. search needs) (λ c. search needs) (λ c. search needs) returns-2)
+    (λ c. search needs) (λ c. search needs) (λ c. search needs) (λ c. search needs) (λ c. search needs) (λ c. search needs) (λ c. search needs) returns-2)

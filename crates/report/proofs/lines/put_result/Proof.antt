@@ -1,0 +1,19 @@
+-- The tallies stand behind the counts (`then-in`).
+use native.Mathlib.Nat.{le-refl}
+use Prim.Native.Nat.{_/_}
+use lib.ListN.{length}
+use native.Mathlib.Omega.{arith}
+use Rattle.text.proofs.Written.{then-in, room-left}
+use Rattle.report.specs.Limits.{tally-room}
+use borrow.Author.Needs.{needs}
+use Rattle.report.proofs.lines.put_result.Statement.{statement}
+use Rattle.report.proofs.lines.put_result.Tie as tie
+
+returns : tie.Need-returns
+returns c =
+    let tallies = c .before .before in
+    let counts = tallies .before .before .before .before in
+    then-in (counts .put-counts .ensures) _ (le-refl _) (tallies .put-tallies .ensures)
+
+pub put-result-spec : {M : Type 1} → statement M
+put-result-spec = tie.close (tie.spec (λ c κs. search needs) (λ c κs. search needs) (λ c. search needs) returns)
