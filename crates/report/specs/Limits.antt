@@ -28,8 +28,8 @@ abbrev pub work-room : ℕ
 work-room = 8016
 
 -- the words of so many workers' tallies
-abbrev pub tally-words : ℕ
-tally-words = 16
+abbrev pub tallies-room : ℕ
+tallies-room = 16
 
 -- ---- bytes of the answer; a number has at most 20 digits
 

@@ -11,7 +11,7 @@ use Rattle.machine.specs.Machine.{stretchLength}
 use Rattle.machine.specs.Call.{settingFault, countFault, graphFault, startsFault, objectFault}
 use Rattle.sweep.specs.Sweep.{allFit}
 use Rattle.report.specs.declared.order.Order.{Order}
-use Rattle.report.specs.Limits.{order-length, most-objects, most-references, most-workers, work-room, tally-words, swept-room, text-room}
+use Rattle.report.specs.Limits.{order-length, most-objects, most-references, most-workers, work-room, tallies-room, swept-room, text-room}
 use Rattle.report.specs.Report.{Contents}
 
 -- every number of a list lies below n
@@ -71,7 +71,7 @@ pub record Orderly (s : Contents) (order : List ℕ) (l : Lent) : Type 0 where
   pub fitting : Fitting (s .sizes) (l .marks) (l .list) (l .out)
   pub whole-order : order-length ≤ length order
   pub much-work : work-room ≤ length (l .work)
-  pub all-words : tally-words ≤ length (l .tallies)
+  pub all-words : tallies-room ≤ length (l .tallies)
 
 -- buffers of exactly the lengths of the store that the bytes tell, if they tell one
 pub record Readable (store order offsets targets sizes starts : List ℕ) (l : Lent) : Type 0 where
@@ -82,7 +82,7 @@ pub record Readable (store order offsets targets sizes starts : List ℕ) (l : L
   pub fitting : Fitting sizes (l .marks) (l .list) (l .out)
   pub whole-order : order-length ≤ length order
   pub much-work : work-room ≤ length (l .work)
-  pub all-words : tally-words ≤ length (l .tallies)
+  pub all-words : tallies-room ≤ length (l .tallies)
 
 -- the store that the bytes tell has n objects and m references, few enough for the program
 pub record Holding (store order : List ℕ) (n m : ℕ) (out : List ℕ) : Type 0 where

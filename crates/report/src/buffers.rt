@@ -17,7 +17,7 @@ pub fn put_in_buffers(store: &[u8], order: &[u8], n: usize, m: usize, out: &mut 
     let mut starts = [0u32; STARTS];
     let mut marks = [0u8; limits::MOST_OBJECTS];
     let mut work = [0u32; limits::WORK_ROOM];
-    let mut tallies = [0u64; limits::TALLY_WORDS];
+    let mut tallies = [0u64; limits::TALLIES_ROOM];
     let mut list = [0u32; limits::MOST_OBJECTS];
     let end = n + 1;
     store::put_store(

@@ -17,4 +17,4 @@ pub const TEXT_ROOM: usize = 49152;
 
 pub const WORK_ROOM: usize = 8016;
 
-pub const TALLY_WORDS: usize = 16;
+pub const TALLIES_ROOM: usize = 16;

@@ -14,6 +14,7 @@ pub struct Buffers {
     starts: Vec<u32>,
     marks: Vec<u8>,
     work: Vec<u32>,
+    tallies: Vec<u64>,
     list: Vec<u32>,
     stack: Vec<(u32, u32)>,
 }
@@ -31,6 +32,7 @@ impl Buffers {
             starts: vec![1; kullneyra::STARTS],
             marks: vec![1; n],
             work: vec![1; work],
+            tallies: vec![1; kullneyra::tally_words(workers)],
             list: vec![1; n],
             stack,
         }
@@ -116,17 +118,18 @@ fn call<'a>(graph: &'a Graph, settings: Settings, schedule: &'a [u8]) -> Call<'a
 }
 
 fn run_reference(graph: &Graph, settings: Settings, schedule: &[u8], b: &mut Buffers) -> Outcome {
-    reference::mark(call(graph, settings, schedule), &mut b.marks, &mut b.work).expect("a call")
+    reference::mark(call(graph, settings, schedule), &mut b.marks, &mut b.work, &mut b.tallies).expect("a call")
 }
 
 fn run_tuned(graph: &Graph, settings: Settings, schedule: &[u8], b: &mut Buffers) -> Outcome {
-    tuned::mark(call(graph, settings, schedule), &mut b.marks, &mut b.work).expect("a call")
+    tuned::mark(call(graph, settings, schedule), &mut b.marks, &mut b.work, &mut b.tallies).expect("a call")
 }
 
 fn run_proved(graph: &Graph, settings: Settings, schedule: &[u8], b: &mut Buffers) -> kullneyra::Marked {
     let Graph { offsets, targets, .. } = graph;
+    let Buffers { marks, work, tallies, .. } = b;
     let schedule = Schedule::from_bytes(schedule);
-    kullneyra::mark(offsets, targets, &[0], settings, schedule, &mut b.marks, &mut b.work).expect("a call")
+    kullneyra::mark(offsets, targets, &[0], settings, schedule, marks, work, tallies).expect("a call")
 }
 
 /// The shortest round-robin schedule that finishes, up to one in 256 longer.
@@ -150,13 +153,15 @@ fn schedule(graph: &Graph, settings: Settings, buffers: &mut Buffers) -> Vec<u8>
     turns
 }
 
-/// All sides finish, with the same counts.
+/// All sides finish, with the same counts and tallies.
 fn agree(graph: &Graph, settings: Settings, turns: &[u8], buffers: &mut Buffers) -> Outcome {
     let wanted = run_reference(graph, settings, turns, buffers);
-    let got = run_proved(graph, settings, turns, buffers);
     assert!(wanted.finished);
-    assert_eq!(got.words(), wanted.words());
-    assert_eq!(run_tuned(graph, settings, turns, buffers), wanted);
+    let tallies = buffers.tallies.clone();
+    let got = run_proved(graph, settings, turns, buffers);
+    assert_eq!((got.words(), &buffers.tallies), (wanted.words(), &tallies));
+    let got = run_tuned(graph, settings, turns, buffers);
+    assert_eq!((got, &buffers.tallies), (wanted, &tallies));
     wanted
 }
 

@@ -23,6 +23,7 @@ pub struct Mark {
     pub schedule: Vec<u8>,
     pub marks: usize,
     pub work: usize,
+    pub tallies: usize,
 }
 
 impl Mark {
@@ -134,7 +135,7 @@ impl fmt::Display for Mark {
         list(f, "starts", &self.starts)?;
         writeln!(f, "  W {}, D {}, K {}", self.workers, self.batch, self.cutoff)?;
         schedule(f, &self.schedule)?;
-        writeln!(f, "  lengths: marks {}, work {}", self.marks, self.work)
+        writeln!(f, "  lengths: marks {}, work {}, tallies {}", self.marks, self.work, self.tallies)
     }
 }
 

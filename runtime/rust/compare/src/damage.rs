@@ -156,7 +156,7 @@ fn starts(rng: &mut Rng, starts: &mut Vec<u32>, n: u32) {
 /// Damages one thing of a marker's call.
 pub fn mark(rng: &mut Rng, call: &mut Mark) {
     let any = rng.word() as u32;
-    match rng.below(9) {
+    match rng.below(10) {
         0 => call.workers = rng.pick(&[0, 1, 16, 17, 256, 257, u32::MAX, any]),
         1 => call.batch = number(rng, call.batch, 65_535),
         2 => call.cutoff = number(rng, call.cutoff, 65_535),
@@ -164,6 +164,7 @@ pub fn mark(rng: &mut Rng, call: &mut Mark) {
         5 => starts(rng, &mut call.starts, call.marks as u32),
         6 => schedule(rng, &mut call.schedule, call.workers),
         7 => call.marks = length(rng, call.marks),
-        _ => call.work = length(rng, call.work),
+        8 => call.work = length(rng, call.work),
+        _ => call.tallies = length(rng, call.tallies),
     }
 }

@@ -5,7 +5,7 @@ use crate::damage;
 use crate::judge::reached;
 use crate::rng::Rng;
 use crate::store::{self, Store};
-use reference::{LARGEST_SIZE, MOST_LEASES, STARTS};
+use reference::{Tally, LARGEST_SIZE, MOST_LEASES, STARTS};
 
 /// A small case.
 pub fn small(rng: &mut Rng) -> Case {
@@ -114,6 +114,7 @@ fn mark(rng: &mut Rng) -> Mark {
         cutoff: setting(rng),
         marks: store.n,
         work: workers * (2 * store.n + 4),
+        tallies: workers * Tally::WORDS,
         offsets,
         targets,
     };

@@ -3,6 +3,7 @@
 use crate::case::{Call, Case, Mark};
 use crate::sides::{after, place, After, Proved, Reference, Side, Tuned, Typed, Untouched};
 use kullneyra::Marked;
+use reference::Tally;
 use std::collections::BTreeSet;
 
 /// What the proved library answered and left, or what is wrong with it.
@@ -117,9 +118,24 @@ fn owners_had_turns(call: &Mark, marks: &[u64]) -> bool {
     claimed.into_iter().all(has_entry)
 }
 
+/// Each worker won as many claims as objects have its mark, those without a claim left out: the starts.
+fn won_their_marks(call: &Mark, marks: &[u64], all: &[Tally]) -> bool {
+    let mut claimed = marks.to_vec();
+    call.starts.iter().for_each(|&start| claimed[start as usize] = 0);
+    (1..).zip(all).all(|(mark, one)| one.won == claimed.iter().filter(|&&found| found == mark).count() as u64)
+}
+
+/// What the tallies of an accepted run add up to.
+fn tallies_add_up(call: &Mark, marked: Marked, all: &[Tally]) -> bool {
+    let sum = |count: fn(&Tally) -> u64| all.iter().map(count).sum::<u64>();
+    let starts: BTreeSet<u32> = call.starts.iter().copied().collect();
+    let sums = [sum(|one| one.followed), sum(|one| one.handed), sum(|one| one.won) + starts.len() as u64];
+    sums == [marked.followed, marked.handed, marked.live]
+}
+
 /// What demands 2 and 3 say of every accepted run.
 fn run_demands(call: &Mark, got: &After) -> Result<(), String> {
-    let (marks, work, result) = (got.lent(0), got.lent(1), got.lent(2));
+    let (marks, work, tallies, result) = (got.lent(0), got.lent(1), reference::tallies(&got.lent(2)), got.lent(3));
     let (found, leaving) = reached(&call.offsets, &call.targets, &call.starts);
     let Marked { finished, live, followed, handed, moved, carrying, .. } = got.marked();
     let most = leaving as u64;
@@ -141,6 +157,10 @@ fn run_demands(call: &Mark, got: &After) -> Result<(), String> {
         ("moved is at most 7R + W", moved <= bound),
         ("carrying is the number of workers with runs", carrying == loaded),
         ("finished is 0 or 1", result[0] < 2),
+        ("there is a tally for each worker", tallies.len() == call.workers as usize),
+        ("the tallies add up to followed, handed and live", tallies_add_up(call, got.marked(), &tallies)),
+        ("won and lost are at most followed", tallies.iter().all(|one| one.won + one.lost <= one.followed)),
+        ("each worker won the objects with its mark", won_their_marks(call, &marks, &tallies)),
     ];
     if finished {
         checks.push(("finished: all that is reachable is marked", live == found.iter().map(|&f| u64::from(f)).sum()));

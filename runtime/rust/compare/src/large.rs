@@ -4,7 +4,7 @@ use crate::case::{Call, Case, Mark};
 use crate::draw;
 use crate::rng::Rng;
 use crate::store;
-use reference::{LARGEST_SIZE, MOST_LEASES, MOST_OBJECTS, MOST_REFERENCES, STARTS};
+use reference::{Tally, LARGEST_SIZE, MOST_LEASES, MOST_OBJECTS, MOST_REFERENCES, STARTS};
 
 /// How many there are: the first numbers of every run.
 pub const LARGE: u64 = 24;
@@ -90,6 +90,6 @@ fn large_mark(rng: &mut Rng, number: u64) -> Mark {
         _ => {}
     }
     let starts = if number < 4 { draw::starts(rng, store.index, n) } else { vec![store.index] };
-    let (workers, marks) = (workers as u32, n);
-    Mark { offsets, targets, starts, workers, batch, cutoff, schedule, marks, work }
+    let (workers, marks, tallies) = (workers as u32, n, workers * Tally::WORDS);
+    Mark { offsets, targets, starts, workers, batch, cutoff, schedule, marks, work, tallies }
 }

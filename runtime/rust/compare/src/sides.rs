@@ -17,7 +17,7 @@ pub trait Side {
         result: &mut [u32],
     ) -> u32;
     fn references(&self, offsets: &[u32], targets: &[u32], object: u32, result: &mut [u64]) -> u32;
-    fn mark(&self, call: &Mark, marks: &mut [u8], work: &mut [u32], result: &mut [u64]) -> u32;
+    fn mark(&self, call: &Mark, marks: &mut [u8], work: &mut [u32], tallies: &mut [u64], result: &mut [u64]) -> u32;
     fn sweep(&self, marks: &[u8], sizes: &[u64], list: &mut [u32], result: &mut [u64]) -> u32;
 }
 
@@ -45,9 +45,9 @@ impl Side for Proved {
         raw::references(offsets, targets, object, result)
     }
 
-    fn mark(&self, c: &Mark, marks: &mut [u8], work: &mut [u32], result: &mut [u64]) -> u32 {
+    fn mark(&self, c: &Mark, marks: &mut [u8], work: &mut [u32], tallies: &mut [u64], result: &mut [u64]) -> u32 {
         let Mark { offsets, targets, starts, schedule, .. } = c;
-        raw::mark(offsets, targets, starts, c.workers, c.batch, c.cutoff, schedule, marks, work, result)
+        raw::mark(offsets, targets, starts, c.workers, c.batch, c.cutoff, schedule, marks, work, tallies, result)
     }
 
     fn sweep(&self, marks: &[u8], sizes: &[u64], list: &mut [u32], result: &mut [u64]) -> u32 {
@@ -94,10 +94,14 @@ impl Side for Typed {
         0
     }
 
-    fn mark(&self, c: &Mark, marks: &mut [u8], work: &mut [u32], result: &mut [u64]) -> u32 {
+    fn mark(&self, c: &Mark, marks: &mut [u8], work: &mut [u32], tallies: &mut [u64], result: &mut [u64]) -> u32 {
         let settings = Settings { workers: c.workers, batch: c.batch, cutoff: c.cutoff };
         let schedule = Schedule::from_bytes(&c.schedule);
-        let answer = kullneyra::mark(&c.offsets, &c.targets, &c.starts, settings, schedule, marks, work);
+        let answer = kullneyra::mark(&c.offsets, &c.targets, &c.starts, settings, schedule, marks, work, tallies);
+        if answer.is_ok() {
+            let words: Vec<u64> = kullneyra::tallies(tallies).flat_map(kullneyra::Tally::words).collect();
+            tallies.copy_from_slice(&words);
+        }
         written(answer.map(Marked::words), result, Refusal::number)
     }
 
@@ -141,8 +145,8 @@ impl Side for Reference {
         0
     }
 
-    fn mark(&self, c: &Mark, marks: &mut [u8], work: &mut [u32], result: &mut [u64]) -> u32 {
-        marked_by(reference::mark, c, marks, work, result)
+    fn mark(&self, c: &Mark, marks: &mut [u8], work: &mut [u32], tallies: &mut [u64], result: &mut [u64]) -> u32 {
+        marked_by(reference::mark, c, marks, work, tallies, result)
     }
 
     fn sweep(&self, marks: &[u8], sizes: &[u64], list: &mut [u32], result: &mut [u64]) -> u32 {
@@ -178,8 +182,8 @@ impl Side for Tuned {
         Reference.references(offsets, targets, object, result)
     }
 
-    fn mark(&self, c: &Mark, marks: &mut [u8], work: &mut [u32], result: &mut [u64]) -> u32 {
-        marked_by(tuned::mark, c, marks, work, result)
+    fn mark(&self, c: &Mark, marks: &mut [u8], work: &mut [u32], tallies: &mut [u64], result: &mut [u64]) -> u32 {
+        marked_by(tuned::mark, c, marks, work, tallies, result)
     }
 
     fn sweep(&self, marks: &[u8], sizes: &[u64], list: &mut [u32], result: &mut [u64]) -> u32 {
@@ -189,7 +193,7 @@ impl Side for Tuned {
 
 /// The reader and the marker in plain Rust.
 type Reader = fn(&[u8], &mut [u32], &mut [u32], &mut [u64], &mut [u32]) -> Result<reference::Contents, u8>;
-type Marker = fn(reference::Call<'_>, &mut [u8], &mut [u32]) -> Result<Outcome, u8>;
+type Marker = fn(reference::Call<'_>, &mut [u8], &mut [u32], &mut [u64]) -> Result<Outcome, u8>;
 
 fn read_by(
     reader: Reader,
@@ -207,11 +211,18 @@ fn read_by(
     written(answer.map(|c| [c.head.n, c.head.m, c.head.index, c.starts]), result, u32::from)
 }
 
-fn marked_by(marker: Marker, c: &Mark, marks: &mut [u8], work: &mut [u32], result: &mut [u64]) -> u32 {
+fn marked_by(
+    marker: Marker,
+    c: &Mark,
+    marks: &mut [u8],
+    work: &mut [u32],
+    tallies: &mut [u64],
+    result: &mut [u64],
+) -> u32 {
     if result.len() != Outcome::WORDS {
         return WRONG_LENGTH;
     }
-    written(marker(c.call(), marks, work).map(Outcome::words), result, u32::from)
+    written(marker(c.call(), marks, work, tallies).map(Outcome::words), result, u32::from)
 }
 
 /// Answers at once and writes nothing: the buffers as they were beforehand.
@@ -230,7 +241,7 @@ impl Side for Untouched {
         0
     }
 
-    fn mark(&self, _: &Mark, _: &mut [u8], _: &mut [u32], _: &mut [u64]) -> u32 {
+    fn mark(&self, _: &Mark, _: &mut [u8], _: &mut [u32], _: &mut [u64], _: &mut [u64]) -> u32 {
         0
     }
 
@@ -386,9 +397,13 @@ fn after_read(case: &Case, side: &dyn Side, bytes: &[u8], lengths: [usize; 4]) -
 
 fn after_marking(case: &Case, side: &dyn Side, mark: &Mark) -> After {
     let (mut marks, mut work) = (bytes(mark.marks, case.fill(1)), words(mark.work, case.fill(2)));
-    let mut result = longs(case.result, case.fill(0));
-    let number = side.mark(mark, marks.part(), work.part(), result.part());
-    let buffers =
-        vec![("marks", Whole::Bytes(marks.0)), ("work", Whole::Words(work.0)), ("result", Whole::Longs(result.0))];
+    let (mut tallies, mut result) = (longs(mark.tallies, case.fill(3)), longs(case.result, case.fill(0)));
+    let number = side.mark(mark, marks.part(), work.part(), tallies.part(), result.part());
+    let buffers = vec![
+        ("marks", Whole::Bytes(marks.0)),
+        ("work", Whole::Words(work.0)),
+        ("tallies", Whole::Longs(tallies.0)),
+        ("result", Whole::Longs(result.0)),
+    ];
     After { number, buffers }
 }

@@ -18,6 +18,10 @@ enum Fault {
     MarksClearedBesideRefusal,
     /// The owner of an object is forgotten: its mark is 1.
     OwnersForgotten,
+    /// Tallies are cleared before the schedule is checked.
+    TalliesClearedBesideRefusal,
+    /// What the workers did is not written.
+    TalliesForgotten,
     /// One word too far is written.
     PastTheEnd,
     /// A result buffer that is too long is taken.
@@ -60,8 +64,15 @@ impl Side for Fault {
         Reference.references(offsets, targets, object, result)
     }
 
-    fn mark(&self, call: &Mark, marks: &mut [u8], work: &mut [u32], result: &mut [u64]) -> u32 {
-        let number = Reference.mark(call, marks, work, result);
+    fn mark(&self, call: &Mark, marks: &mut [u8], work: &mut [u32], tallies: &mut [u64], result: &mut [u64]) -> u32 {
+        let before = tallies.to_vec();
+        let number = Reference.mark(call, marks, work, tallies, result);
+        if *self == Fault::TalliesClearedBesideRefusal && number == 9 {
+            tallies.fill(0);
+        }
+        if *self == Fault::TalliesForgotten {
+            tallies.copy_from_slice(&before);
+        }
         if *self == Fault::MarksClearedBesideRefusal && number == 9 {
             marks.fill(0);
         }
@@ -101,6 +112,8 @@ fn faults_are_found() {
     assert!(found(Fault::StartsNotPadded).is_some());
     assert!(found(Fault::MarksClearedBesideRefusal).is_some());
     assert!(found(Fault::OwnersForgotten).is_some());
+    assert!(found(Fault::TalliesClearedBesideRefusal).is_some());
+    assert!(found(Fault::TalliesForgotten).is_some());
     assert!(found(Fault::PastTheEnd).is_some());
     assert!(found(Fault::LongResultTaken).is_some());
     assert!(found(Fault::ChecksExchanged).is_some());
@@ -113,7 +126,7 @@ fn a_case_depends_on_its_seed_and_number_alone() {
     assert_ne!(case_of(7, 1_234), case_of(7, 1_235));
 }
 
-/// Demands that are broken on purpose: one mark, count or work word of a good answer changed.
+/// Demands that are broken on purpose: one mark, work word or tally of a good answer changed.
 #[test]
 fn broken_demands_are_found() {
     let accepted = |number: &u64| {
@@ -124,8 +137,8 @@ fn broken_demands_are_found() {
         let case = case_of(SEED, number);
         let good = after(&case, &Reference);
         assert_eq!(demands(&case, &good), Ok(()));
-        // A mark above every W, and a work word one further.
-        for (buffer, more) in [(0, 17), (1, 1)] {
+        // A mark above every W, a work word one further, and a reference followed too many.
+        for (buffer, more) in [(0, 17), (1, 1), (2, 1)] {
             let mut bad = good.clone();
             bad.buffers[buffer].1.add_to_first(more);
             assert!(demands(&case, &bad).is_err(), "case {number}, buffer {buffer}");

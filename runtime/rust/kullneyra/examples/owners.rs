@@ -2,7 +2,7 @@
 //! marks to the file `marks` there, a byte for each object. `tools/case.py show FOLDER --marks FOLDER/marks` takes
 //! them.
 
-use kullneyra::{header, mark, owners, read, work_words, Schedule, Settings, STARTS};
+use kullneyra::{header, mark, owners, read, tally_words, work_words, Schedule, Settings, STARTS};
 use std::error::Error;
 use std::path::PathBuf;
 use std::{env, fs};
@@ -25,8 +25,9 @@ fn main() -> Result<(), Box<dyn Error>> {
     let store = read(&catalogue, &mut offsets, &mut targets, &mut sizes, &mut starts)?;
     let starts = &starts[..store.starts as usize];
     let (mut marks, mut work) = (vec![0; n], vec![0; work_words(n, usize::from(workers))]);
+    let mut tallies = vec![0; tally_words(usize::from(workers))];
     let schedule = Schedule::from_bytes(schedule);
-    mark(&offsets, &targets, starts, settings, schedule, &mut marks, &mut work)?;
+    mark(&offsets, &targets, starts, settings, schedule, &mut marks, &mut work, &mut tallies)?;
 
     for (object, owner) in owners(starts, &marks).enumerate() {
         println!("{object} {owner}");

@@ -20,7 +20,8 @@
 //! # One collection
 //!
 //! ```
-//! use kullneyra::{header, mark, read, references, sweep, work_words, Schedule, Settings, Turn, STARTS};
+//! use kullneyra::{header, mark, read, references, sweep, tallies, tally_words, work_words};
+//! use kullneyra::{Schedule, Settings, Turn, STARTS};
 //!
 //! // Two objects, 0 and 1, and the reference 0→0: object 1 hangs on nothing.
 //! let catalogue = [
@@ -40,9 +41,13 @@
 //!
 //! let settings = Settings { workers: 1, batch: 64, cutoff: 64 };
 //! let turns = [Turn { worker: 0, asked: 0 }; 3];
-//! let (mut marks, mut work) = ([0; 2], [0; work_words(2, 1)]);
-//! let marked = mark(&offsets, &targets, starts, settings, Schedule::new(&turns), &mut marks, &mut work)?;
+//! let (mut marks, mut work, mut words) = ([0; 2], [0; work_words(2, 1)], [0; tally_words(1)]);
+//! let schedule = Schedule::new(&turns);
+//! let marked = mark(&offsets, &targets, starts, settings, schedule, &mut marks, &mut work, &mut words)?;
 //! assert!(marked.finished);
+//! for (worker, tally) in tallies(&words).enumerate() {
+//!     assert_eq!((worker, tally.followed, tally.won), (0, 1, 0));
+//! }
 //!
 //! let mut list = [0; 2];
 //! let dead = sweep(&marks, &sizes, &mut list)?;
@@ -259,6 +264,51 @@ impl Marked {
     }
 }
 
+/// What one worker did, over its own turns. The fields stand in the order of its words.
+///
+/// Over all workers, followed and handed add up to those of [`Marked`], and the won claims and the different starts make
+/// its live. A reference whose target was marked when the worker looked is followed without a claim.
+#[derive(Clone, Copy, Debug, Default, PartialEq, Eq)]
+#[non_exhaustive]
+pub struct Tally {
+    /// References followed.
+    pub followed: u64,
+    /// Claims won: objects that it was the first to reach.
+    pub won: u64,
+    /// Claims lost to another worker.
+    pub lost: u64,
+    /// Hand-overs that it gave.
+    pub handed: u64,
+}
+
+impl Tally {
+    /// How many words of the lent tallies it has.
+    pub const WORDS: usize = 4;
+
+    /// These words by name.
+    pub fn from_words([followed, won, lost, handed]: [u64; Self::WORDS]) -> Self {
+        Tally { followed, won, lost, handed }
+    }
+
+    /// Its words.
+    pub fn words(self) -> [u64; Self::WORDS] {
+        let Tally { followed, won, lost, handed } = self;
+        [followed, won, lost, handed]
+    }
+}
+
+/// The tallies by worker, worker 0's first, of the words that [`mark`] left.
+///
+/// ```
+/// use kullneyra::tallies;
+///
+/// let lost: Vec<u64> = tallies(&[3, 2, 1, 1, 2, 1, 0, 0]).map(|tally| tally.lost).collect();
+/// assert_eq!(lost, [1, 0]);
+/// ```
+pub fn tallies(words: &[u64]) -> impl Iterator<Item = Tally> + '_ {
+    words.chunks_exact(Tally::WORDS).map(|four| Tally::from_words([four[0], four[1], four[2], four[3]]))
+}
+
 /// What a sweep found.
 #[derive(Clone, Copy, Debug, Default, PartialEq, Eq)]
 #[non_exhaustive]
@@ -315,6 +365,11 @@ pub const fn work_words(objects: usize, workers: usize) -> usize {
     workers * (2 * objects + 4)
 }
 
+/// How many words the tallies of so many workers are.
+pub const fn tally_words(workers: usize) -> usize {
+    workers * Tally::WORDS
+}
+
 /// Reads only the catalogue's header record.
 pub fn header(catalogue: &[u8]) -> Result<Header, Refusal> {
     let mut result = [0; 3];
@@ -348,11 +403,13 @@ pub fn references<'a>(offsets: &[u32], targets: &'a [u32], object: u32) -> &'a [
 }
 
 /// Marks what the starts reach, by the turns of the schedule. The starts are the index and then the
-/// leases, 1 to [`STARTS`] in all; a repeated one adds nothing. Marks are n bytes, and work is
-/// [`work_words`] words; both may hold anything before.
+/// leases, 1 to [`STARTS`] in all; a repeated one adds nothing. Marks are n bytes, work is
+/// [`work_words`] words and tallies are [`tally_words`] words; all may hold anything before.
 ///
 /// A mark is 0 where the object was not reached, 1 at a start, and b + 1 where worker b claimed the
-/// object; [`owners`] gives them by name.
+/// object; [`owners`] gives them by name. The words of the tallies tell what each worker did; [`tallies`]
+/// gives them by name.
+#[allow(clippy::too_many_arguments)]
 pub fn mark(
     offsets: &[u32],
     targets: &[u32],
@@ -361,10 +418,13 @@ pub fn mark(
     schedule: Schedule<'_>,
     marks: &mut [u8],
     work: &mut [u32],
+    tallies: &mut [u64],
 ) -> Result<Marked, Refusal> {
     let Settings { workers, batch, cutoff } = settings;
     let mut result = [0; Marked::WORDS];
-    answer(raw::mark(offsets, targets, starts, workers, batch, cutoff, schedule.0, marks, work, &mut result))?;
+    let number =
+        raw::mark(offsets, targets, starts, workers, batch, cutoff, schedule.0, marks, work, tallies, &mut result);
+    answer(number)?;
     Ok(Marked::from_words(result))
 }
 
@@ -412,8 +472,10 @@ mod tests {
         let store = read(&[], &mut [], &mut [], &mut [], &mut []).unwrap_or_default();
         assert_eq!(store, Store { objects: 0, references: 0, index: 0, starts: 0 });
         let settings = Settings { workers: 0, batch: 1, cutoff: 1 };
-        let marked = mark(&[0, 0], &[], &[0], settings, Schedule::new(&[]), &mut [0], &mut []).unwrap_or_default();
+        let none = Schedule::new(&[]);
+        let marked = mark(&[0, 0], &[], &[0], settings, none, &mut [0], &mut [], &mut []).unwrap_or_default();
         assert_eq!(marked.words(), [0; Marked::WORDS]);
+        assert_eq!(Tally::default().words(), [0; Tally::WORDS]);
         assert_eq!(sweep(&[], &[], &mut []).unwrap_or_default(), Swept { count: 0, freed: 0 });
     }
 
@@ -421,6 +483,9 @@ mod tests {
     fn words_and_back() {
         let words = core::array::from_fn(|i| i as u64 + 1);
         assert_eq!(Marked::from_words(words).words(), words);
+        let words = [1, 2, 3, 4];
+        assert_eq!(Tally::from_words(words).words(), words);
+        assert_eq!(tallies(&[0, 0, 0, 0, 1, 2, 3, 4]).nth(1), Some(Tally::from_words(words)));
     }
 
     #[test]
@@ -429,11 +494,13 @@ mod tests {
         assert_eq!(sweep(&marks, &[LARGEST_SIZE], &mut list).map(|swept| swept.freed), Ok(LARGEST_SIZE));
         assert_eq!(sweep(&marks, &[LARGEST_SIZE + 1], &mut list), Err(Refusal::Size));
         let mut work = [0; work_words(1, MOST_WORKERS as usize)];
+        let mut tallies = [0; tally_words(MOST_WORKERS as usize)];
         let mut alone = |starts: usize, workers: u32, setting| {
             let settings = Settings { workers, batch: setting, cutoff: setting };
-            let words = work_words(1, workers.min(MOST_WORKERS) as usize);
+            let workers = workers.min(MOST_WORKERS) as usize;
+            let (work, tallies) = (&mut work[..work_words(1, workers)], &mut tallies[..tally_words(workers)]);
             let starts = &[0; STARTS + 1][..starts];
-            mark(&[0, 0], &[], starts, settings, Schedule::new(&[]), &mut marks, &mut work[..words])
+            mark(&[0, 0], &[], starts, settings, Schedule::new(&[]), &mut marks, work, tallies)
         };
         assert_eq!(alone(1, MOST_WORKERS, MOST_SETTING).map(|marked| marked.live), Ok(1));
         assert_eq!(alone(1, MOST_WORKERS + 1, 1), Err(Refusal::Setting));

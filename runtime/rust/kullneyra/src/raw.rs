@@ -45,6 +45,8 @@ mod c {
             marks_len: usize,
             work: *mut u32,
             work_len: usize,
+            tallies: *mut u64,
+            tallies_len: usize,
             result: *mut u64,
             result_len: usize,
         ) -> u32;
@@ -113,7 +115,8 @@ pub fn references(offsets: &[u32], targets: &[u32], object: u32, result: &mut [u
 }
 
 /// Marks by the turns of the schedule. Result words: the fields of [`Marked`](crate::Marked), with 1 or
-/// 0 for finished; [`Marked::from_words`](crate::Marked::from_words) names them.
+/// 0 for finished; [`Marked::from_words`](crate::Marked::from_words) names them. The tallies are the fields of
+/// [`Tally`](crate::Tally) for each worker.
 #[allow(clippy::too_many_arguments)]
 pub fn mark(
     offsets: &[u32],
@@ -125,6 +128,7 @@ pub fn mark(
     schedule: &[u8],
     marks: &mut [u8],
     work: &mut [u32],
+    tallies: &mut [u64],
     result: &mut [u64],
 ) -> u32 {
     // SAFETY: as in `header`.
@@ -145,6 +149,8 @@ pub fn mark(
             marks.len(),
             work.as_mut_ptr(),
             work.len(),
+            tallies.as_mut_ptr(),
+            tallies.len(),
             result.as_mut_ptr(),
             result.len(),
         )

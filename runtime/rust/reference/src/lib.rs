@@ -9,7 +9,7 @@ mod report;
 mod sweep;
 
 pub use catalogue::{header, part, read, references, Contents, Header};
-pub use machine::{depth_first, mark, Call, Outcome};
+pub use machine::{depth_first, mark, tallies, Call, Outcome, Tally};
 pub use report::report;
 pub use sweep::{sweep, Swept};
 

@@ -37,6 +37,35 @@ impl Outcome {
     }
 }
 
+/// What one worker did, over its own turns.
+#[derive(Clone, Copy, Debug, Default, PartialEq, Eq)]
+pub struct Tally {
+    pub followed: u64,
+    pub won: u64,
+    pub lost: u64,
+    pub handed: u64,
+}
+
+impl Tally {
+    /// How many words of the lent tallies it has.
+    pub const WORDS: usize = 4;
+
+    pub fn from_words([followed, won, lost, handed]: [u64; Self::WORDS]) -> Self {
+        Tally { followed, won, lost, handed }
+    }
+
+    pub fn words(self) -> [u64; Self::WORDS] {
+        let Tally { followed, won, lost, handed } = self;
+        [followed, won, lost, handed]
+    }
+}
+
+/// The tallies of these words, by worker.
+pub fn tallies(words: &[u64]) -> Vec<Tally> {
+    let four = |words: &[u64]| Tally::from_words(words.try_into().expect("four words"));
+    words.chunks_exact(Tally::WORDS).map(four).collect()
+}
+
 /// References first..end, not yet followed.
 type Run = (u32, u32);
 
@@ -61,6 +90,7 @@ struct Worker {
     /// In reverse: the last one is followed first.
     runs: Vec<Run>,
     carried: u32,
+    tally: Tally,
 }
 
 struct Machine<'a> {
@@ -156,6 +186,7 @@ impl Machine<'_> {
         let handed = me.carried - keep;
         me.carried = keep;
         me.since = 0;
+        me.tally.handed += 1;
         let other = &mut self.workers[asker];
         other.runs = given;
         other.carried = handed;
@@ -167,16 +198,20 @@ impl Machine<'_> {
         let me = &mut self.workers[b];
         let &(e, _) = me.runs.last().unwrap();
         let target = self.targets[e as usize] as usize;
-        if self.marks[target] != 0 {
-            me.claim = false;
-            self.follow(b, None);
-        } else if !me.claim {
+        let marked = self.marks[target] != 0;
+        if !me.claim && !marked {
             me.claim = true;
-        } else {
-            me.claim = false;
-            self.marks[target] = b as u8 + 1;
-            self.follow(b, Some(target));
+            return true;
         }
+        let claiming = std::mem::take(&mut me.claim);
+        if claiming && marked {
+            me.tally.lost += 1;
+        }
+        if claiming && !marked {
+            me.tally.won += 1;
+            self.marks[target] = b as u8 + 1;
+        }
+        self.follow(b, (claiming && !marked).then_some(target));
         true
     }
 
@@ -196,6 +231,7 @@ impl Machine<'_> {
         }
         me.batch -= 1;
         me.since += 1;
+        me.tally.followed += 1;
         self.followed += 1;
         if me.carried == 0 {
             me.status = Status::Idle;
@@ -216,7 +252,7 @@ fn is_graph(offsets: &[u32], targets: &[u32]) -> bool {
 }
 
 /// The marker's call.
-pub fn mark(call: Call<'_>, marks: &mut [u8], work: &mut [u32]) -> Result<Outcome, u8> {
+pub fn mark(call: Call<'_>, marks: &mut [u8], work: &mut [u32], tallies: &mut [u64]) -> Result<Outcome, u8> {
     let Call { offsets, targets, starts, workers, batch, cutoff, schedule } = call;
     if !(1..=16).contains(&workers) || !(1..=65_535).contains(&batch) || !(1..=65_535).contains(&cutoff) {
         return Err(8);
@@ -226,7 +262,8 @@ pub fn mark(call: Call<'_>, marks: &mut [u8], work: &mut [u32]) -> Result<Outcom
         return Err(4);
     }
     let stretch = 2 * n + 4;
-    if marks.len() != n || work.len() != workers as usize * stretch {
+    let lengths = [(marks.len(), n), (work.len(), workers as usize * stretch), (tallies.len(), 4 * workers as usize)];
+    if lengths.iter().any(|(length, right)| length != right) {
         return Err(7);
     }
     if !is_graph(offsets, targets) {
@@ -252,6 +289,7 @@ pub fn mark(call: Call<'_>, marks: &mut [u8], work: &mut [u32]) -> Result<Outcom
             claim: false,
             runs: Vec::new(),
             carried: 0,
+            tally: Tally::default(),
         })
         .collect();
     let first = &mut all[0];
@@ -278,6 +316,7 @@ pub fn mark(call: Call<'_>, marks: &mut [u8], work: &mut [u32]) -> Result<Outcom
             work[b * stretch + 2 * i] = first;
             work[b * stretch + 2 * i + 1] = end;
         }
+        tallies[Tally::WORDS * b..Tally::WORDS * (b + 1)].copy_from_slice(&one.tally.words());
     }
     Ok(Outcome {
         finished: machine.workers.iter().all(|one| one.status == Status::Ended),
@@ -340,8 +379,9 @@ mod tests {
         let n = offsets.len() - 1;
         let schedule: Vec<u8> = turns.iter().flat_map(|&b| [b, 0]).collect();
         let (mut marks, mut work) = (vec![7; n], vec![9; w as usize * (2 * n + 4)]);
+        let mut words = vec![5; 4 * w as usize];
         let call = Call { offsets, targets, starts, workers: w, batch: d, cutoff: k, schedule: &schedule };
-        mark(call, &mut marks, &mut work).unwrap().words()
+        mark(call, &mut marks, &mut work, &mut words).unwrap().words()
     }
 
     #[test]
@@ -367,10 +407,10 @@ mod tests {
         assert_eq!(run_from(&[0, 5], &OFFSETS, &TARGETS, [1, 6, 1], &[0; 13]), [1, 6, 6, 0, 0, 13, 0]);
     }
 
-    /// The marks that these turns leave on store S, with case A's settings.
-    fn owners(turns: &[u8]) -> Vec<u8> {
+    /// The marks and the tallies that these turns leave on store S, with case A's settings.
+    fn left(turns: &[u8]) -> (Vec<u8>, Vec<u64>) {
         let schedule: Vec<u8> = turns.iter().flat_map(|&b| [b, 0]).collect();
-        let (mut marks, mut work) = (vec![7; 6], vec![9; 32]);
+        let (mut marks, mut work, mut words) = (vec![7; 6], vec![9; 32], vec![5; 8]);
         let call = Call {
             offsets: &OFFSETS,
             targets: &TARGETS,
@@ -380,13 +420,22 @@ mod tests {
             cutoff: 1,
             schedule: &schedule,
         };
-        assert!(mark(call, &mut marks, &mut work).unwrap().finished);
-        marks
+        mark(call, &mut marks, &mut work, &mut words).unwrap();
+        (marks, words)
     }
+
+    const A: [u8; 18] = [0, 1, 0, 0, 0, 1, 1, 0, 1, 0, 0, 0, 1, 0, 1, 1, 0, 1];
 
     #[test]
     fn owners_differ_between_two_orders() {
-        assert_eq!(owners(&[0, 1, 0, 0, 0, 1, 1, 0, 1, 0, 0, 0, 1, 0, 1, 1, 0, 1]), [1, 1, 1, 2, 0, 0]);
-        assert_eq!(owners(&[0, 0, 0, 0, 0, 0, 0, 0, 0, 0, 0, 0, 0, 0, 1]), [1, 1, 1, 1, 0, 0]);
+        assert_eq!(left(&A).0, [1, 1, 1, 2, 0, 0]);
+        assert_eq!(left(&[0, 0, 0, 0, 0, 0, 0, 0, 0, 0, 0, 0, 0, 0, 1]).0, [1, 1, 1, 1, 0, 0]);
+    }
+
+    #[test]
+    fn tallies_by_worker() {
+        assert_eq!(left(&A).1, [3, 2, 1, 1, 2, 1, 0, 0]);
+        assert_eq!(left(&A[..5]).1, [1, 1, 0, 1, 0, 0, 0, 0]);
+        assert_eq!(left(&[]).1, [0; 8]);
     }
 }

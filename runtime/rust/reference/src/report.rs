@@ -1,6 +1,6 @@
 //! The program's text, SPECIFICATION 7.
 
-use crate::{header, mark, read, sweep, Call, STARTS};
+use crate::{header, mark, read, sweep, tallies, Call, Tally, STARTS};
 use std::fmt::Write;
 
 const MOST_STORE_BYTES: usize = 62_064;
@@ -41,7 +41,8 @@ fn collection(store: &[u8], order: &[u8]) -> Result<String, u8> {
     let schedule = &order[5..];
     let starts = &starts[..count as usize];
     let call = Call { offsets: &offsets, targets: &targets, starts, workers, batch, cutoff, schedule };
-    let outcome = mark(call, &mut marks, &mut work)?;
+    let mut words = vec![0; Tally::WORDS * workers as usize];
+    let outcome = mark(call, &mut marks, &mut work, &mut words)?;
     let mut text = if outcome.finished { "finished\n" } else { "unfinished\n" }.to_string();
     let counts = [
         ("live", outcome.live),
@@ -53,6 +54,9 @@ fn collection(store: &[u8], order: &[u8]) -> Result<String, u8> {
     ];
     for (name, count) in counts {
         writeln!(text, "{name} {count}").expect("text");
+    }
+    for (b, Tally { followed, won, lost, handed }) in tallies(&words).into_iter().enumerate() {
+        writeln!(text, "box {b} followed {followed} won {won} lost {lost} handed {handed}").expect("text");
     }
     if outcome.finished {
         let mut list = vec![0; n];

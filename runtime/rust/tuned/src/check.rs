@@ -1,6 +1,6 @@
 //! The marker's checks. Each loop looks at everything, so that it is compiled without a jump out of it.
 
-use reference::{Call, MOST_OBJECTS, MOST_REFERENCES, STARTS};
+use reference::{Call, Tally, MOST_OBJECTS, MOST_REFERENCES, STARTS};
 
 fn rising(offsets: &[u32]) -> bool {
     offsets.iter().zip(&offsets[1..]).fold(true, |rising, (one, next)| rising & (one <= next))
@@ -20,8 +20,8 @@ fn is_schedule(schedule: &[u8], workers: u32) -> bool {
     entries.remainder().is_empty() && entries.fold(true, |below, entry| below & (u32::from(entry[0]) < workers))
 }
 
-/// The number of the first fault of a call with so many marks and work words.
-pub fn call(call: Call<'_>, marks: usize, work: usize) -> Result<(), u8> {
+/// The number of the first fault of a call with so many marks, work words and words of tallies.
+pub fn call(call: Call<'_>, marks: usize, work: usize, tallies: usize) -> Result<(), u8> {
     let Call { offsets, targets, starts, workers, batch, cutoff, schedule } = call;
     if !(1..=16).contains(&workers) || !(1..=65_535).contains(&batch) || !(1..=65_535).contains(&cutoff) {
         return Err(8);
@@ -30,7 +30,7 @@ pub fn call(call: Call<'_>, marks: usize, work: usize) -> Result<(), u8> {
         return Err(4);
     }
     let n = offsets.len() - 1;
-    if marks != n || work != workers as usize * (2 * n + 4) {
+    if marks != n || work != workers as usize * (2 * n + 4) || tallies != workers as usize * Tally::WORDS {
         return Err(7);
     }
     if !is_graph(offsets, targets) {

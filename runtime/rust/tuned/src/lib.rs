@@ -1,6 +1,6 @@
 //! The reader and the marker in safe Rust, as fast as we can write them: what the proved calls are measured
 //! against; `compare` holds them to the plain reference. The marker does the turns of the specification, one for each
-//! entry, with the same checks, and leaves the same marks and work words.
+//! entry, with the same checks, and leaves the same marks, work words and tallies.
 //!
 //! What makes it fast:
 //! - A worker's block has the bounds of the run being followed and the target of its next reference, so a look
@@ -15,7 +15,7 @@ mod read;
 
 pub use read::read;
 
-use reference::{Call, Outcome};
+use reference::{Call, Outcome, Tally};
 
 /// What a worker is, and what its next turn does if it is busy. The busy ones are the last three.
 const IDLE: u32 = 0;
@@ -47,6 +47,11 @@ struct Worker {
     since: u32,
     top: u32,
     base: u32,
+    /// References that it was given or opened itself, less those that it gave away: those followed and those carried.
+    taken: u32,
+    won: u32,
+    lost: u32,
+    handed: u32,
 }
 
 /// W workers, the first of an array of the most: an index below 16 needs no check.
@@ -63,10 +68,6 @@ enum Turned {
 
 /// What is counted as the turns go.
 struct Counts {
-    /// References that leave marked objects.
-    opened: u64,
-    live: u64,
-    handed: u64,
     refused: u64,
     /// Workers that carry references.
     carrying: u32,
@@ -122,8 +123,10 @@ impl Machine<'_> {
                 let target = worker.target as usize;
                 if self.marks[target] == 0 {
                     self.marks[target] = b + 1;
+                    worker.won += 1;
                     self.open(b, target);
                 } else {
+                    worker.lost += 1;
                     self.follow(b);
                 }
             }
@@ -161,12 +164,11 @@ impl Machine<'_> {
     #[inline(always)]
     fn open(&mut self, b: u8, target: usize) {
         let (from, to) = (self.offsets[target], self.offsets[target + 1]);
-        self.counts.live += 1;
         if from == to {
             return self.follow(b);
         }
-        self.counts.opened += u64::from(to - from);
         let worker = &mut self.workers[usize::from(b & 15)];
+        worker.taken += to - from;
         worker.carried += to - from;
         let next = worker.first + 1;
         if next < worker.end {
@@ -240,6 +242,9 @@ impl Machine<'_> {
         asker.carried = giver.carried - half;
         asker.since = 0;
         asker.status = GIVEN;
+        asker.taken += asker.carried;
+        giver.taken -= asker.carried;
+        giver.handed += 1;
         giver.carried = half;
         giver.since = 0;
         giver.cell = 0;
@@ -281,7 +286,6 @@ impl Machine<'_> {
         }
         self.workers[usize::from(b & 15)] = giver;
         self.workers[a] = asker;
-        self.counts.handed += 1;
         self.counts.carrying += 1;
     }
 
@@ -298,11 +302,12 @@ impl Machine<'_> {
         moved
     }
 
-    /// Writes the run being followed on top of each stretch and clears what stands behind; how many references are
-    /// carried.
-    fn settle(&mut self, stretch: usize) -> u64 {
-        let mut carried = 0;
-        for (worker, words) in self.workers.iter().zip(self.work.chunks_exact_mut(stretch)) {
+    /// Writes the run being followed on top of each stretch, clears what stands behind, and writes the tallies; their
+    /// sum.
+    fn settle(&mut self, stretch: usize, tallies: &mut [u64]) -> Tally {
+        let mut sum = Tally::default();
+        let stretches = self.work.chunks_exact_mut(stretch);
+        for ((worker, words), tally) in self.workers.iter().zip(stretches).zip(tallies.chunks_exact_mut(Tally::WORDS)) {
             let mut used = (worker.top - worker.base) as usize;
             if worker.first < worker.end {
                 words[used] = worker.first;
@@ -310,15 +315,20 @@ impl Machine<'_> {
                 used += 2;
             }
             words[used..].fill(0);
-            carried += u64::from(worker.carried + worker.batch);
+            let followed = worker.taken - worker.carried - worker.batch;
+            let one = Tally::from_words([followed, worker.won, worker.lost, worker.handed].map(u64::from));
+            tally.copy_from_slice(&one.words());
+            sum.followed += one.followed;
+            sum.won += one.won;
+            sum.handed += one.handed;
         }
-        carried
+        sum
     }
 }
 
 /// The marker's call: the counts, or the number of the refusal.
-pub fn mark(call: Call<'_>, marks: &mut [u8], work: &mut [u32]) -> Result<Outcome, u8> {
-    check::call(call, marks.len(), work.len())?;
+pub fn mark(call: Call<'_>, marks: &mut [u8], work: &mut [u32], tallies: &mut [u64]) -> Result<Outcome, u8> {
+    check::call(call, marks.len(), work.len(), tallies.len())?;
     let Call { offsets, targets, starts, workers, batch, cutoff, schedule } = call;
     let stretch = 2 * (offsets.len() - 1) + 4;
     let mut blocks = Workers::default();
@@ -328,12 +338,12 @@ pub fn mark(call: Call<'_>, marks: &mut [u8], work: &mut [u32]) -> Result<Outcom
     }
     marks.fill(0);
     let mut at = stretch;
-    let mut live = 0;
+    let mut distinct = 0;
     for v in starts.iter().map(|&start| start as usize) {
         if std::mem::replace(&mut marks[v], 1) != 0 {
             continue;
         }
-        live += 1;
+        distinct += 1;
         let (from, to) = (offsets[v], offsets[v + 1]);
         if from < to {
             blocks[0].carried += to - from;
@@ -348,18 +358,12 @@ pub fn mark(call: Call<'_>, marks: &mut [u8], work: &mut [u32]) -> Result<Outcom
         blocks[0].top += (stretch - 2 - at) as u32;
         work.copy_within(at..stretch - 2, 0);
     }
-    let counts = Counts {
-        opened: u64::from(blocks[0].carried),
-        live,
-        handed: 0,
-        refused: 0,
-        carrying: u32::from(at < stretch),
-        awake: workers,
-    };
+    blocks[0].taken = blocks[0].carried;
+    let counts = Counts { refused: 0, carrying: u32::from(at < stretch), awake: workers };
     let mut machine = Machine { offsets, targets, batch, cutoff, marks, work, workers: blocks, counts };
     let moved = machine.turns(schedule);
-    let carried = machine.settle(stretch);
-    let Counts { opened, live, handed, refused, carrying, awake } = machine.counts;
-    let carrying = u64::from(carrying);
-    Ok(Outcome { finished: awake == 0, live, followed: opened - carried, handed, refused, moved, carrying })
+    let Tally { followed, won, handed, .. } = machine.settle(stretch, tallies);
+    let Counts { refused, carrying, awake } = machine.counts;
+    let (live, carrying) = (distinct + won, u64::from(carrying));
+    Ok(Outcome { finished: awake == 0, live, followed, handed, refused, moved, carrying })
 }

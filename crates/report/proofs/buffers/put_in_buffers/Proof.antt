@@ -5,7 +5,7 @@ use native.Mathlib.Omega.{arith}
 use lib.ListN.{length, take, replicate, length-replicate}
 use lib.Seq.{length-take-le}
 use Rattle.catalogue.specs.Store.{start-words}
-use Rattle.report.specs.Limits.{most-objects, most-references, work-room, tally-words}
+use Rattle.report.specs.Limits.{most-objects, most-references, work-room, tallies-room}
 use borrow.Author.Needs.{needs}
 use Rattle.report.proofs.buffers.put_in_buffers.Statement.{statement}
 use Rattle.report.proofs.buffers.put_in_buffers.Tie as tie
@@ -55,7 +55,7 @@ put-store-requires c κs =
       fitting = record { few = omega arith; all-marks = omega arith; all-list = omega arith; room = p .room };
       whole-order = p .whole-order;
       much-work = omega (arith, length-replicate {A = ℕ} work-room 0);
-      all-words = omega (arith, length-replicate {A = ℕ} tally-words 0);
+      all-words = omega (arith, length-replicate {A = ℕ} tallies-room 0);
     }
 
 pub put-in-buffers-spec : {M : Type 1} → statement M
