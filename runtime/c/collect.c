@@ -59,16 +59,23 @@ int main(void) {
     }
     uint8_t marks[KULLNEYRA_MARKS(N)];
     uint32_t work[KULLNEYRA_WORK(N, W)];
+    uint64_t tallies[KULLNEYRA_TALLIES(W)];
     struct kullneyra_marked marked;
     answer = kullneyra_mark_into(offsets, KULLNEYRA_OFFSETS(N), targets, KULLNEYRA_TARGETS(M), starts, store.starts, W, 1, 1,
                                  schedule, sizeof schedule, marks, KULLNEYRA_MARKS(N), work, KULLNEYRA_WORK(N, W),
-                                 &marked);
+                                 tallies, KULLNEYRA_TALLIES(W), &marked);
     if (answer != KULLNEYRA_OK) {
         return refused(answer);
     }
     puts(marked.finished ? "finished" : "unfinished");
 #define LINE(name) printf(#name " %llu\n", (unsigned long long)marked.name);
     KULLNEYRA_COUNTS(LINE)
+    for (uint32_t b = 0; b < W; b++) {
+        const struct kullneyra_tally tally = kullneyra_tally_of(tallies, b);
+        printf("box %u followed %llu won %llu lost %llu handed %llu\n", (unsigned)b,
+               (unsigned long long)tally.followed, (unsigned long long)tally.won, (unsigned long long)tally.lost,
+               (unsigned long long)tally.handed);
+    }
     if (!marked.finished) {
         return 0;
     }

@@ -60,6 +60,7 @@ extern "C" {
 #define KULLNEYRA_STARTS ((size_t)KULLNEYRA_MOST_LEASES + 1)
 #define KULLNEYRA_MARKS(n) ((size_t)(n))
 #define KULLNEYRA_WORK(n, w) ((size_t)(w) * (2 * (size_t)(n) + 4))
+#define KULLNEYRA_TALLIES(w) (4 * (size_t)(w))
 #define KULLNEYRA_LIST(n) ((size_t)(n))
 
 /* What a call answers beside its number: a struct for each answer, whose fields are the result words in
@@ -100,6 +101,15 @@ struct kullneyra_marked {
 /* The counts of a marking by name, in the same order: X(live) X(followed) and so on. */
 #define KULLNEYRA_COUNTS(X) X(live) X(followed) X(handed) X(refused) X(moved) X(carrying)
 
+/* mark: what one worker did, over its own turns. Over all workers, followed and handed add up to those of
+ * the marking, and the won claims and the different starts make its live. */
+struct kullneyra_tally {
+    uint64_t followed; /* references followed */
+    uint64_t won;      /* claims won: objects that it was the first to reach */
+    uint64_t lost;     /* claims lost to another worker */
+    uint64_t handed;   /* hand-overs that it gave */
+};
+
 /* sweep: the dead objects. */
 struct kullneyra_swept {
     uint64_t count;
@@ -130,11 +140,13 @@ uint32_t kullneyra_references(const uint32_t *offsets, size_t offsets_len, const
 /* Marks what the starts reach, by the turns of the schedule: two bytes for each, the worker and whom it
  * asks. The starts are the index and then the leases; a repeated one adds nothing. Only when the
  * collection is finished are the objects with mark 0 unreachable. A mark tells who claimed the object:
- * b + 1 for worker b; a start has mark 1. */
+ * b + 1 for worker b; a start has mark 1. The tallies are four words for each worker, worker 0's first:
+ * the fields of struct kullneyra_tally. */
 uint32_t kullneyra_mark(const uint32_t *offsets, size_t offsets_len, const uint32_t *targets, size_t targets_len,
                         const uint32_t *starts, size_t starts_len, uint32_t workers, uint32_t batch,
                         uint32_t cutoff, const uint8_t *schedule, size_t schedule_len, uint8_t *marks,
-                        size_t marks_len, uint32_t *work, size_t work_len, uint64_t *result, size_t result_len);
+                        size_t marks_len, uint32_t *work, size_t work_len, uint64_t *tallies,
+                        size_t tallies_len, uint64_t *result, size_t result_len);
 
 /* Lists the objects whose mark is 0, upwards, then zeros; answers how many they are and what their sizes add up to. */
 uint32_t kullneyra_sweep(const uint8_t *marks, size_t marks_len, const uint64_t *sizes, size_t sizes_len,
@@ -176,13 +188,21 @@ static inline uint32_t kullneyra_mark_into(const uint32_t *offsets, size_t offse
                                            uint32_t workers, uint32_t batch, uint32_t cutoff,
                                            const uint8_t *schedule, size_t schedule_len, uint8_t *marks,
                                            size_t marks_len, uint32_t *work, size_t work_len,
+                                           uint64_t *tallies, size_t tallies_len,
                                            struct kullneyra_marked *answer) {
     uint64_t words[KULLNEYRA_MARK_WORDS] = {0};
     const uint32_t number = kullneyra_mark(offsets, offsets_len, targets, targets_len, starts, starts_len, workers,
                                            batch, cutoff, schedule, schedule_len, marks, marks_len, work, work_len,
-                                           words, KULLNEYRA_MARK_WORDS);
+                                           tallies, tallies_len, words, KULLNEYRA_MARK_WORDS);
     memcpy(answer, words, sizeof *answer);
     return number;
+}
+
+/* One worker's tally, of the words that mark left. */
+static inline struct kullneyra_tally kullneyra_tally_of(const uint64_t *tallies, uint32_t worker) {
+    struct kullneyra_tally tally;
+    memcpy(&tally, tallies + KULLNEYRA_TALLIES(worker), sizeof tally);
+    return tally;
 }
 
 static inline uint32_t kullneyra_sweep_into(const uint8_t *marks, size_t marks_len, const uint64_t *sizes,

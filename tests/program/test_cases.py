@@ -26,6 +26,8 @@ def asking_0(*workers):
 
 S = case.store_bytes(SAMPLE)
 ONE = store([5])
+LOOP, TWICE = store([5], [(0, 0)]), store([5, 6], [(0, 1)] * 2)
+DEAD = [(4, 500), (5, 600)]
 NO_TURNS = order(1, 1, 1)
 A = asking_0(0, 1, 0, 0, 0, 1, 1, 0, 1, 0, 0, 0, 1, 0, 1, 1, 0, 1)
 LONE = order(1, 2, 1, asking_0(*[0] * 12))
@@ -53,29 +55,34 @@ def header(n, m, index):
     return case.record(case.HEADER, struct.pack("<III", n, m, index))
 
 
-def told(state, *counts, dead=()):
-    """What the program prints for a collection; `dead` are pairs of number and size."""
+def told(state, *counts, boxes, dead=()):
+    """What the program prints for a collection; `boxes` has what each worker followed, won, lost and handed, and `dead`
+    are pairs of number and size."""
     names = ("live", "followed", "handed", "refused", "moved", "carrying")
     lines = [state, *(f"{name} {count}" for name, count in zip(names, counts))]
+    for number, (followed, won, lost, handed) in enumerate(boxes):
+        lines.append(f"box {number} followed {followed} won {won} lost {lost} handed {handed}")
     if state == "finished":
         lines += [f"dead {number} {size}" for number, size in dead]
         lines.append(f"freed {sum(size for _, size in dead)}")
     return "\n".join(lines) + "\n"
 
 
-UNTOUCHED = told("unfinished", 1, 0, 0, 0, 0, 1)
+NOTHING = (0, 0, 0, 0)
+UNTOUCHED = told("unfinished", 1, 0, 0, 0, 0, 1, boxes=[NOTHING])
+ALONE = [(5, 3, 0, 0)]
 
 DRAWINGS = [
-    ("A", S, order(2, 1, 1, A), told("finished", 4, 5, 1, 0, 18, 0, dead=[(4, 500), (5, 600)])),
-    ("B", S, order(2, 1, 1, A[:5]), told("unfinished", 2, 1, 1, 0, 5, 2)),
-    ("C", S, order(2, 1, 2, A[:5]), told("unfinished", 2, 1, 0, 1, 5, 1)),
-    ("D", S, LONE, told("finished", 4, 5, 0, 0, 12, 0, dead=[(4, 500), (5, 600)])),
-    ("E", S, LONE[:-2], told("unfinished", 4, 5, 0, 0, 11, 0)),
-    ("F", ONE, NO_TURNS, told("unfinished", 1, 0, 0, 0, 0, 0)),
-    ("G", ONE, order(1, 1, 1, asking_0(0)), told("finished", 1, 0, 0, 0, 1, 0)),
-    ("H", ONE, order(2, 1, 1, asking_0(0, 0)), told("unfinished", 1, 0, 0, 0, 1, 0)),
-    ("I", store([5], [(0, 0)]), order(1, 1, 1, asking_0(0, 0, 0)), told("finished", 1, 1, 0, 0, 3, 0)),
-    ("J", store([5, 6], [(0, 1)] * 2), order(1, 2, 1, asking_0(*[0] * 5)), told("finished", 2, 2, 0, 0, 5, 0)),
+    ("A", S, order(2, 1, 1, A), told("finished", 4, 5, 1, 0, 18, 0, boxes=[(3, 2, 1, 1), (2, 1, 0, 0)], dead=DEAD)),
+    ("B", S, order(2, 1, 1, A[:5]), told("unfinished", 2, 1, 1, 0, 5, 2, boxes=[(1, 1, 0, 1), NOTHING])),
+    ("C", S, order(2, 1, 2, A[:5]), told("unfinished", 2, 1, 0, 1, 5, 1, boxes=[(1, 1, 0, 0), NOTHING])),
+    ("D", S, LONE, told("finished", 4, 5, 0, 0, 12, 0, boxes=ALONE, dead=DEAD)),
+    ("E", S, LONE[:-2], told("unfinished", 4, 5, 0, 0, 11, 0, boxes=ALONE)),
+    ("F", ONE, NO_TURNS, told("unfinished", 1, 0, 0, 0, 0, 0, boxes=[NOTHING])),
+    ("G", ONE, order(1, 1, 1, asking_0(0)), told("finished", 1, 0, 0, 0, 1, 0, boxes=[NOTHING])),
+    ("H", ONE, order(2, 1, 1, asking_0(0, 0)), told("unfinished", 1, 0, 0, 0, 1, 0, boxes=[NOTHING] * 2)),
+    ("I", LOOP, order(1, 1, 1, asking_0(0, 0, 0)), told("finished", 1, 1, 0, 0, 3, 0, boxes=[(1, 0, 0, 0)])),
+    ("J", TWICE, order(1, 2, 1, asking_0(*[0] * 5)), told("finished", 2, 2, 0, 0, 5, 0, boxes=[(2, 1, 0, 0)])),
     ("K", b"", NO_TURNS, 1),
     ("L", S, order(2, 1, 1, asking_0(2)), 9),
 ]
@@ -83,18 +90,18 @@ DRAWINGS = [
 SETTINGS = [
     ("W 0", S, order(0, 1, 1), 8),
     ("W 1", S, order(1, 1, 1), UNTOUCHED),
-    ("W 4", S, order(4, 1, 1, asking_0(3)), told("unfinished", 1, 0, 0, 0, 1, 1)),
+    ("W 4", S, order(4, 1, 1, asking_0(3)), told("unfinished", 1, 0, 0, 0, 1, 1, boxes=[NOTHING] * 4)),
     ("W 5", S, order(5, 1, 1), 11),
     ("W 16", S, order(16, 1, 1), 11),
     ("W 17", S, order(17, 1, 1), 8),
     ("D 0", S, order(1, 0, 1), 8),
     ("K 0", S, order(1, 1, 0), 8),
-    ("D 65535", S, order(2, 65535, 1, SHARED), told("unfinished", 4, 3, 1, 0, 11, 2)),
-    ("K 65535", S, order(2, 1, 65535, SHARED), told("unfinished", 4, 3, 0, 1, 11, 1)),
+    ("D 65535", S, order(2, 65535, 1, SHARED), told("unfinished", 4, 3, 1, 0, 11, 2, boxes=[(3, 3, 0, 1), NOTHING])),
+    ("K 65535", S, order(2, 1, 65535, SHARED), told("unfinished", 4, 3, 0, 1, 11, 1, boxes=[(3, 3, 0, 0), NOTHING])),
     ("half an entry", S, order(1, 1, 1, asking_0(0)) + b"\0", 9),
     ("an entry for worker 1 of 1", S, order(1, 1, 1, asking_0(1)), 9),
     ("an entry for worker 4 of 4, the last one", S, order(4, 1, 1, asking_0(3, 4)), 9),
-    ("workers 255 and 2 asked", S, order(2, 1, 1, [(1, 255), (1, 2)]), UNTOUCHED),
+    ("workers 255 and 2 asked", S, order(2, 1, 1, [(1, 255), (1, 2)]), told("unfinished", 1, 0, 0, 0, 0, 1, boxes=[NOTHING] * 2)),
 ]
 
 FILES = [
@@ -202,6 +209,8 @@ SIZES = [1000 + 7 * v for v in range(1000)]
 # The leases name the index, which adds nothing.
 FULL = store(SIZES, [(e % 1000, target(e)) for e in range(4000)], leases=[0] * 256)
 ROUNDS = order(4, 4, 2, [(i % 4, i // 4 % 4) for i in range(32766)])
+WHOLE = [(985, 254, 3, 3), (987, 254, 0, 3), (1001, 226, 0, 2), (987, 255, 0, 2)]
+PART = [(259, 173, 3, 1), (256, 170, 0, 1), (261, 162, 0, 1), (252, 171, 0, 0)]
 TO_ITSELF = order(1, 65535, 1, asking_0(*[0] * 4002))
 
 LARGE = [
@@ -209,18 +218,23 @@ LARGE = [
         "1000 objects",
         store(MOST[:1000], index=999),
         order(1, 1, 1, asking_0(0)),
-        told("finished", 1, 0, 0, 0, 1, 0, dead=[(v, LARGEST) for v in range(999)]),
+        told("finished", 1, 0, 0, 0, 1, 0, boxes=[NOTHING], dead=[(v, LARGEST) for v in range(999)]),
     ),
     ("1001 objects", store(MOST, index=999), order(1, 1, 1, asking_0(0)), 11),
-    ("4000 references", store([5], [(0, 0)] * 4000), TO_ITSELF, told("finished", 1, 4000, 0, 0, 4002, 0)),
+    (
+        "4000 references",
+        store([5], [(0, 0)] * 4000),
+        TO_ITSELF,
+        told("finished", 1, 4000, 0, 0, 4002, 0, boxes=[(4000, 0, 0, 0)]),
+    ),
     ("4001 references", store([5], [(0, 0)] * 4001), TO_ITSELF, 11),
     (
         "62064 and 65535 bytes",
         FULL,
         ROUNDS[:65535],
-        told("finished", 990, 3960, 10, 2, 5976, 0, dead=[(v, SIZES[v]) for v in range(99, 1000, 100)]),
+        told("finished", 990, 3960, 10, 2, 5976, 0, boxes=WHOLE, dead=[(v, SIZES[v]) for v in range(99, 1000, 100)]),
     ),
-    ("62064 and 4005 bytes", FULL, ROUNDS[:4005], told("unfinished", 677, 1028, 3, 0, 1973, 4)),
+    ("62064 and 4005 bytes", FULL, ROUNDS[:4005], told("unfinished", 677, 1028, 3, 0, 1973, 4, boxes=PART)),
     ("62065 and 65535 bytes", FULL + b"\0", ROUNDS[:65535], 11),
     ("62064 and 65536 bytes", FULL, ROUNDS[:65536], 9),
     ("62064 and 65537 bytes", FULL, ROUNDS, 11),
@@ -231,7 +245,7 @@ LARGE = [
         "a lease holds what hangs on it",
         store([1, 2, 4, 8], [(0, 1), (2, 1), (2, 2)], leases=[2]),
         order(1, 4, 4, asking_0(*[0] * 22)),
-        told("finished", 3, 3, 0, 0, 6, 0, dead=[(3, 8)]),
+        told("finished", 3, 3, 0, 0, 6, 0, boxes=[(3, 1, 0, 0)], dead=[(3, 8)]),
     ),
     ("65536 bytes of a longer order.run", FULL, ROUNDS + bytes(60000), 11),
 ]
@@ -241,8 +255,16 @@ DOWNLOAD = case.load_text(TOP / "samples" / "download.txt")
 KEPT = [(6, 700)]
 LOST = [(3, 400), (4, 5000), (5, 6000), (6, 700)]
 IN_PROGRESS = [
-    ("a lease keeps a download", DOWNLOAD, told("finished", 6, 4, 1, 1, 18, 0, dead=KEPT)),
-    ("without it the download is dead", replace(DOWNLOAD, leases=[]), told("finished", 3, 2, 0, 2, 12, 0, dead=LOST)),
+    (
+        "a lease keeps a download",
+        DOWNLOAD,
+        told("finished", 6, 4, 1, 1, 18, 0, boxes=[(3, 3, 0, 1), (1, 1, 0, 0)], dead=KEPT),
+    ),
+    (
+        "without it the download is dead",
+        replace(DOWNLOAD, leases=[]),
+        told("finished", 3, 2, 0, 2, 12, 0, boxes=[(2, 2, 0, 0), NOTHING], dead=LOST),
+    ),
 ]
 
 
@@ -277,7 +299,7 @@ class Cases(test_program.Folder):
 
     def test_largest_size(self):
         dead = [(4, 500), (5, LARGEST)]
-        expected = told("finished", 4, 5, 0, 0, 12, 0, dead=dead)
+        expected = told("finished", 4, 5, 0, 0, 12, 0, boxes=ALONE, dead=dead)
         self.check([("object 5 of the largest size", written(80, "Q", LARGEST), LONE, expected)])
 
     def test_first_of_several(self):

@@ -57,7 +57,9 @@ class Program(Folder):
         before = sorted(self.folder.iterdir())
         self.assertEqual(
             self.run_program(),
-            "finished\nlive 4\nfollowed 5\nhanded 1\nrefused 0\nmoved 18\ncarrying 0\ndead 4 500\ndead 5 600\nfreed 1100\n",
+            "finished\nlive 4\nfollowed 5\nhanded 1\nrefused 0\nmoved 18\ncarrying 0\n"
+            "box 0 followed 3 won 2 lost 1 handed 1\nbox 1 followed 2 won 1 lost 0 handed 0\n"
+            "dead 4 500\ndead 5 600\nfreed 1100\n",
         )
         self.assertEqual(sorted(self.folder.iterdir()), before)
         self.assertEqual([(self.folder / name).read_bytes() for name in FILES], [self.store, self.order])
@@ -97,7 +99,11 @@ class Program(Folder):
         self.write("order.run", self.order[:4])
         self.assertEqual(self.run_program(), "refusal 12\n")
         self.write("order.run", self.order[:5])
-        self.assertEqual(self.run_program(), "unfinished\nlive 1\nfollowed 0\nhanded 0\nrefused 0\nmoved 0\ncarrying 1\n")
+        self.assertEqual(
+            self.run_program(),
+            "unfinished\nlive 1\nfollowed 0\nhanded 0\nrefused 0\nmoved 0\ncarrying 1\n"
+            "box 0 followed 0 won 0 lost 0 handed 0\nbox 1 followed 0 won 0 lost 0 handed 0\n",
+        )
 
     def test_huge_file_is_not_read(self):
         os.truncate(self.folder / "store.cat", 1 << 40)

@@ -10,7 +10,11 @@ import unittest
 
 from test_program import FILES, Folder
 
-WHOLE = "finished\nlive 4\nfollowed 5\nhanded 1\nrefused 0\nmoved 18\ncarrying 0\ndead 4 500\ndead 5 600\nfreed 1100\n"
+WHOLE = (
+    "finished\nlive 4\nfollowed 5\nhanded 1\nrefused 0\nmoved 18\ncarrying 0\n"
+    "box 0 followed 3 won 2 lost 1 handed 1\nbox 1 followed 2 won 1 lost 0 handed 0\n"
+    "dead 4 500\ndead 5 600\nfreed 1100\n"
+)
 LIMITS = {"store.cat": 62_064, "order.run": 65_536}
 
 # What is refused where a file is filled up with zeros to its limit.

@@ -55,13 +55,16 @@ int main(void) {
     uint32_t starts[KULLNEYRA_STARTS];
     uint8_t marks[KULLNEYRA_MARKS(2)];
     uint32_t work[KULLNEYRA_WORK(2, 1)];
+    uint64_t tallies[KULLNEYRA_TALLIES(1)];
     struct kullneyra_head head;
     struct kullneyra_store store;
     struct kullneyra_part part;
     struct kullneyra_marked marked;
+    struct kullneyra_tally tally;
     struct kullneyra_swept swept;
 
     expect("names of counts", KULLNEYRA_MARK_WORDS - 1, count_names);
+    expect("words of a tally", KULLNEYRA_TALLIES(1), sizeof tally / sizeof(uint64_t));
 
     REFUSED("header, empty", KULLNEYRA_SHORT, kullneyra_header_into(NULL, 0, &head), head);
     ACCEPTED("header", kullneyra_header_into(catalogue, sizeof catalogue, &head), head);
@@ -100,22 +103,26 @@ int main(void) {
 
     REFUSED("mark, no start", KULLNEYRA_NO_STARTS,
             kullneyra_mark_into(offsets, 3, targets, 1, NULL, 0, 1, 1, 1, turns, 6, marks, 2, work,
-                                KULLNEYRA_WORK(2, 1), &marked),
+                                KULLNEYRA_WORK(2, 1), tallies, KULLNEYRA_TALLIES(1), &marked),
             marked);
     REFUSED("mark, half a turn", KULLNEYRA_SCHEDULE,
             kullneyra_mark_into(offsets, 3, targets, 1, &head.index, 1, 1, 1, 1, turns, 5, marks, 2, work,
-                                KULLNEYRA_WORK(2, 1), &marked),
+                                KULLNEYRA_WORK(2, 1), tallies, KULLNEYRA_TALLIES(1), &marked),
+            marked);
+    REFUSED("mark, short tallies", KULLNEYRA_BUFFER,
+            kullneyra_mark_into(offsets, 3, targets, 1, &head.index, 1, 1, 1, 1, turns, 6, marks, 2, work,
+                                KULLNEYRA_WORK(2, 1), tallies, KULLNEYRA_TALLIES(1) - 1, &marked),
             marked);
     ACCEPTED("mark, two turns",
              kullneyra_mark_into(offsets, 3, targets, 1, &head.index, 1, 1, 1, 1, turns, 4, marks, 2, work,
-                                 KULLNEYRA_WORK(2, 1), &marked),
+                                 KULLNEYRA_WORK(2, 1), tallies, KULLNEYRA_TALLIES(1), &marked),
              marked);
     expect("mark, unfinished", 0, marked.finished);
     expect("mark, moved before the end", 2, marked.moved);
     expect("mark, carrying before the end", 0, marked.carrying);
     ACCEPTED("mark",
              kullneyra_mark_into(offsets, 3, targets, 1, &head.index, 1, 1, 1, 1, turns, 6, marks, 2, work,
-                                 KULLNEYRA_WORK(2, 1), &marked),
+                                 KULLNEYRA_WORK(2, 1), tallies, KULLNEYRA_TALLIES(1), &marked),
              marked);
     expect("mark, finished", 1, marked.finished);
     expect("mark, live", 1, marked.live);
@@ -126,6 +133,11 @@ int main(void) {
     expect("mark, refused", 0, marked.refused);
     expect("mark, moved", 3, marked.moved);
     expect("mark, carrying", 0, marked.carrying);
+    tally = kullneyra_tally_of(tallies, 0);
+    expect("tally, followed", 1, tally.followed);
+    expect("tally, won", 0, tally.won);
+    expect("tally, lost", 0, tally.lost);
+    expect("tally, handed", 0, tally.handed);
 
     REFUSED("sweep, long list", KULLNEYRA_BUFFER, kullneyra_sweep_into(marks, 2, sizes, 2, list, 3, &swept), swept);
     ACCEPTED("sweep", kullneyra_sweep_into(marks, 2, sizes, 2, list, 2, &swept), swept);

@@ -17,6 +17,7 @@ int main(void) {
     uint32_t head[KULLNEYRA_HEADER_WORDS] = {7, 7, 7}, store[KULLNEYRA_READ_WORDS] = {7, 7, 7, 7};
     uint32_t work[KULLNEYRA_WORK(1, 1)];
     uint64_t part[KULLNEYRA_PART_WORDS] = {7, 7}, counts[KULLNEYRA_MARK_WORDS], swept[KULLNEYRA_SWEEP_WORDS];
+    uint64_t tallies[KULLNEYRA_TALLIES(1)] = {7, 7, 7, 7};
     uint8_t marks[KULLNEYRA_MARKS(1)];
 
     expect("empty catalogue, header", KULLNEYRA_SHORT, kullneyra_header(NULL, 0, head, KULLNEYRA_HEADER_WORDS));
@@ -31,21 +32,25 @@ int main(void) {
     expect("the empty part", 0, (uint32_t)(part[0] + part[1]));
     expect("no result words, references", KULLNEYRA_BUFFER, kullneyra_references(NULL, 0, NULL, 0, 0, NULL, 0));
     expect("no graph, mark", KULLNEYRA_COUNT,
-           kullneyra_mark(NULL, 0, NULL, 0, NULL, 0, 1, 1, 1, NULL, 0, NULL, 0, NULL, 0, counts,
+           kullneyra_mark(NULL, 0, NULL, 0, NULL, 0, 1, 1, 1, NULL, 0, NULL, 0, NULL, 0, NULL, 0, counts,
                           KULLNEYRA_MARK_WORDS));
     expect("no result words, mark", KULLNEYRA_BUFFER,
-           kullneyra_mark(NULL, 0, NULL, 0, NULL, 0, 1, 1, 1, NULL, 0, NULL, 0, NULL, 0, NULL, 0));
+           kullneyra_mark(NULL, 0, NULL, 0, NULL, 0, 1, 1, 1, NULL, 0, NULL, 0, NULL, 0, NULL, 0, NULL, 0));
     expect("no targets and no turns, mark", KULLNEYRA_OK,
            kullneyra_mark(alone, KULLNEYRA_OFFSETS(1), NULL, 0, alone, 1, 1, KULLNEYRA_MOST_SETTING,
                           KULLNEYRA_MOST_SETTING, NULL, 0, marks, KULLNEYRA_MARKS(1), work, KULLNEYRA_WORK(1, 1),
-                          counts, KULLNEYRA_MARK_WORDS));
+                          tallies, KULLNEYRA_TALLIES(1), counts, KULLNEYRA_MARK_WORDS));
     expect("live", 1, (uint32_t)counts[1]);
+    expect("a tally without turns", 0, (uint32_t)(tallies[0] + tallies[1] + tallies[2] + tallies[3]));
     expect("no starts, mark", KULLNEYRA_NO_STARTS,
            kullneyra_mark(alone, KULLNEYRA_OFFSETS(1), NULL, 0, NULL, 0, 1, 1, 1, NULL, 0, marks, KULLNEYRA_MARKS(1),
-                          work, KULLNEYRA_WORK(1, 1), counts, KULLNEYRA_MARK_WORDS));
+                          work, KULLNEYRA_WORK(1, 1), tallies, KULLNEYRA_TALLIES(1), counts, KULLNEYRA_MARK_WORDS));
+    expect("no tallies, mark", KULLNEYRA_BUFFER,
+           kullneyra_mark(alone, KULLNEYRA_OFFSETS(1), NULL, 0, alone, 1, 1, 1, 1, NULL, 0, marks, KULLNEYRA_MARKS(1),
+                          work, KULLNEYRA_WORK(1, 1), NULL, 0, counts, KULLNEYRA_MARK_WORDS));
     expect("too many workers", KULLNEYRA_SETTING,
            kullneyra_mark(NULL, 0, NULL, 0, NULL, 0, KULLNEYRA_MOST_WORKERS + 1, 1, 1, NULL, 0, NULL, 0, NULL, 0,
-                          counts, KULLNEYRA_MARK_WORDS));
+                          NULL, 0, counts, KULLNEYRA_MARK_WORDS));
     expect("no objects, sweep", KULLNEYRA_COUNT,
            kullneyra_sweep(NULL, 0, NULL, 0, NULL, 0, swept, KULLNEYRA_SWEEP_WORDS));
     expect("no result words, sweep", KULLNEYRA_BUFFER, kullneyra_sweep(NULL, 0, NULL, 0, NULL, 0, NULL, 0));

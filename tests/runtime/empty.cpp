@@ -18,11 +18,12 @@ int main() {
     const std::vector<std::uint8_t> schedule;
     std::vector<std::uint8_t> marks(KULLNEYRA_MARKS(1));
     std::vector<std::uint32_t> work(KULLNEYRA_WORK(1, KULLNEYRA_MOST_WORKERS));
+    std::vector<std::uint64_t> tallies(KULLNEYRA_TALLIES(KULLNEYRA_MOST_WORKERS));
     std::array<std::uint64_t, KULLNEYRA_MARK_WORDS> counts{};
     const auto answer = kullneyra_mark(offsets.data(), offsets.size(), targets.data(), targets.size(),
                                        starts.data(), starts.size(), KULLNEYRA_MOST_WORKERS, 1, 1, schedule.data(),
                                        schedule.size(), marks.data(), marks.size(), work.data(), work.size(),
-                                       counts.data(), counts.size());
+                                       tallies.data(), tallies.size(), counts.data(), counts.size());
     if (answer != KULLNEYRA_OK || counts[0] != 0 || counts[1] != 1) {
         std::printf("a start without references: answer %u, live %u\n", answer, static_cast<unsigned>(counts[1]));
         return 1;
