@@ -269,6 +269,7 @@ module _ {G : Graph} {starts : List ℕ} {W : ℕ} {g : Setting} (A : Accepted G
 
   pub start-inside : Every (InTargets G) (startRuns G starts (unmarked G))
   start-inside = rw carried-first at (runs-limit A sound-start 0)
+
   -- at the start a start's mark is 1, every other mark 0
   pub start-mark : (v : ℕ) → 0 < sum (hit v) starts → getD (start G starts W .marks) v 0 ≡ 1
   unfolding start

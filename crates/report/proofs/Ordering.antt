@@ -13,6 +13,7 @@ use Rattle.refusal.specs.Number.{number}
 use Rattle.refusal.proofs.None.{first-none, raise-none}
 use Rattle.refusal.proofs.Numbers.{first-found}
 use Rattle.machine.specs.Call.{settingFault, scheduleFault}
+use Rattle.machine.specs.Tally.{tally-words}
 use Rattle.machine.specs.Machine.{stretchLength}
 use Rattle.report.specs.declared.order.Order.{Order}
 use Rattle.report.specs.Limits.{order-length, most-workers}
@@ -58,11 +59,11 @@ module _ {s : Contents} {order : List ℕ} {l : Lent} (ready : Orderly s order l
         omega (arith, mul-le-mul-right (2 * length (s .sizes) + 4) (both .1))
 
     -- the words of the tallies
-    pub tallies-fit : o .workers * 4 ≤ length (l .tallies)
+    pub tallies-fit : o .workers * tally-words ≤ length (l .tallies)
     tallies-fit = let few = both .1 in let all = ready .all-words in omega arith
 
     pub collectable : {work tallies : List ℕ} → length work ≡ o .workers * stretchLength (length (s .sizes))
-        → length tallies ≡ o .workers * 4 → Collectable s o (lent (l .marks) work tallies (l .list) (l .out))
+        → length tallies ≡ o .workers * tally-words → Collectable s o (lent (l .marks) work tallies (l .list) (l .out))
     collectable e f =
         record {
           passing = ready .passing;

@@ -21,6 +21,7 @@ use Rattle.catalogue.proofs.Accepting.{store-lies, laid-store}
 use Rattle.catalogue.proofs.Chain.{chain-is-reach}
 use Rattle.machine.specs.Call.{Call, settingOf, final}
 use Rattle.machine.specs.Machine.{result, entries, stretchLength}
+use Rattle.machine.specs.Tally.{tally-words}
 use Rattle.machine.specs.Demand2.{FinishedMarks}
 use Rattle.machine.proofs.Accept.{checked}
 use Rattle.sweep.specs.Sweep.{dead}
@@ -28,7 +29,7 @@ use Rattle.sweep.proofs.Collection.{dead-upwards, dead-exactly}
 use Rattle.report.specs.declared.order.Order.{Order}
 use Rattle.report.specs.Limits.{text-room}
 use Rattle.report.specs.Lines.{countLines, tallyLines}
-use Rattle.report.specs.Report.{Files, contentsOf, orderOf, scheduleOf, callOf, filesFault, headerFault, orderFault, callFault, programFault, talliesOf, resultText, programText}
+use Rattle.report.specs.Report.{Files, contentsOf, orderOf, scheduleOf, callOf, filesFault, headerFault, orderFault, callFault, programFault, resultText, programText}
 use Rattle.report.specs.Ready.{Prints}
 use Rattle.report.specs.Promise.{FinishedText, UnfinishedText, Promise}
 use Rattle.report.proofs.Printed.{beside, passing-fault}
@@ -48,12 +49,12 @@ module _ (b : List ℕ) (clear : catalogueFault b ≡ 0) (o : Order) (schedule :
   finished-marks : result (final call) .finished ≡ true → FinishedMarks (readGraph s) (startsOf s) (final call .marks)
   finished-marks e =
       let f = first-none (orderFault o) _ fine in
-      let free = passing-fault o (passing b clear) (first-none _ _ (f .0) .0) refl refl schedule ∙ f .1 in
+      let free = passing-fault o (passing b clear) (first-none _ _ (f .0) .0) refl refl refl schedule ∙ f .1 in
       record {
         workers = o .workers;
         setting = settingOf call;
         turns = entries schedule;
-        accepted = checked call (objects s) (o .workers * stretchLength (objects s)) free .accepted;
+        accepted = checked call (objects s) (o .workers * stretchLength (objects s)) (o .workers * tally-words) free .accepted;
         finished = e;
         marks-are = refl;
       }
@@ -70,20 +71,20 @@ module _ (b : List ℕ) (clear : catalogueFault b ≡ 0) (o : Order) (schedule :
       )
 
   told-by : (x : Bool) → result (final call) .finished ≡ x
-      → FinishedText s (resultText (result (final call)) (talliesOf call) (s .sizes) (final call .marks))
-      ⊎ UnfinishedText (resultText (result (final call)) (talliesOf call) (s .sizes) (final call .marks))
+      → FinishedText s (resultText (result (final call)) (final call .tallies) (s .sizes) (final call .marks))
+      ⊎ UnfinishedText (resultText (result (final call)) (final call .tallies) (s .sizes) (final call .marks))
   told-by true e =
       inl
       (record {
         counts = result (final call) .counts;
-        tallies = talliesOf call;
+        tallies = final call .tallies;
         numbers = dead (final call .marks);
         upwards = dead-upwards 0 (final call .marks);
         exactly = dead-are e;
         lines-are = rw e;
       })
   told-by false e =
-      inr (record { counts = result (final call) .counts; tallies = talliesOf call; lines-are = rw e (append-nil (countLines false (result (final call) .counts) ++ tallyLines 0 (talliesOf call))) })
+      inr (record { counts = result (final call) .counts; tallies = final call .tallies; lines-are = rw e (append-nil (countLines false (result (final call) .counts) ++ tallyLines 0 (final call .tallies))) })
 
 module _ (f : Files) where
   -- accepted files have neither a fault in the catalogue nor in the call

@@ -39,7 +39,7 @@ shifted : (l : List ℕ) (i j : ℕ) → i ≡ 4 + j → getD l i 0 ≡ getD (dr
 shifted l i j e = ap (λ (k : ℕ). getD l k 0) e ∙ sym (getD-drop 4 l j 0)
 
 tally-at : (ts : List Tally) (b : ℕ) → tallyAt (talliesWords ts) b ≡ getD ts b noTally
-unfolding laid
+unfolding talliesWords laid
 tally-at [] b = refl
 tally-at (t ∷ ts) zero = refl
 tally-at (t ∷ ts) (suc b) =
@@ -74,6 +74,7 @@ lines-taken ts (suc k) h =
 
 -- the lines by the words are those of the tallies
 pub lines-are : (ts : List Tally) (words : List ℕ) → words ≡ talliesWords ts → wordLines words (length words / 4) ≡ tallyLines 0 ts
+unfolding talliesWords
 lines-are ts words e =
     let long : length words ≡ length ts * 4 =
     ap length e ∙ length-laid tallyWords 4 noTally ts (λ (i : ℕ). refl) in

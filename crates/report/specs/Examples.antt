@@ -18,7 +18,7 @@ use Rattle.machine.specs.Call.{scheduleFits}
 use Rattle.sweep.specs.Sweep.{deadFrom, sizesOf}
 use Rattle.text.specs.Text.{codes, digitsIn, decimal}
 use Rattle.report.specs.declared.Loaded.the-variants.{Whole}
-use Rattle.report.specs.Lines.{countLines, deadLines}
+use Rattle.report.specs.Lines.{countLines, tallyLine, tallyLines, deadLines}
 use Rattle.report.specs.Report.{Files, files, programText}
 
 -- both files are read whole
@@ -39,11 +39,11 @@ pub listings :
     ∷ readWhole [] (ordering turnsA)
     ∷ readWhole bytesOfLeased (ordering (turnsA ++ turnsA))
     ∷ [])
-    ≡ codes "finished\nlive 4\nfollowed 5\nhanded 1\nrefused 0\nmoved 18\ncarrying 0\ndead 4 500\ndead 5 600\nfreed 1100\n"
-    ∷ codes "unfinished\nlive 2\nfollowed 1\nhanded 1\nrefused 0\nmoved 5\ncarrying 2\n"
+    ≡ codes "finished\nlive 4\nfollowed 5\nhanded 1\nrefused 0\nmoved 18\ncarrying 0\nbox 0 followed 3 won 2 lost 1 handed 1\nbox 1 followed 2 won 1 lost 0 handed 0\ndead 4 500\ndead 5 600\nfreed 1100\n"
+    ∷ codes "unfinished\nlive 2\nfollowed 1\nhanded 1\nrefused 0\nmoved 5\ncarrying 2\nbox 0 followed 1 won 1 lost 0 handed 1\nbox 1 followed 0 won 0 lost 0 handed 0\n"
     ∷ codes "refusal 9\n"
     ∷ codes "refusal 1\n"
-    ∷ codes "finished\nlive 6\nfollowed 6\nhanded 2\nrefused 0\nmoved 22\ncarrying 0\nfreed 0\n"
+    ∷ codes "finished\nlive 6\nfollowed 6\nhanded 2\nrefused 0\nmoved 22\ncarrying 0\nbox 0 followed 4 won 3 lost 0 handed 2\nbox 1 followed 2 won 1 lost 0 handed 0\nfreed 0\n"
     ∷ []
-unfolding turnsA naming0 word sum hit starts below under grouped part marksAt headerRow catalogueFault faults leaseFaults recordFault storeOf records turns start startRuns entries allEnded live carried keep rest scheduleFits deadFrom sizesOf digitsIn decimal countLines deadLines
+unfolding turnsA naming0 word sum hit starts below under grouped part marksAt headerRow catalogueFault faults leaseFaults recordFault storeOf records turns start startRuns entries allEnded live carried keep rest scheduleFits deadFrom sizesOf digitsIn decimal countLines tallyLine tallyLines deadLines
 listings = refl

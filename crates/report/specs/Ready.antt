@@ -7,6 +7,7 @@ use lib.ListN.{length, getD, drop}
 use Rattle.graph.specs.Graph.{graph, objects as graph-objects}
 use Rattle.catalogue.specs.Store.{objects, references, start-words}
 use Rattle.catalogue.specs.Reading.{storeOf}
+use Rattle.machine.specs.Tally.{tally-words}
 use Rattle.machine.specs.Machine.{stretchLength}
 use Rattle.machine.specs.Call.{settingFault, countFault, graphFault, startsFault, objectFault}
 use Rattle.sweep.specs.Sweep.{allFit}
@@ -63,7 +64,7 @@ pub record Collectable (s : Contents) (o : Order) (l : Lent) : Type 0 where
   pub settings : settingFault (o .workers) (o .batch) (o .cutoff) ≡ 0
   pub few-workers : o .workers ≤ most-workers
   pub all-work : length (l .work) ≡ o .workers * stretchLength (length (s .sizes))
-  pub all-tallies : length (l .tallies) ≡ o .workers * 4
+  pub all-tallies : length (l .tallies) ≡ o .workers * tally-words
 
 -- contents that were read, whole settings, and words for every W that the program takes
 pub record Orderly (s : Contents) (order : List ℕ) (l : Lent) : Type 0 where

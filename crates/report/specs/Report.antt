@@ -2,7 +2,7 @@
 use Prim.Native.Nat.{ℕ, zero, suc}
 use mathlib.Core.Bool.{Bool, true, false, _||_}
 use mathlib.Core.List.{List, [], _++_}
-use lib.ListN.{length, drop, replicate}
+use lib.ListN.{length, drop}
 use lib.Dec.{ltb}
 use Rattle.laws.specs.Words.{word}
 use Rattle.refusal.specs.declared.Refusal.the-variants.{Large, File}
@@ -12,7 +12,7 @@ use Rattle.catalogue.specs.Store.{Store, offsetsOf, targetsOf, startsOf}
 use Rattle.catalogue.specs.Answer.{headerRow}
 use Rattle.catalogue.specs.Reading.{catalogueFault, storeOf}
 use Rattle.machine.specs.Row.{Row}
-use Rattle.machine.specs.Tally.{Tally, noTally}
+use Rattle.machine.specs.Tally.{Tally}
 use Rattle.machine.specs.Machine.{result}
 use Rattle.machine.specs.Call.{Call, settingFault, scheduleFault, final}
 use Rattle.sweep.specs.Sweep.{dead, sizesOf}
@@ -126,10 +126,6 @@ abbrev pub deadText : Bool → List ℕ → List ℕ → List ℕ
 deadText true sizes vs = deadLines sizes vs ++ freedLine (sizesOf sizes vs)
 deadText false sizes vs = []
 
--- the workers' tallies when the call's turns are over
-abbrev pub talliesOf : Call → List Tally
-talliesOf c = replicate (c .workers) noTally
-
 -- a collection's result, with its tallies, sizes and marks
 abbrev pub resultText : Row → List Tally → List ℕ → List ℕ → List ℕ
 resultText r ts sizes marks =
@@ -138,7 +134,7 @@ resultText r ts sizes marks =
 -- what is printed where the first fault has this number, 0 for none
 abbrev pub printed : ℕ → Contents → Order → List ℕ → List ℕ
 printed zero s o schedule =
-    resultText (result (final (callOf s o schedule))) (talliesOf (callOf s o schedule)) (s .sizes) (final (callOf s o schedule) .marks)
+    resultText (result (final (callOf s o schedule))) (final (callOf s o schedule) .tallies) (s .sizes) (final (callOf s o schedule) .marks)
 printed (suc k) s o schedule = refusalLine (suc k)
 
 -- what is printed where only the schedule can be refused

@@ -36,6 +36,7 @@ pub fn put_collection(
         schedule,
         marks,
         work,
+        tallies,
     );
     let Marked::Finished(counts) = marked else {
         let Marked::Unfinished(so_far) = marked else {

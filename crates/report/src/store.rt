@@ -33,7 +33,7 @@ fn put_ordered(
     }
     let workers = settings.workers as usize;
     let words = workers * (2 * sizes.len() + 4);
-    let tallied = workers * 4;
+    let tallied = workers * machine::TALLY;
     collection::put_collection(
         offsets,
         targets,

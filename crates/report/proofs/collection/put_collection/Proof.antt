@@ -8,10 +8,10 @@ use Rattle.report.proofs.collection.put_collection.Statement.{statement
 use Rattle.report.proofs.collection.put_collection.Tie as tie
 
 abbrev entry : tie.After-mark → tie.Start
-entry c = c .before .before .before .before .before .before .before .before .before .before .before .before .before
+entry c = c .before .before .before .before .before .before .before .before .before .before .before .before .before .before
 
-abbrev at-mark : tie.After-slice-known7 → tie.After-mark
-at-mark c = c .before .before .before .before
+abbrev at-mark : tie.After-slice-known8 → tie.After-mark
+at-mark c = c .before .before .before .before .before .before
 
 returns : tie.Need-returns
 returns c =
@@ -27,7 +27,7 @@ returns-2 c =
     let at-result = c .before .before in
     let at-marked = at-result .before .before .before .before in
     let m = at-mark (at-marked .before .before .before) in
-    as-text (unfinished-text (entry m .pre) (m .mark .ensures) ?told (at-marked .marked2 .given .1)) (at-result .put-result .ensures .put)
+    as-text (unfinished-text (entry m .pre) (m .mark .ensures) (at-marked .marked2 .given .1)) (at-result .put-result .ensures .put)
 
 put-result-requires : tie.Need-put-result-requires
 put-result-requires c κs =
@@ -67,10 +67,14 @@ returns-3 c =
     let at-result = at-swept .before .before .before .before .before .before in
     let at-marked = at-result .before .before .before .before in
     let m = at-mark (at-marked .before .before) in
-    as-text (finished-text (entry m .pre) (m .mark .ensures) ?told-2 (at-marked .marked .given .1))
+    as-text (finished-text (entry m .pre) (m .mark .ensures) (at-marked .marked .given .1))
     (then (at-result .put-result2 .ensures .put) (at-swept .put-swept .ensures))
 
 pub put-collection-spec : {M : Type 1} → statement M
 put-collection-spec =
     tie.close
-    (tie.spec (λ c κs. search needs) (λ c. search needs) (λ c. search needs) (λ c κs. search needs) (λ c κs. search needs) (λ c. search needs) (λ c. search needs) (λ c. search needs) returns put-result-requires (λ c. search needs) (λ c. search needs) (λ c. search needs) (λ c. search needs) returns-2 put-result-requires-2 put-swept-requires (λ c. search needs) (λ c. search needs) (λ c. search needs) (λ c. search needs) (λ c. search needs) returns-3)
+    (tie.spec (λ c κs. search needs) (λ c. search needs) (λ c. search needs) (λ c κs. search needs)
+    (λ c κs. search needs) (λ c. search needs) (λ c. search needs) (λ c. search needs) (λ c. search needs) returns
+    put-result-requires (λ c. search needs) (λ c. search needs) (λ c. search needs) (λ c. search needs) returns-2
+    put-result-requires-2 put-swept-requires (λ c. search needs) (λ c. search needs) (λ c. search needs)
+    (λ c. search needs) (λ c. search needs) returns-3)

@@ -4,6 +4,7 @@ use Prim.Native.Nat.{_+_, _*_, _≤_}
 use native.Mathlib.Omega.{arith}
 use lib.ListN.{length}
 use lib.Seq.{length-take-le}
+use Rattle.machine.specs.Tally.{tally-words}
 use Rattle.refusal.proofs.Numbers.{when-fine, when-faulty}
 use Rattle.text.proofs.Written.{as-text}
 use Rattle.report.specs.declared.order.Order.{Order}
@@ -29,7 +30,7 @@ words : (c : tie.After-struct-known)
     → settings c .workers * (2 * length (entry (at-order c) .args .sizes .now) + 4) ≤ length (entry (at-order c) .args .work .now)
 words c = words-fit (entry (at-order c) .pre) (at-order c .order-of .ensures) (fine c)
 
-tallied : (c : tie.After-struct-known) → settings c .workers * 4 ≤ length (entry (at-order c) .args .tallies .now)
+tallied : (c : tie.After-struct-known) → settings c .workers * tally-words ≤ length (entry (at-order c) .args .tallies .now)
 tallied c = tallies-fit (entry (at-order c) .pre) (at-order c .order-of .ensures) (fine c)
 
 returns : tie.Need-returns
