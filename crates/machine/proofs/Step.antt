@@ -22,7 +22,7 @@ use Rattle.graph.proofs.Formed.{both-true}
 use Rattle.graph.proofs.OverMarked.{over-below}
 use Rattle.machine.specs.Run.{Run, run, carried, runFrom, keep, half}
 use Rattle.machine.specs.Machine.{Setting, State, Worker, idle, asking, denied, ended, busy, Cell, empty, from, Phase, poll, look, claim, phase, worker, markOf, claimMark}
-use Rattle.machine.specs.Machine.{runsOf, carriedBy, carries?, carriedAll, live, shares, giver, receiver, Claimed, claimWon, onwardRuns, follows}
+use Rattle.machine.specs.Machine.{runsOf, carriedBy, carries?, carriedAll, live, shares, giver, receiver, Claimed, notClaimed, claimLost, claimWon, onwardRuns, follows}
 use Rattle.machine.specs.Accepted.{Accepted}
 use Rattle.machine.specs.Sound.{Marked, Within, Whole, WholeInside, Carries, batchOf, Working, WorkerSound, holds, waits, stopped, sinceOf, runsSum, heldSum, Sound, asks?}
 use Rattle.machine.specs.Sound.{phaseTurns, turnsOf, upTo}
@@ -158,10 +158,10 @@ module _ {G : Graph} {starts : List ℕ} {W : ℕ} {g : Setting} {s : State} (A 
     below : target G e < length (s .marks)
     below = omega (arith, S .marks-length, first-target A S b q)
 
-    -- the target is marked already, with a claim lost or without
-    opens-none : (k x : ℕ) → markOf s (target G e) ≡ suc x → Opens G W s e (record { marks = s .marks; opened = []; won = 0; lost = k })
+    -- the target is marked already
+    opens-lost : (x : ℕ) → markOf s (target G e) ≡ suc x → Opens G W s e (claimLost s)
     unfolding runsSum sum
-    opens-none k x m =
+    opens-lost x m =
         let there = one-target (s .marks) e (omega (arith, m, default (s .marks) (target G e) 0 1 below)) in
         record {
           over-is = λ (f : ℕ → ℕ). omega arith;
@@ -171,6 +171,12 @@ module _ {G : Graph} {starts : List ℕ} {W : ℕ} {g : Setting} {s : State} (A 
           within = tt;
           whole = tt;
         }
+
+    -- with a claim that is lost or without one
+    opens-seen : (x : ℕ) → markOf s (target G e) ≡ suc x → Opens G W s e (notClaimed s)
+    opens-seen x m =
+        let t = opens-lost x m in
+        record { over-is = t .over-is; marking = t .marking; lives = t .lives; few = t .few; within = t .within; whole = t .whole }
 
     opens-won : markOf s (target G e) ≡ 0 → Opens G W s e (claimWon G s b (target G e))
     opens-won m =
@@ -202,8 +208,8 @@ module _ {G : Graph} {starts : List ℕ} {W : ℕ} {g : Setting} {s : State} (A 
         }
 
     opens : {p′ : Phase} {k : ℕ} {o : Claimed} → Taken G s b e p′ k o → Opens G W s e o
-    opens (seen {x = x} m) = opens-none 0 x m
-    opens (lost {x = x} m) = opens-none 1 x m
+    opens (seen {x = x} m) = opens-seen x m
+    opens (lost {x = x} m) = opens-lost x m
     opens (won m) = opens-won m
 
     left : (o : Claimed) → Opens G W s e o → Left G s e j rs (o .marks) (onwardRuns e j (o .opened) rs)
