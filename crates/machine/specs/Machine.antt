@@ -165,13 +165,13 @@ abbrev pub receiver : List Run → Worker
 receiver rs = given (rest (half (carried rs)) rs)
 
 -- the state where worker b's tally counts so much more
-abbrev pub tallies : State → ℕ → Tally → State
-tallies s b y = record { marks = s .marks; workers = s .workers; tallies = tallied (s .tallies) b y; counts = s .counts }
+abbrev pub raises : State → ℕ → Tally → State
+raises s b y = record { marks = s .marks; workers = s .workers; tallies = tallied (s .tallies) b y; counts = s .counts }
 
 -- The answer to asker a at a poll: a hand-over, which the tally of b counts, or a refusal. Then batch is the smaller of D
 -- and what is carried.
 abbrev pub answer : Bool → Setting → State → ℕ → ℕ → ℕ → List Run → State
-answer true g s b a n rs = moves (tallies s b (tally 0 0 0 1)) (set (set (s .workers) b (giver g n rs)) a (receiver rs)) 1 0
+answer true g s b a n rs = moves (raises s b (tally 0 0 0 1)) (set (set (s .workers) b (giver g n rs)) a (receiver rs)) 1 0
 answer false g s b a n rs =
     moves s (set (set (s .workers) b (busy empty n (phase (min (g .batch) (carried rs))) rs)) a denied) 0 1
 
