@@ -45,7 +45,7 @@ raise-requires c κs =
     let start = c .before .before .before .before .before .before .before .before .before .before .before .before .before .before in
     let x = start .pre in
     let won = won-limit (c .before) in
-    raisable (x .scene) (x .holds) (start .args .b) (claim-low x) (claimTally (c .before .opens .result)) (omega arith) won (omega arith) (omega arith)
+    raisable (x .scene) (x .holds) (start .args .b) (claim-low x) _ (omega arith) (omega (arith, won)) (omega (arith, won)) (omega arith)
 
 follow-requires : tie.Need-follow-requires
 follow-requires c κs =

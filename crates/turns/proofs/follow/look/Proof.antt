@@ -25,7 +25,7 @@ raise-requires : tie.Need-raise-requires
 raise-requires c κs =
     let start = c .before .before .before .before .before .before .before .before .before .before .before in
     let x = start .pre in
-    raisable (x .scene) (x .holds) (start .args .b) (look-low x) (tally 1 0 0 0) (omega arith) (omega arith) (omega arith) (omega arith)
+    raisable (x .scene) (x .holds) (start .args .b) (look-low x) _ (omega arith) (omega arith) (omega arith) (omega arith)
 
 follow-requires : tie.Need-follow-requires
 follow-requires c κs =

@@ -4,7 +4,6 @@ use native.Mathlib.Omega.{arith}
 use mathlib.Core.Path.{ap}
 use Rattle.worker.specs.declared.registers.Block.{Block}
 use Rattle.machine.specs.Run.{carried}
-use Rattle.machine.specs.Tally.{tally}
 use Rattle.turns.proofs.Raising.{raisable}
 use Rattle.machine.proofs.Facts.{busy-carried-limit}
 use Rattle.turns.proofs.Bounds.{block-room, roomy}
@@ -69,7 +68,7 @@ raise-requires c κs =
     let start = entry (divided (stored c)) in
     let x = start .pre .1 .1 in
     let low = poll-low (x .scene) (x .holds) (start .args .b) (x .here .is) in
-    raisable (x .scene) (x .holds) (start .args .b) low (tally 0 0 0 1) (omega arith) (omega arith) (omega arith) (omega arith)
+    raisable (x .scene) (x .holds) (start .args .b) low _ (omega arith) (omega arith) (omega arith) (omega arith)
 
 moved-requires : tie.Need-moved-requires
 moved-requires c κs =
