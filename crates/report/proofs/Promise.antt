@@ -23,7 +23,9 @@ use Rattle.machine.specs.Call.{Call, settingOf, final}
 use Rattle.machine.specs.Machine.{result, entries, stretchLength}
 use Rattle.machine.specs.Tally.{tally-words}
 use Rattle.machine.specs.Demand2.{FinishedMarks}
+use Rattle.machine.specs.Accepted.{Accepted}
 use Rattle.machine.proofs.Accept.{checked}
+use Rattle.machine.proofs.Tallies.{tallies}
 use Rattle.sweep.specs.Sweep.{dead}
 use Rattle.sweep.proofs.Collection.{dead-upwards, dead-exactly}
 use Rattle.report.specs.declared.order.Order.{Order}
@@ -31,7 +33,7 @@ use Rattle.report.specs.Limits.{text-room}
 use Rattle.report.specs.Lines.{countLines, tallyLines}
 use Rattle.report.specs.Report.{Files, contentsOf, orderOf, scheduleOf, callOf, filesFault, headerFault, orderFault, callFault, programFault, resultText, programText}
 use Rattle.report.specs.Ready.{Prints}
-use Rattle.report.specs.Promise.{FinishedText, UnfinishedText, Promise}
+use Rattle.report.specs.Promise.{AddUp, FinishedText, UnfinishedText, Promise}
 use Rattle.report.proofs.Printed.{beside, passing-fault}
 use Rattle.report.proofs.Reading.{passing}
 
@@ -46,15 +48,19 @@ module _ (b : List ℕ) (clear : catalogueFault b ≡ 0) (o : Order) (schedule :
   range : InRange s
   range = whole-range b (whole-bytes b clear)
 
-  finished-marks : result (final call) .finished ≡ true → FinishedMarks (readGraph s) (startsOf s) (final call .marks)
-  finished-marks e =
+  accepted : Accepted (readGraph s) (startsOf s) (o .workers) (settingOf call)
+  accepted =
       let f = first-none (orderFault o) _ fine in
       let free = passing-fault o (passing b clear) (first-none _ _ (f .0) .0) refl refl refl schedule ∙ f .1 in
+      checked call (objects s) (o .workers * stretchLength (objects s)) (o .workers * tally-words) free .accepted
+
+  finished-marks : result (final call) .finished ≡ true → FinishedMarks (readGraph s) (startsOf s) (final call .marks)
+  finished-marks e =
       record {
         workers = o .workers;
         setting = settingOf call;
         turns = entries schedule;
-        accepted = checked call (objects s) (o .workers * stretchLength (objects s)) (o .workers * tally-words) free .accepted;
+        accepted = accepted;
         finished = e;
         marks-are = refl;
       }
@@ -70,21 +76,34 @@ module _ (b : List ℕ) (clear : catalogueFault b ≡ 0) (o : Order) (schedule :
         λ p. d .1 (let i = p .0 in omega arith, λ q. p .1 (c .1 q)),
       )
 
+  -- what the numbers add up to
+  adds-up : AddUp s (result (final call) .counts) (final call .tallies)
+  adds-up =
+      let t = tallies accepted (entries schedule) in
+      record { followed-total = t .followed-total; handed-total = t .handed-total; won-total = t .won-total }
+
   told-by : (x : Bool) → result (final call) .finished ≡ x
       → FinishedText s (resultText (result (final call)) (final call .tallies) (s .sizes) (final call .marks))
-      ⊎ UnfinishedText (resultText (result (final call)) (final call .tallies) (s .sizes) (final call .marks))
+      ⊎ UnfinishedText s (resultText (result (final call)) (final call .tallies) (s .sizes) (final call .marks))
   told-by true e =
       inl
       (record {
         counts = result (final call) .counts;
         tallies = final call .tallies;
+        add-up = adds-up;
         numbers = dead (final call .marks);
         upwards = dead-upwards 0 (final call .marks);
         exactly = dead-are e;
         lines-are = rw e;
       })
   told-by false e =
-      inr (record { counts = result (final call) .counts; tallies = final call .tallies; lines-are = rw e (append-nil (countLines false (result (final call) .counts) ++ tallyLines 0 (final call .tallies))) })
+      inr
+      (record {
+        counts = result (final call) .counts;
+        tallies = final call .tallies;
+        add-up = adds-up;
+        lines-are = rw e (append-nil (countLines false (result (final call) .counts) ++ tallyLines 0 (final call .tallies)));
+      })
 
 module _ (f : Files) where
   -- accepted files have neither a fault in the catalogue nor in the call
@@ -95,7 +114,7 @@ module _ (f : Files) where
       let n = first-none (headerFault (f .store)) _ (h .1) in
       first-none (catalogueFault (f .store)) _ (n .1)
 
-  told : programFault f ≡ 0 → FinishedText (storeOf (f .store)) (programText f) ⊎ UnfinishedText (programText f)
+  told : programFault f ≡ 0 → FinishedText (storeOf (f .store)) (programText f) ⊎ UnfinishedText (storeOf (f .store)) (programText f)
   told z = let c = clean z in rw z (told-by (f .store) (c .0) (orderOf (f .order)) (scheduleOf (f .order)) (c .1) _ refl)
 
   promise : Bytes (f .store) → Promise f (programText f)
@@ -104,7 +123,7 @@ module _ (f : Files) where
         refused = λ k. sym (beside (contentsOf (storeOf (f .store))) (orderOf (f .order)) (scheduleOf (f .order)) (programFault f) (programFault f) k refl);
         a-store = λ z. store-lies h (clean z .0);
         collected = λ z s l.
-            subst (λ (x : Store). FinishedText x (programText f) ⊎ UnfinishedText (programText f)) (laid-store s l) (told z);
+            subst (λ (x : Store). FinishedText x (programText f) ⊎ UnfinishedText x (programText f)) (laid-store s l) (told z);
       }
 
   -- of the bytes that stand in the buffer
