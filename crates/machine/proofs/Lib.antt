@@ -7,6 +7,7 @@ pub mod Change
 pub mod Step
 pub mod Tallied
 pub mod Kept
+pub mod Split
 pub mod Start
 pub mod Ended
 pub mod Demand2

@@ -16,3 +16,4 @@ pub mod Tallies
 pub mod Tally
 pub mod Run
 pub mod Sound
+pub mod Split

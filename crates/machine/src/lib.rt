@@ -1,5 +1,7 @@
 // The turn machine: definitions in specs/, what is proved of them in proofs/. The code is what a
 // result is made of, how turns count, and the limits of a setting.
+pub mod frontier;
+
 ghost use mathlib.Core.Path.{_≡_};
 ghost use Prim.Native.Nat.{_≤_};
 ghost use lib.ListN.{length};

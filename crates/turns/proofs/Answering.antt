@@ -26,6 +26,7 @@ use Rattle.turns.specs.declared.Setup.{Setup}
 use Rattle.turns.specs.declared.Progress.{Progress}
 use Rattle.turns.specs.Counting.{movedOn}
 use Rattle.turns.specs.Polling.{batchedBlock, sharedBlock, givenBlock}
+use Rattle.worker.specs.Stretch.{Sharing}
 use Rattle.turns.specs.Held.{memory, settingOf, stretchAt, phaseWord, nextTarget, topOf, BusyIs, Holds, Scene}
 use Rattle.turns.specs.Turned.{turned, Ready, IsPolling, IsAsked, Dividing, Divided}
 use Rattle.turns.proofs.Bounds.{block-room, stretch-room}
@@ -240,6 +241,17 @@ module _ {G : Graph} {g : Setup} {s : State} {marks work tallies regs : List ℕ
       -- the same, as the words tell it
       words : (blockAt regs b .cell - 1 ≡ a) × (blockAt regs b .carried ≡ carried rs)
       words = (omega (arith, asker-word), poll-carried b e)
+
+      pub sharing-words : Sharing (stretchAt (g .stretch) b work) (topOf (blockAt regs b)) (half (blockAt regs b .carried))
+          (blockAt regs b .carried - half (blockAt regs b .carried))
+      sharing-words =
+          rw (words .1)
+          (record {
+            runs = rs;
+            told = poll-is b e .carrying .told;
+            some = omega (arith, two-carried);
+            number = omega arith;
+          })
 
       pub dividing-words : Dividing (g .stretch) work b (blockAt regs b .cell - 1) (topOf (blockAt regs b)) (half (blockAt regs b .carried))
       dividing-words = rw (words .0, words .1) (dividing (half (carried rs)) refl)

@@ -10,8 +10,10 @@ use Rattle.machine.specs.Run.{Run, run, runFrom, carried, keep, rest}
 use Rattle.machine.specs.Tally.{tally, tallied, talliesWords}
 use Rattle.machine.specs.Machine.{State, idle, given, busy, Cell, from, Phase, poll, look, claim, worker, turn, shares, Claimed, follows, onwardRuns}
 use Rattle.machine.specs.Sound.{batchOf}
+use Rattle.machine.specs.Split.{held}
+use Rattle.machine.specs.declared.frontier.Held.the-variants.{Back}
 use Rattle.worker.specs.declared.stretch.Top.{Top}
-use Rattle.worker.specs.Stretch.{Told}
+use Rattle.worker.specs.Stretch.{Told, Sharing, CutFound}
 use Rattle.turns.specs.declared.Setup.{Setup}
 use Rattle.turns.specs.declared.follow.Opened.{Opened}
 use Rattle.turns.specs.Held.{Memory, settingOf, stretchAt, Holds, Scene}
@@ -118,6 +120,18 @@ pub record Dividing (L : ℕ) (work : List ℕ) (b a : ℕ) (t : Top) (k : ℕ) 
   pub other : a ≢ b
   pub giver-room : b * L + L ≤ length work
   pub asker-room : a * L + L ≤ length work
+
+-- b keeps its first run whole, and the cut is at the pair of its stretch that ends at `place`
+pub record Cutting (L : ℕ) (work : List ℕ) (b a : ℕ) (t : Top) (k place left : ℕ) : Type 0 where
+  pub dividing : Dividing L work b a t k
+  pub long : t .end - t .first ≤ k
+  pub found : CutFound (stretchAt L b work) (t .used) (k - (t .end - t .first)) place left
+
+-- the back holds the last reference that b keeps, and so many others are handed over
+pub record InBack (L : ℕ) (work : List ℕ) (b a : ℕ) (t : Top) (k others : ℕ) : Type 0 where
+  pub dividing : Dividing L work b a t k
+  pub sharing : Sharing (stretchAt L b work) t k others
+  pub held-is : held k (sharing .runs) ≡ Back
 
 -- b keeps the first k, a gets the others, and the other stretches stay
 pub record Divided (L : ℕ) (work : List ℕ) (b a : ℕ) (t : Top) (k : ℕ) (work′ : List ℕ) (kept given : Top) : Type 0 where

@@ -1,22 +1,29 @@
 // The turn of a worker that polls: it answers the asker in its cell, and a batch begins.
 use crate::Progress;
 use crate::Setup;
+use machine::frontier::Held;
 use worker::registers;
 use worker::registers::Block;
 use worker::stretch;
+use worker::stretch::Cut;
 use worker::stretch::Top;
 ghost use mathlib.Core.Path.{_≡_};
 ghost use mathlib.Core.Bool.{true, false};
 ghost use mathlib.Core.List.{List};
-ghost use Prim.Native.Nat.{ℕ, min};
+ghost use Prim.Native.Nat.{ℕ, min, _-_, _≤_};
+ghost use Rattle.machine.specs.declared.frontier.Held.the-variants.{Front, Back, Middle};
 ghost use Rattle.machine.specs.Machine.{shares as sharing};
+ghost use Rattle.machine.specs.Split.{held as holder};
 ghost use Rattle.worker.specs.Registers.{blockAt};
-ghost use Rattle.turns.specs.Held.{memory};
-ghost use Rattle.turns.specs.Turned.{Ready, DoesAny, IsPolling, IsAsked, Dividing, Divided};
+ghost use Rattle.worker.specs.Stretch.{Sharing};
+ghost use Rattle.turns.specs.Held.{memory, stretchAt};
+ghost use Rattle.turns.specs.Turned.{Ready, DoesAny, IsPolling, IsAsked, Dividing, Cutting, InBack, Divided};
 ghost use Rattle.turns.specs.Polling.{sharedBlock, givenBlock};
 
-// The runs of the worker that shares and of the asker, after the hand-over.
+// What a hand-over leaves: which part held the last reference kept, and the runs of the worker that
+// shares and of the asker.
 struct Parts {
+    pub held: Held,
     pub kept: Top,
     pub given: Top,
 }
@@ -28,52 +35,96 @@ fn least(a: u32, b: u32) -> u32
     if a < b { a } else { b }
 }
 
-// A hand-over in the work memory: worker b, whose runs are told by `top`, keeps its first k
-// references, and the asker gets the others.
-fn divide(work: &mut [u32], len: usize, b: u32, asker: u32, top: Top, k: u32) -> Parts
-    requires { ⌜ Dividing len (now work) b asker top k ⌝ }
+// The front holds the last reference kept: the asker gets what is left of it and all pairs. (Where the
+// paper cuts `r1`, it hands over the rest of `r1` alone, which is too little.)
+fn cut_front(work: &mut [u32], len: usize, b: u32, asker: u32, top: Top, k: u32) -> Parts
+    requires { ⌜ Dividing len (now work) b asker top k × (k ≤ top .end - top .first) ⌝ }
+    ensures { λ r. ⌜ r .held ≡ Front ⌝ }
     ensures { λ r. ⌜ Divided len (now (work .entry)) b asker top k (now (work .exit)) (r .kept) (r .given) ⌝ }
 {
     let from = b as usize * len;
-    let to = asker as usize * len;
-    let used = top.used;
-    let first = top.first;
-    let end = top.end;
-    let size = end - first;
-    if k < size {
-        stretch::copy_words(work, from, to, used as usize);
-        return Parts {
-            kept: Top {
-                used: 0,
-                first,
-                end: first + k,
-            },
-            given: Top {
-                used,
-                first: first + k,
-                end,
-            },
-        };
-    }
-    let cut = stretch::find_cut(&work[from..from + len], used, k - size);
-    let place = cut.place;
-    let left = cut.left;
-    let at = from + place as usize - 2;
-    let next = work[at] + left;
-    let last = work[at + 1];
-    stretch::copy_words(work, from, to, place as usize - 2);
-    let kept = stretch::keep_above(&mut work[from..from + len], used, cut);
+    let given = stretch::behind_front(&work[from..from + len], top, k);
+    stretch::copy_words(work, from, asker as usize * len, given.used as usize);
     Parts {
+        held: Held::Front,
         kept: Top {
-            used: kept,
+            used: 0,
+            first: top.first,
+            end: top.first + k,
+        },
+        given,
+    }
+}
+
+// The back holds it: the asker gets its last `rest` references, and no word moves.
+fn cut_back(work: &mut [u32], len: usize, b: u32, top: Top, rest: u32) -> Parts
+    requires { ⌜ ((a : ℕ) × ((k : ℕ) × InBack len (now work) b a top k rest)) ⌝ }
+    ensures { λ r. ⌜ r .held ≡ Back ⌝ }
+    ensures { λ r. ⌜ ((a k : ℕ) → InBack len (now (work .entry)) b a top k rest
+        → Divided len (now (work .entry)) b a top k (now (work .exit)) (r .kept) (r .given)) ⌝ }
+{
+    let from = b as usize * len;
+    let end = work[from + 1];
+    let first = stretch::cut_back(&mut work[from..from + len], rest);
+    Parts {
+        held: Held::Back,
+        kept: top,
+        given: Top {
+            used: 0,
             first,
             end,
         },
+    }
+}
+
+// The middle holds it: worker b keeps what stands above the cut, the asker gets what stands below it,
+// and the pair at the cut may be cut itself.
+fn cut_middle(work: &mut [u32], len: usize, b: u32, asker: u32, top: Top, cut: Cut) -> Parts
+    requires { ⌜ ((k : ℕ) × Cutting len (now work) b asker top k (cut .place) (cut .left)) ⌝ }
+    ensures { λ r. ⌜ r .held ≡ Middle ⌝ }
+    ensures { λ r. ⌜ ((k : ℕ) → Cutting len (now (work .entry)) b asker top k (cut .place) (cut .left)
+        → Divided len (now (work .entry)) b asker top k (now (work .exit)) (r .kept) (r .given)) ⌝ }
+{
+    let from = b as usize * len;
+    let below = cut.place - 2;
+    let at = from + below as usize;
+    let next = work[at] + cut.left;
+    let last = work[at + 1];
+    stretch::copy_words(work, from, asker as usize * len, below as usize);
+    let used = stretch::keep_above(&mut work[from..from + len], top.used, cut);
+    Parts {
+        held: Held::Middle,
+        kept: Top {
+            used,
+            first: top.first,
+            end: top.end,
+        },
         given: Top {
-            used: place - 2,
+            used: below,
             first: next,
             end: last,
         },
+    }
+}
+
+// A hand-over in the work memory: worker b, whose runs are told by `top`, keeps its first k references,
+// and the asker gets the others, `rest` of them. As in the paper's `split` the front is looked at first
+// (its `r1`), then the back (`r2`); only where the cut is in the middle (`vs`) are runs walked over.
+fn divide(work: &mut [u32], len: usize, b: u32, asker: u32, top: Top, k: u32, rest: u32) -> Parts
+    requires { ⌜ Dividing len (now work) b asker top k × Sharing (stretchAt len b (now work)) top k rest ⌝ }
+    ensures { λ r. ⌜ ((x : Dividing len (now (work .entry)) b asker top k) → r .held ≡ holder k (x .runs)) ⌝ }
+    ensures { λ r. ⌜ Divided len (now (work .entry)) b asker top k (now (work .exit)) (r .kept) (r .given) ⌝ }
+{
+    let from = b as usize * len;
+    let held = stretch::held(&work[from..from + len], top, k, rest);
+    match held {
+        Held::Front => cut_front(work, len, b, asker, top, k),
+        Held::Back => cut_back(work, len, b, top, rest),
+        Held::Middle => {
+            let beyond = k - (top.end - top.first);
+            let cut = stretch::find_cut(&work[from..from + len], top.used, beyond);
+            cut_middle(work, len, b, asker, top, cut)
+        }
     }
 }
 
@@ -136,9 +187,10 @@ fn share(
         first: r.first,
         end: r.end,
     };
-    let parts = divide(work, setup.stretch, b, asker, top, half);
+    let rest = carried - half;
+    let parts = divide(work, setup.stretch, b, asker, top, half, rest);
     registers::store(regs, b, shared(r, setup.batch, half, parts.kept));
-    registers::store(regs, asker, given(parts.given, carried - half));
+    registers::store(regs, asker, given(parts.given, rest));
     crate::raise(tallies, b, 0, 0, 0, 1);
     crate::moved(p, 1, 0)
 }

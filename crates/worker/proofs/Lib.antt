@@ -4,4 +4,5 @@ pub mod Cutting
 pub mod Ends
 pub mod Next
 pub mod Pairs
+pub mod Parting
 pub mod Settling

@@ -83,6 +83,20 @@ pub record Lowered (s : List ℕ) (at : ℕ) (s′ : List ℕ) (t : Top) : Type 
 
 -- ---- sharing
 
+-- runs in words, of whose references the first k are kept and the others, at least one, are handed over
+pub record Sharing (s : List ℕ) (t : Top) (k others : ℕ) : Type 0 where
+  pub runs : List Run
+  pub told : Told runs t s
+  pub some : 1 ≤ others
+  pub number : carried runs ≡ k + others
+
+-- runs in words, of whose references the first run holds the first k, and there are more
+pub record InFront (s : List ℕ) (t : Top) (k : ℕ) : Type 0 where
+  pub runs : List Run
+  pub told : Told runs t s
+  pub enough : k < carried runs
+  pub short : k ≤ t .end - t .first
+
 -- words that `copy_words` may copy in ascending order
 pub record Copyable (w : List ℕ) (from to count : ℕ) : Type 0 where
   pub source : from + count ≤ length w

@@ -7,6 +7,7 @@
 //!   reads one mark and following touches no work memory while that run lasts.
 //! - Poll, look and claim are codes of the status, so a turn branches once on what to do.
 //! - `since` and `carried` are brought forward by a whole batch at the poll that begins it.
+//! - A hand-over walks over runs only where its cut is in the middle, and moves no word where it is in the back.
 //! - Nothing is counted at a turn that can be worked out at the end.
 //! - The words behind the runs are cleared once, at the end, and there are no turns after the last worker has ended.
 
@@ -249,44 +250,67 @@ impl Machine<'_> {
         giver.since = 0;
         giver.cell = 0;
 
-        let size = giver.end - giver.first;
-        let (base, mut top) = (giver.base as usize, giver.top as usize);
-        let below;
-        if half < size {
-            // Within the run being followed.
-            below = top;
-            asker.aim(giver.first + half, giver.end, self.targets);
-            giver.end = giver.first + half;
-            giver.top = giver.base;
+        // The front, then the back, then the middle: only there are runs walked over.
+        let base = giver.base as usize;
+        if half <= giver.end - giver.first {
+            self.cut_front(&mut giver, &mut asker);
+        } else if asker.carried < self.work[base + 1] - self.work[base] {
+            self.cut_back(&giver, &mut asker);
         } else {
-            let mut left = half - size;
-            let (mut first, mut end) = (self.work[top - 2], self.work[top - 1]);
-            while left >= end - first {
-                left -= end - first;
-                top -= 2;
-                (first, end) = (self.work[top - 2], self.work[top - 1]);
-            }
-            // Within the run below `top`, or between it and the next.
-            below = top - 2;
-            asker.aim(first + left, end, self.targets);
-        }
-        let given = below - base;
-        self.work.copy_within(base..below, asker.base as usize);
-        asker.top = asker.base + given as u32;
-        if half >= size {
-            // What is left of the cut run is kept, below the runs above it.
-            let kept = if asker.first > self.work[below] {
-                self.work[below + 1] = asker.first;
-                below
-            } else {
-                below + 2
-            };
-            self.work.copy_within(kept..giver.top as usize, base);
-            giver.top -= (kept - base) as u32;
+            self.cut_middle(&mut giver, &mut asker);
         }
         self.workers[usize::from(b & 15)] = giver;
         self.workers[a] = asker;
         self.counts.carrying += 1;
+    }
+
+    /// The run being followed is cut, or ends where the kept half does; the asker gets all the others.
+    fn cut_front(&mut self, giver: &mut Worker, asker: &mut Worker) {
+        let (base, mut top) = (giver.base as usize, giver.top as usize);
+        let cut = giver.first + giver.carried;
+        if cut < giver.end {
+            asker.aim(cut, giver.end, self.targets);
+            giver.end = cut;
+        } else {
+            top -= 2;
+            asker.aim(self.work[top], self.work[top + 1], self.targets);
+        }
+        self.work.copy_within(base..top, asker.base as usize);
+        asker.top = asker.base + (top - base) as u32;
+        giver.top = giver.base;
+    }
+
+    /// The lowest pair is cut: the asker gets the end of its run, and no word moves.
+    fn cut_back(&mut self, giver: &Worker, asker: &mut Worker) {
+        let end = &mut self.work[giver.base as usize + 1];
+        let cut = *end - asker.carried;
+        asker.aim(cut, *end, self.targets);
+        asker.top = asker.base;
+        *end = cut;
+    }
+
+    /// A pair between them is cut, or the half ends above it: what is above stays, what is below goes.
+    fn cut_middle(&mut self, giver: &mut Worker, asker: &mut Worker) {
+        let (base, mut below) = (giver.base as usize, giver.top as usize - 2);
+        let mut left = giver.carried - (giver.end - giver.first);
+        let (mut first, mut end) = (self.work[below], self.work[below + 1]);
+        while left >= end - first {
+            left -= end - first;
+            below -= 2;
+            (first, end) = (self.work[below], self.work[below + 1]);
+        }
+        asker.aim(first + left, end, self.targets);
+        self.work.copy_within(base..below, asker.base as usize);
+        asker.top = asker.base + (below - base) as u32;
+        // What is left of the cut run is kept, below the runs above it.
+        let kept = if left > 0 {
+            self.work[below + 1] = asker.first;
+            below
+        } else {
+            below + 2
+        };
+        self.work.copy_within(kept..giver.top as usize, base);
+        giver.top -= (kept - base) as u32;
     }
 
     /// All turns, or those up to the end of the last worker; how many changed something.

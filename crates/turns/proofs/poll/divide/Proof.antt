@@ -1,93 +1,103 @@
--- `divide`: the cut is in the run being followed, or `find_cut` finds it; each exit is one law.
-use Prim.Native.Nat.{_-_}
+-- `divide`: the part that holds the last reference kept says which cut is made.
+use Prim.Native.Nat.{ℕ, _-_, _<_}
+use mathlib.Core.Path.{_≡_, sym, _∙_}
 use native.Mathlib.Omega.{arith}
-use Rattle.turns.proofs.Dividing.{Reached, top-order, used-room, copyable, divided-top, cuttable, placed, cleft, divided-below}
+use Rattle.machine.specs.declared.frontier.Held.{Held}
+use Rattle.machine.specs.Split.{held}
+use Rattle.worker.proofs.Parting.{told-front, told-middle}
+use Rattle.turns.proofs.Dividing.{top-order, held-same, sharing-lent, cuttable, cutting-found}
 use borrow.Author.Needs.{needs}
 use Rattle.turns.proofs.poll.divide.Statement.{statement}
 use Rattle.turns.proofs.poll.divide.Tie as tie
 
--- what is known once the cut is found
-reached : (c : tie.After-find-cut) → let a = c .before .before .before .before .before .args in
-    Reached (a .len) (a .work .now) (a .b) (a .asker) (a .top) (a .k) (c .find-cut .result .place) (c .find-cut .result .left)
-reached c =
-    let at-if = c .before .before .before in
-    record {
-      dividing = at-if .before .before .pre;
-      long = at-if .if1 .left;
-      found = c .find-cut .ensures;
-      small = λ i. omega (arith, at-if .before .slice-known .given i);
-    }
+-- where the part is answered, from there to the entry, and what the answer says
+abbrev entry : tie.After-held → tie.Start
+entry c = c .before .before .before .before
 
-sub-size : tie.Need-sub-size
-sub-size c = top-order (c .before .pre)
+answered : (c : tie.After-held) → c .held .result ≡ held (entry c .args .k) (entry c .pre .1 .runs)
+answered c =
+    let a = entry c .args in
+    c .held .ensures (sharing-lent (a .len) (a .b) (a .work .now) (entry c .pre .1))
 
-copy-words-requires : tie.Need-copy-words-requires
-copy-words-requires c κs =
+held-requires : tie.Need-held-requires
+held-requires c κs =
     let start = c .before .before .before in
-    copyable (start .pre) (start .args .top .used) (used-room (start .pre))
+    sharing-lent (start .args .len) (start .args .b) (start .args .work .now) (start .pre .1)
 
-returns : tie.Need-returns
-returns c =
-    let at-copy = c .before .before in
-    let at-if = at-copy .before .before in
-    divided-top (at-if .before .before .pre) (at-if .if1 .taken) _ (at-copy .copy-words .ensures)
+cut-front-requires : tie.Need-cut-front-requires
+cut-front-requires c κs =
+    let told = c .before in
+    let at = told .before .before in
+    (entry at .pre .0, told-front (entry at .pre .1) (sym (answered at) ∙ told .enum-told .given .1))
+
+cut-back-requires : tie.Need-cut-back-requires
+cut-back-requires c κs =
+    let told = c .before in
+    let at = told .before .before in
+    let start = entry at in
+    (start .args .asker, (start .args .k, record { dividing = start .pre .0; sharing = start .pre .1; held-is = sym (answered at) ∙ told .enum-told2 .given .1 }))
+
+-- in the middle more is kept than the front holds
+beyond : (c : tie.After-enum-told3) → let a = entry (c .before .before) .args in a .top .end - a .top .first < a .k
+beyond c =
+    let at = c .before .before in
+    told-middle (entry at .pre .1) (sym (answered at) ∙ c .enum-told3 .given .1)
+
+sub-beyond : tie.Need-sub-beyond
+sub-beyond c = top-order (entry (c .before .before .before) .pre .0)
+
+sub-beyond-2 : tie.Need-sub-beyond-2
+sub-beyond-2 c = omega (arith, beyond (c .before))
 
 find-cut-requires : tie.Need-find-cut-requires
 find-cut-requires c κs =
-    let at-if = c .before .before in
-    cuttable (at-if .before .before .pre) (at-if .if1 .left)
+    let told = c .before .before .before in
+    cuttable (entry (told .before .before) .pre .0) (omega (arith, beyond told))
 
-sub-at : tie.Need-sub-at
-sub-at c =
-    let q = placed (reached c) in
-    omega arith
+cut-middle-requires : tie.Need-cut-middle-requires
+cut-middle-requires c κs =
+    let at-find = c .before in
+    let told = at-find .before .before .before .before in
+    let start = entry (told .before .before) in
+    (start .args .k, cutting-found (start .pre .0) (omega (arith, beyond told)) (at-find .find-cut .ensures))
 
-slice-read-next : tie.Need-slice-read-next
-slice-read-next c =
-    let q = placed (reached (c .before)) in
-    omega arith
-
-add-next : tie.Need-add-next
-add-next c = omega (arith, placed (reached (c .before)) .fits)
-
-slice-read-last : tie.Need-slice-read-last
-slice-read-last c =
-    let q = placed (reached (c .before .before)) in
-    omega arith
-
-sub-copy-words : tie.Need-sub-copy-words
-sub-copy-words c = placed (reached (c .before .before .before)) .low
-
-copy-words-requires-2 : tie.Need-copy-words-requires-2
-copy-words-requires-2 c κs =
-    let q = reached (c .before .before .before) in
-    let p = placed q in
-    copyable (q .dividing) (c .before .before .before .find-cut .result .place - 2) (omega arith)
-
-keep-above-requires : tie.Need-keep-above-requires
-keep-above-requires c κs =
-    let at-copy = c .before .before .before in
-    cleft (reached (at-copy .before .before .before .before)) _ (at-copy .copy-words2 .ensures)
-
-sub-t35 : tie.Need-sub-t35
-sub-t35 c =
-    let at-copy = c .before .before .before .before .before .before in
-    placed (reached (at-copy .before .before .before .before)) .low
+returns : tie.Need-returns
+returns c =
+    let at-call = c .before .before in
+    let told = at-call .before .before in
+    let at = told .before .before in
+    let e = at-call .cut-front .ensures in
+    (λ x. held-same x (entry at .pre .1) (sym (answered at) ∙ told .enum-told .given .1) (e .0), e .1)
 
 returns-2 : tie.Need-returns-2
 returns-2 c =
-    let at-keep = c .before .before in
-    let at-copy = at-keep .before .before .before .before in
-    divided-below (reached (at-copy .before .before .before .before)) _ (at-copy .copy-words2 .ensures)
-    _ _ (at-keep .keep-above .kept .0) (at-keep .keep-above .ensures)
+    let at-call = c .before .before in
+    let told = at-call .before .before in
+    let at = told .before .before in
+    let start = entry at in
+    let h = sym (answered at) ∙ told .enum-told2 .given .1 in
+    let e = at-call .cut-back .ensures in (
+      λ x. held-same x (start .pre .1) h (e .0),
+      e .1 (start .args .asker) (start .args .k) (record { dividing = start .pre .0; sharing = start .pre .1; held-is = h }),
+    )
+
+returns-3 : tie.Need-returns-3
+returns-3 c =
+    let at-call = c .before .before in
+    let at-find = at-call .before .before in
+    let told = at-find .before .before .before .before in
+    let at = told .before .before in
+    let start = entry at in
+    let e = at-call .cut-middle .ensures in (
+      λ x. held-same x (start .pre .1) (sym (answered at) ∙ told .enum-told3 .given .1) (e .0),
+      e .1 (start .args .k) (cutting-found (start .pre .0) (omega (arith, beyond told)) (at-find .find-cut .ensures)),
+    )
 
 pub divide-spec : {M : Type 1} → statement M
 divide-spec =
     tie.close
-    (tie.spec (λ c. search needs) (λ c. search needs) sub-size (λ c. search needs) copy-words-requires
-    (λ c. search needs) (λ c. search needs) (λ c. search needs) returns (λ c. search needs) (λ c. search needs)
-    (λ c. search needs) (λ c. search needs) (λ c. search needs) find-cut-requires (λ c. search needs)
-    (λ c. search needs) sub-at (λ c. search needs) slice-read-next add-next (λ c. search needs) (λ c. search needs)
-    slice-read-last (λ c. search needs) sub-copy-words copy-words-requires-2 (λ c. search needs) (λ c. search needs)
-    (λ c. search needs) (λ c. search needs) (λ c. search needs) keep-above-requires sub-t35 (λ c. search needs)
-    returns-2)
+    (tie.spec (λ c. search needs) (λ c. search needs) (λ c. search needs) (λ c. search needs) (λ c. search needs)
+    (λ c. search needs) held-requires (λ c. search needs) cut-front-requires (λ c. search needs) cut-back-requires
+    (λ c. search needs) sub-beyond sub-beyond-2 (λ c. search needs) (λ c. search needs) (λ c. search needs)
+    (λ c. search needs) (λ c. search needs) find-cut-requires cut-middle-requires (λ c. search needs) returns
+    (λ c. search needs) returns-2 (λ c. search needs) returns-3)

@@ -1,5 +1,5 @@
 -- `share`: the work memory is divided, and both blocks are written.
-use Rattle.turns.proofs.Answering.{poll-low, poll-is, asker-low, asker-word, dividing-words, holds-shared}
+use Rattle.turns.proofs.Answering.{poll-low, poll-is, asker-low, asker-word, dividing-words, sharing-words, holds-shared}
 use native.Mathlib.Omega.{arith}
 use mathlib.Core.Path.{ap}
 use Rattle.worker.specs.declared.registers.Block.{Block}
@@ -34,7 +34,10 @@ divide-requires : tie.Need-divide-requires
 divide-requires c κs =
     let start = c .before .before .before .before .before in
     let x = start .pre .1 .1 in
-    rw (start .pre .0) (dividing-words (x .scene) (x .holds) (start .args .b) (x .here .is) (x .here .answers))
+    rw (start .pre .0) (
+      dividing-words (x .scene) (x .holds) (start .args .b) (x .here .is) (x .here .answers),
+      sharing-words (x .scene) (x .holds) (start .args .b) (x .here .is) (x .here .answers),
+    )
 
 -- back from the blocks that are written to the work memory that is divided, and from there to the entry
 abbrev divided : tie.After-store → tie.After-divide
@@ -85,7 +88,7 @@ returns c =
     let at-shared = at-store .before in
     let at-divide = at-shared .before .before .before .before in
     let start = at-divide .before .before .before .before .before .before in
-    let d = rw (start .pre .0) at (at-divide .divide .ensures) in
+    let d = rw (start .pre .0) at (at-divide .divide .ensures .1) in
     λ marks v x.
     rw (at-raise .raise .ensures, at-store2 .store2 .ensures, at-store .store .ensures, at-shared .shared .ensures, at-given .given .ensures, c .moved .ensures, start .pre .0)
     (holds-shared (x .scene) (x .holds) (start .args .b) (x .here .is) (x .here .answers) v _ _ _ d)
@@ -93,6 +96,5 @@ returns c =
 pub share-spec : {M : Type 1} → statement M
 share-spec =
     tie.close
-    (tie.spec sub-asker add-half divide-requires (λ c κs. search needs) store-requires (λ c. search needs)
-    (λ c κs. search needs) store-requires-2 raise-requires moved-requires (λ c. search needs) (λ c. search needs)
-    (λ c. search needs) returns)
+    (tie.spec sub-asker add-half (λ c. search needs) divide-requires (λ c κs. search needs) store-requires (λ c κs. search needs)
+    store-requires-2 raise-requires moved-requires (λ c. search needs) (λ c. search needs) (λ c. search needs) returns)
