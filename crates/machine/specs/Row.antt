@@ -1,6 +1,6 @@
 -- SPECIFICATION 2 and 4.6: what a call returns, as one row: the number of a refusal (0 for none), whether the
 -- collection is finished, and its counts.
-use Prim.Native.Nat.{ℕ, _+_, _-_, _<_, _^_}
+use Prim.Native.Nat.{ℕ, _+_, _-_}
 use mathlib.Core.Bool.{Bool, false}
 use mathlib.Core.List.{List, [], _∷_}
 use Rattle.machine.specs.declared.Counts.{Counts}
@@ -17,15 +17,6 @@ freshCounts live carrying = record { live = live; followed = 0; handed = 0; refu
 -- beside a refusal every other number is 0
 abbrev pub refusedRow : ℕ → Row
 refusedRow k = record { number = k; finished = false; counts = freshCounts 0 0 }
-
--- none of the counts is at its end
-pub record Roomy (c : Counts) : Type 0 where
-  pub live : c .live + 1 < 2 ^ 64
-  pub followed : c .followed + 1 < 2 ^ 64
-  pub handed : c .handed + 1 < 2 ^ 64
-  pub refused : c .refused + 1 < 2 ^ 64
-  pub moved : c .moved + 1 < 2 ^ 64
-  pub carrying : c .carrying + 1 < 2 ^ 64
 
 -- the counts after a turn that changes something and follows nothing: so many more handed and refused. A hand-over makes
 -- its asker one more worker that carries

@@ -1,11 +1,10 @@
 // The turn machine: definitions in specs/, what is proved of them in proofs/. The code is what a
-// result is made of, how turns count, and the limits of a setting.
+// result is made of, and the limits of a setting.
 pub mod frontier;
 
 ghost use mathlib.Core.Path.{_≡_};
-ghost use Prim.Native.Nat.{_≤_};
 ghost use lib.ListN.{length};
-ghost use Rattle.machine.specs.Row.{Roomy, freshCounts, countMove, countFollow, counts-number, countWords};
+ghost use Rattle.machine.specs.Row.{counts-number, countWords};
 
 // The most workers, and the largest batch and cutoff.
 pub const MOST_WORKERS: u32 = 16;
@@ -28,52 +27,6 @@ pub struct Counts {
 
 // How many counts there are.
 pub const COUNTS: usize = 6;
-
-// The counts before the first turn, with so many marks set and workers that carry references.
-pub fn fresh(live: u64, carrying: u64) -> Counts
-    ensures { λ r. ⌜ r ≡ freshCounts live carrying ⌝ }
-{
-    Counts {
-        live,
-        followed: 0,
-        handed: 0,
-        refused: 0,
-        moved: 0,
-        carrying,
-    }
-}
-
-// The counts after a turn that follows nothing, with so many more handed and refused. An asker carries
-// from its hand-over on.
-pub fn count_move(c: Counts, handed: u64, refused: u64) -> Counts
-    requires { ⌜ Roomy c × (handed ≤ 1) × (refused ≤ 1) ⌝ }
-    ensures { λ r. ⌜ r ≡ countMove c handed refused ⌝ }
-{
-    Counts {
-        live: c.live,
-        followed: c.followed,
-        handed: c.handed + handed,
-        refused: c.refused + refused,
-        moved: c.moved + 1,
-        carrying: c.carrying + handed,
-    }
-}
-
-// The counts after a turn that follows a reference, with so many more live and refused, and so many
-// workers left with nothing.
-pub fn count_follow(c: Counts, live: u64, refused: u64, emptied: u64) -> Counts
-    requires { ⌜ Roomy c × (live ≤ 1) × (refused ≤ 1) × (emptied ≤ c .carrying) ⌝ }
-    ensures { λ r. ⌜ r ≡ countFollow c live refused emptied ⌝ }
-{
-    Counts {
-        live: c.live + live,
-        followed: c.followed + 1,
-        handed: c.handed,
-        refused: c.refused + refused,
-        moved: c.moved + 1,
-        carrying: c.carrying - emptied,
-    }
-}
 
 // The counts as words, in the struct's order.
 pub fn put_counts(c: Counts, words: &mut [u64])

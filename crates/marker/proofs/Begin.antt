@@ -23,9 +23,10 @@ use Rattle.worker.specs.Registers.{Room, storeAt, Stored}
 use Rattle.worker.specs.Stretch.{Told, Lowerable, Lowered}
 use Rattle.worker.proofs.Blocks.{store-stored}
 use Rattle.laws.proofs.Blocks.{laid-replicate}
-use Rattle.machine.specs.Tally.{noTally, tallyWords, talliesWords}
+use Rattle.machine.specs.Tally.{Tally, noTally, tallyWords, talliesWords}
 use Rattle.turns.specs.declared.Setup.{Setup}
-use Rattle.turns.specs.Counting.{running?, progressWith}
+use Rattle.turns.specs.declared.Progress.{Progress}
+use Rattle.turns.specs.Counting.{running?, countsOf, freshProgress}
 use Rattle.turns.specs.Held.{memory, BlockIs, Holds}
 use Rattle.turns.proofs.Each.{all-same, hold-one}
 use Rattle.marker.specs.declared.start.Gathered.{Gathered}
@@ -36,6 +37,15 @@ idle-running : (k : ℕ) → sum running? (replicate k idle) ≡ k
 unfolding sum
 idle-running zero = refl
 idle-running (suc k) = omega (arith, idle-running k)
+
+-- no tally counts anything
+none-tallied : (starts k W : ℕ) → countsOf (freshProgress starts k W) (replicate W noTally) ≡ freshCounts starts k
+none-tallied starts k W =
+    let w = sum-none (λ (t : Tally). t .won) W noTally refl in
+    let f = sum-none (λ (t : Tally). t .followed) W noTally refl in
+    let h = sum-none (λ (t : Tally). t .handed) W noTally refl in
+    let z : starts + 0 ≡ starts = omega arith in
+    rw (w, f, h, z) refl
 
 -- a worker that begins with so many references, its runs in a top and a stretch, the first leading to a target
 abbrev pub firstBlock : ℕ → Top → ℕ → Block
@@ -97,11 +107,11 @@ module _ {offsets targets starts : List ℕ} {g : Setup} {marks s regs : List �
   some-workers = omega (arith, x .accepted .some-worker)
 
   -- every worker is idle
-  idle-holds : (c : Counts) (s : State) → {marks′ tallies : List ℕ} → marks′ ≡ s .marks → tallies ≡ talliesWords (s .tallies) → s .workers ≡ idle ∷ replicate (g .workers - 1) idle
-      → c ≡ s .counts → (work : List ℕ) → length work ≡ g .workers * g .stretch
-      → Holds G g s (memory marks′ work tallies regs (progressWith c (g .workers)))
+  idle-holds : (starts k : ℕ) (s : State) → {marks′ tallies : List ℕ} → marks′ ≡ s .marks → tallies ≡ talliesWords (s .tallies) → s .workers ≡ idle ∷ replicate (g .workers - 1) idle
+      → countsOf (freshProgress starts k (g .workers)) (s .tallies) ≡ s .counts → (work : List ℕ) → length work ≡ g .workers * g .stretch
+      → Holds G g s (memory marks′ work tallies regs (freshProgress starts k (g .workers)))
   unfolding sum
-  idle-holds c s ma ta ws co work long =
+  idle-holds starts k s ma ta ws co work long =
       record {
         marks-are = ma;
         tallies-are = ta;
@@ -137,10 +147,12 @@ module _ {offsets targets starts : List ℕ} {g : Setup} {marks s regs : List �
     begin-marks = d .marks-are
 
     -- the counts, where so many workers carry
-    begin-counts : (k : ℕ) → k ≡ carries? (withRuns runs) → freshCounts (t .live) k ≡ begin offsets targets starts g .counts
+    begin-counts : (k : ℕ) → k ≡ carries? (withRuns runs)
+        → countsOf (freshProgress (t .live) k (g .workers)) (begin offsets targets starts g .tallies) ≡ begin offsets targets starts g .counts
     unfolding start
     begin-counts k e =
-        ap (λ (l : ℕ). freshCounts l k) (d .live-is ∙ ap live (d .marks-are))
+        none-tallied (t .live) k (g .workers)
+        ∙ ap (λ (l : ℕ). freshCounts l k) (d .live-is ∙ ap live (d .marks-are))
         ∙ ap (λ (c : ℕ). freshCounts (live (begin offsets targets starts g .marks)) c) e
 
     -- no tally counts anything
@@ -149,11 +161,11 @@ module _ {offsets targets starts : List ℕ} {g : Setup} {marks s regs : List �
     begin-tallies e = e ∙ sym (laid-replicate tallyWords noTally (g .workers) 4 0 refl)
 
     -- none has references
-    pub begin-none : t .carried ≡ 0 → Started offsets targets starts g marks₂ s₁ regs (progressWith (freshCounts (t .live) 0) (g .workers))
+    pub begin-none : t .carried ≡ 0 → Started offsets targets starts g marks₂ s₁ regs (freshProgress (t .live) 0 (g .workers))
     unfolding carried sum
     begin-none z work tallies long is zeros =
         let none : runs ≡ [] = no-runs runs (sym (d .carried-is) ∙ z) in
-        idle-holds (freshCounts (t .live) 0) (begin offsets targets starts g) begin-marks (begin-tallies zeros) (begin-workers idle (ap withRuns none))
+        idle-holds (t .live) 0 (begin offsets targets starts g) begin-marks (begin-tallies zeros) (begin-workers idle (ap withRuns none))
         (begin-counts 0 (sym (ap (λ (rs : List Run). carries? (withRuns rs)) none))) work long
 
     module _ (h : t .carried ≢ 0) (sl : length s₁ ≡ length s) where
@@ -172,14 +184,14 @@ module _ {offsets targets starts : List ℕ} {g : Setup} {marks s regs : List �
         first-inside = first-target G runs top s₂ told some (start-inside (x .accepted))
 
         pub begin-some : (regs₁ : List ℕ) → regs₁ ≡ storeAt regs 0 (firstBlock (t .carried) top (getD targets (top .first) 0))
-            → Started offsets targets starts g marks₂ s₂ regs₁ (progressWith (freshCounts (t .live) 1) (g .workers))
+            → Started offsets targets starts g marks₂ s₂ regs₁ (freshProgress (t .live) 1 (g .workers))
         begin-some regs₁ er work tallies long is zeros =
-            let c = freshCounts (t .live) 1 in
+            let c = countsOf (freshProgress (t .live) 1 (g .workers)) [] in
             let counted : carries? (withRuns runs) ≡ 1 = ap carries? (some-runs runs some) ∙ set-some (carried runs) (omega (arith, d .carried-is, h)) in
             let s₀ : State = record { marks = []; workers = idle ∷ replicate (g .workers - 1) idle; tallies = []; counts = c } in
             let r = firstBlock (t .carried) top (getD targets (top .first) 0) in
             let st : Stored regs 0 r regs₁ = rw er (store-stored regs 0 (first-room .long) r) in
-            hold-one (idle-holds c s₀ refl refl refl refl work long) (ap suc (length-replicate (g .workers - 1) idle) ∙ some-workers) 0
+            hold-one (idle-holds (t .live) 1 s₀ refl refl refl refl work long) (ap suc (length-replicate (g .workers - 1) idle) ∙ some-workers) 0
             (omega (arith, x .accepted .some-worker)) refl (busy empty 0 poll runs) work st refl (all-same (g .workers) (g .stretch) 0 work)
             (rw is (first-is G runs top s₂ told some (t .carried) (d .carried-is)))
             refl {s′ = begin offsets targets starts g} (begin-workers (busy empty 0 poll runs) (some-runs runs some)) begin-marks

@@ -13,7 +13,9 @@ use lib.Dec.{ltb, eqb}
 use lib.Seq.{drop-cons}
 use Rattle.laws.specs.Sum.{sum}
 use Rattle.graph.proofs.Formed.{both-true}
-use Rattle.machine.specs.Machine.{State, Worker, idle, asking, denied, ended, given, busy, Entry, allEnded, entries, turn, turns}
+use Rattle.graph.specs.Graph.{Graph}
+use Rattle.machine.specs.Machine.{Setting, State, Worker, idle, asking, denied, ended, given, busy, Entry, allEnded, entries, turn, turns}
+use Rattle.machine.specs.Accepted.{Accepted}
 use Rattle.machine.specs.Sound.{Sound}
 use Rattle.machine.specs.Call.{scheduleFits}
 use Rattle.machine.proofs.Kept.{sound-turn}
@@ -23,7 +25,7 @@ use Rattle.turns.specs.declared.Setup.{Setup}
 use Rattle.turns.specs.Counting.{running?}
 use Rattle.turns.specs.Held.{Memory, settingOf, Holds}
 use Rattle.turns.specs.Turned.{Ready, Does, IsLent}
-use Rattle.marker.specs.Stages.{IsBegun, scheduled}
+use Rattle.marker.specs.Stages.{IsScheduled, scheduled}
 use Rattle.marker.proofs.Checks.{pair-is}
 
 -- ---- a schedule that fits, from its place i on
@@ -71,16 +73,16 @@ all-ended (busy c n p rs ∷ ws) = some-running (sum running? ws)
 
 module _ {g : Setup} {offsets targets schedule : List ℕ} {μ₀ : Memory} where
   -- what is held before the entry at i
-  pub record LoopAt (x : Ready (IsBegun g offsets targets schedule) g μ₀) (i : ℕ) (μ : Memory) : Type 0 where
+  pub record LoopAt (x : Ready (IsScheduled g offsets targets schedule) g μ₀) (i : ℕ) (μ : Memory) : Type 0 where
     pub state : State
     pub sound : Sound (x .graph) (x .scene .starts) (g .workers) (settingOf g) state
     pub holds : Holds (x .graph) g state μ
     pub fits : scheduleFits (g .workers) (drop i schedule) ≡ true
     pub left : turns (x .graph) (settingOf g) state (entries (drop i schedule)) ≡ scheduled g schedule (x .graph) (x .state)
-    pub handed : state .counts .handed ≤ i
-    pub moved : state .counts .moved ≤ i
+    pub handed-room : state .counts .handed + length (entries (drop i schedule)) < 2 ^ 64
+    pub moved-room : state .counts .moved + length (entries (drop i schedule)) < 2 ^ 64
 
-  module _ (x : Ready (IsBegun g offsets targets schedule) g μ₀) where
+  module _ (x : Ready (IsScheduled g offsets targets schedule) g μ₀) where
     pub at-start : LoopAt x 0 μ₀
     at-start =
         record {
@@ -89,8 +91,8 @@ module _ {g : Setup} {offsets targets schedule : List ℕ} {μ₀ : Memory} wher
           holds = x .holds;
           fits = x .here .fits;
           left = refl;
-          handed = omega (arith, x .here .none-handed);
-          moved = omega (arith, x .here .none-moved);
+          handed-room = x .here .handed-room;
+          moved-room = x .here .moved-room;
         }
 
     module _ {i : ℕ} {μ : Memory} (r : LoopAt x i μ) where
@@ -118,7 +120,18 @@ module _ {g : Setup} {offsets targets schedule : List ℕ} {μ₀ : Memory} wher
       at-pair h = pair-there (g .workers) schedule i (r .fits) h
 
       -- a turn
-      module _ (h : i < length schedule) (long : length schedule < 2 ^ 64) where
+      module _ (h : i < length schedule) where
+        -- the entry at i and the entries behind it
+        abbrev here : Entry
+        here = record { worker = getD schedule i 0; named = getD schedule (i + 1) 0 }
+
+        next-is : entries (drop i schedule) ≡ here ∷ entries (drop (i + 2) schedule)
+        unfolding entries
+        next-is = ap entries (pair-is schedule i h (omega (arith, at-pair h)))
+
+        next-count : length (entries (drop i schedule)) ≡ suc (length (entries (drop (i + 2) schedule)))
+        next-count = ap length next-is
+
         pub at-turn : Ready (IsLent g offsets targets (getD schedule i 0)) g μ
         at-turn =
             record {
@@ -132,8 +145,8 @@ module _ {g : Setup} {offsets targets schedule : List ℕ} {μ₀ : Memory} wher
                     objects-limit = x .scene .objects-limit;
                     references-limit = x .scene .references-limit;
                     stretch-is = x .scene .stretch-is;
-                    handed-room = omega (arith, r .handed);
-                    moved-room = omega (arith, r .moved);
+                    handed-room = omega (arith, r .handed-room, next-count);
+                    moved-room = omega (arith, r .moved-room, next-count);
                   };
               holds = r .holds;
               here =
@@ -146,17 +159,36 @@ module _ {g : Setup} {offsets targets schedule : List ℕ} {μ₀ : Memory} wher
         pub at-next : {μ′ : Memory}
             → Does (IsLent g offsets targets (getD schedule i 0)) g (getD schedule i 0) (getD schedule (i + 1) 0) μ μ′
             → LoopAt x (i + 2) μ′
-        unfolding at-turn turns entries
+        unfolding at-turn turns
         at-next does =
-            let e : Entry = record { worker = getD schedule i 0; named = getD schedule (i + 1) 0 } in
-            let p = pair-is schedule i h (omega (arith, at-pair h)) in
-            let grown = counts-grow (x .scene .accepted) (r .sound) e in
+            let grown = counts-grow (x .scene .accepted) (r .sound) here in
             record {
-              state = turn (x .graph) (settingOf g) (r .state) e;
-              sound = sound-turn (x .scene .accepted) (r .sound) e;
+              state = turn (x .graph) (settingOf g) (r .state) here;
+              sound = sound-turn (x .scene .accepted) (r .sound) here;
               holds = does at-turn;
               fits = pair-fits (g .workers) schedule i (r .fits) h .1;
-              left = sym (ap (λ (l : List ℕ). turns (x .graph) (settingOf g) (r .state) (entries l)) p) ∙ r .left;
-              handed = omega (arith, r .handed, grown .0);
-              moved = omega (arith, r .moved, grown .1);
+              left = sym (ap (λ (l : List Entry). turns (x .graph) (settingOf g) (r .state) l) next-is) ∙ r .left;
+              handed-room = omega (arith, r .handed-room, next-count, grown .0);
+              moved-room = omega (arith, r .moved-room, next-count, grown .1);
             }
+
+-- ---- after the loop
+
+-- handed rises by 1 a turn at most
+handed-turns : {G : Graph} {starts : List ℕ} {W : ℕ} {d : Setting} {s : State} → Accepted G starts W d → Sound G starts W d s → (es : List Entry)
+    → turns G d s es .counts .handed ≤ s .counts .handed + length es
+unfolding turns
+handed-turns a n [] = omega arith
+handed-turns a n (e ∷ es) = omega (arith, counts-grow a n e .0, handed-turns a (sound-turn a n e) es)
+
+-- so it does not wrap over the schedule
+pub handed-fits : {g : Setup} {offsets targets schedule : List ℕ} {μ : Memory} (x : Ready (IsScheduled g offsets targets schedule) g μ)
+    → scheduled g schedule (x .graph) (x .state) .counts .handed < 2 ^ 64
+handed-fits {schedule = schedule} x = omega (arith, handed-turns (x .scene .accepted) (x .scene .sound) (entries schedule), x .here .handed-room)
+
+-- an entry is two bytes
+pub entries-few : (l : List ℕ) → length (entries l) ≤ length l
+unfolding entries
+entries-few [] = omega arith
+entries-few (b ∷ []) = omega arith
+entries-few (b ∷ v ∷ l) = omega (arith, entries-few l)

@@ -1,7 +1,7 @@
 -- From the checks to the stages, and from the stages to the answer.
 use mathlib.Core.Path.{_≡_, refl, sym, ap, _∙_}
 use mathlib.Core.List.{List, _∷_, _++_}
-use Prim.Native.Nat.{ℕ, zero, suc, _-_, _*_, _≤_}
+use Prim.Native.Nat.{ℕ, zero, suc, _-_, _*_, _≤_, _<_, _^_}
 use native.Mathlib.Nat.{mul-le-mul-right}
 use native.Mathlib.Omega.{arith}
 use lib.ListN.{length, replicate, take, drop, length-append, length-drop}
@@ -24,16 +24,18 @@ use Rattle.machine.proofs.Owners.{owners}
 use Rattle.machine.proofs.Tallies as tallies-proved
 use Rattle.turns.specs.declared.Setup.{Setup}
 use Rattle.turns.specs.declared.Progress.{Progress}
+use Rattle.turns.specs.Counting.{Countable}
 use Rattle.turns.specs.Held.{memory, stretchAt, Holds}
+use Rattle.turns.proofs.Counting.{countable}
 use Rattle.turns.specs.Turned.{Ready}
 use Rattle.marker.specs.declared.Marked.{Marked}
 use Rattle.marker.specs.declared.Marked.the-variants.{Refused}
 use Rattle.refusal.specs.declared.Verdict.{Verdict}
 use Rattle.refusal.specs.declared.Verdict.the-variants.{Fine, Faulty}
 use Rattle.marker.specs.Answer.{row, Finds, Answered}
-use Rattle.marker.specs.Stages.{IsBegun, DoesAll, Settling, Settled, rowOf, callWith, setupOf, Faultless, Collectable, Collected}
+use Rattle.marker.specs.Stages.{IsScheduled, DoesAll, Settling, Settled, rowOf, callWith, setupOf, Faultless, Collectable, Collected}
 use Rattle.marker.specs.Starting.{Startable, Started}
-use Rattle.marker.proofs.Loop.{all-ended}
+use Rattle.marker.proofs.Loop.{all-ended, handed-fits, entries-few}
 
 -- what the checks establish
 facts : {c : Call} {marks work tallies : List ℕ} → Faultless c marks work tallies → Checked c (length marks) (length work) (length tallies)
@@ -88,11 +90,11 @@ module _ {offsets targets starts : List ℕ} {g : Setup} {schedule marks work ta
 
   -- after the start, with the tallies cleared
   module _ {marks₁ s₁ tallies₁ regs₁ : List ℕ} {p₁ : Progress} (d : Started offsets targets starts g marks₁ s₁ regs₁ p₁)
-      (l₁ : length s₁ ≡ length (firstPart (g .stretch) work)) (z₁ : tallies₁ ≡ replicate (length tallies) 0) where
+      (l₁ : length s₁ ≡ length (firstPart (g .stretch) work)) (z₁ : tallies₁ ≡ replicate (length tallies) 0) (short : length schedule < 2 ^ 64) where
     abbrev work₁ : List ℕ
     work₁ = firstAnew (g .stretch) work s₁
 
-    pub turns-ready : Ready (IsBegun g offsets targets schedule) g (memory marks₁ work₁ tallies₁ regs₁ p₁)
+    pub turns-ready : Ready (IsScheduled g offsets targets schedule) g (memory marks₁ work₁ tallies₁ regs₁ p₁)
     unfolding start
     turns-ready =
         record {
@@ -116,14 +118,14 @@ module _ {offsets targets starts : List ℕ} {g : Setup} {schedule marks work ta
               record {
                 graph-is = refl;
                 fits = known .schedule-fits;
-                none-handed = refl;
-                none-moved = refl;
+                handed-room = omega (arith, entries-few schedule, short);
+                moved-room = omega (arith, entries-few schedule, short);
               };
         }
 
     -- after the turns
     module _ {marks₂ work₂ tallies₂ regs₂ : List ℕ} {p₂ : Progress}
-        (t : DoesAll (IsBegun g offsets targets schedule) g schedule (memory marks₁ work₁ tallies₁ regs₁ p₁) (memory marks₂ work₂ tallies₂ regs₂ p₂)) where
+        (t : DoesAll (IsScheduled g offsets targets schedule) g schedule (memory marks₁ work₁ tallies₁ regs₁ p₁) (memory marks₂ work₂ tallies₂ regs₂ p₂)) where
       final-held : Holds (graphOf call) g (final call) (memory marks₂ work₂ tallies₂ regs₂ p₂)
       unfolding turns-ready
       final-held = t turns-ready
@@ -143,15 +145,21 @@ module _ {offsets targets starts : List ℕ} {g : Setup} {schedule marks work ta
             room = runs-room (known .accepted) sound-final;
           }
 
+      -- the counts are what words hold
+      pub count-ready : Countable tallies₂ (g .workers) p₂
+      unfolding turns-ready
+      count-ready = countable (known .accepted) sound-final (known .objects-limit) (known .references-limit) (handed-fits turns-ready) final-held
+
       -- after the stretches are written out
       pub all-collected : {work₃ : List ℕ} → Settled (g .workers) (g .stretch) work₂ regs₂ work₃
-          → (r : Marked) → row r ≡ rowOf p₂ → Collected (callWith offsets targets starts g schedule) r marks₂ work₃ tallies₂
-      unfolding settle-ready
+          → (r : Marked) → ((x : Countable tallies₂ (g .workers) p₂) → row r ≡ rowOf p₂ (x .tallies))
+          → Collected (callWith offsets targets starts g schedule) r marks₂ work₃ tallies₂
+      unfolding settle-ready count-ready
       all-collected s r e =
           let f : eqb (p₂ .running) 0 ≡ allEnded (final call .workers) =
           ap (λ (k : ℕ). eqb k 0) (final-held .running-is) ∙ all-ended (final call .workers) in
           record {
-            row-is = e ∙ rw (f, final-held .counts-are);
+            row-is = e count-ready ∙ rw (f, final-held .counts-are);
             marks-are = final-held .marks-are;
             work-is = s settle-ready;
             tallies-are = final-held .tallies-are;

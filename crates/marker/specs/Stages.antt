@@ -1,5 +1,5 @@
 -- What the later stages of a call without a fault ask and leave: the turns, and the work memory written out.
-use Prim.Native.Nat.{ℕ, suc, _*_, _≤_}
+use Prim.Native.Nat.{ℕ, suc, _+_, _*_, _≤_, _<_, _^_}
 use mathlib.Core.Path.{_≡_}
 use mathlib.Core.Bool.{true}
 use mathlib.Core.List.{List}
@@ -10,7 +10,7 @@ use Rattle.graph.specs.Graph.{Graph, graph, objects}
 use Rattle.graph.specs.Limits.{most-objects}
 use Rattle.machine.specs.Limits.{most-workers}
 use Rattle.machine.specs.Row.{Row}
-use Rattle.machine.specs.Tally.{talliesWords}
+use Rattle.machine.specs.Tally.{Tally, talliesWords}
 use Rattle.machine.specs.Machine as machine
 use Rattle.machine.specs.Machine.{State, Worker, ended, runsOf, turns, entries, result, stretchLength}
 use Rattle.machine.specs.Call.{Call, graphOf, fault, final, scheduleFits}
@@ -20,6 +20,7 @@ use Rattle.worker.specs.Registers.{block-words, status-given}
 use Rattle.worker.specs.Stretch.{topWith}
 use Rattle.turns.specs.declared.Setup.{Setup}
 use Rattle.turns.specs.declared.Progress.{Progress}
+use Rattle.turns.specs.Counting.{countsOf}
 use Rattle.turns.specs.Held.{Memory, memory, settingOf, topOf, Each, Holds}
 use Rattle.turns.specs.Turned.{Ready}
 use Rattle.marker.specs.declared.Marked.{Marked}
@@ -27,12 +28,12 @@ use Rattle.marker.specs.Answer.{callOf, row}
 
 -- ---- the turns
 
--- a state from which no turn was made yet, on what is lent
-pub record IsBegun (g : Setup) (offsets targets schedule : List ℕ) (G : Graph) (s : State) : Type 0 where
+-- any state, on what is lent, and a schedule over which its counts do not wrap
+pub record IsScheduled (g : Setup) (offsets targets schedule : List ℕ) (G : Graph) (s : State) : Type 0 where
   pub graph-is : G ≡ graph offsets targets
   pub fits : scheduleFits (g .workers) schedule ≡ true
-  pub none-handed : s .counts .handed ≡ 0
-  pub none-moved : s .counts .moved ≡ 0
+  pub handed-room : s .counts .handed + length (entries schedule) < 2 ^ 64
+  pub moved-room : s .counts .moved + length (entries schedule) < 2 ^ 64
 
 -- the state after the turns of a schedule
 abbrev pub scheduled : Setup → List ℕ → Graph → State → State
@@ -67,9 +68,9 @@ Settled W L work regs work′ = (x : Settling W L work regs) → work′ ≡ mac
 
 -- ---- the whole call
 
--- the answer of a collection that is so far: it is finished where nobody is running
-abbrev pub rowOf : Progress → Row
-rowOf p = record { number = 0; finished = eqb (p .running) 0; counts = p .counts }
+-- the answer of a collection that is so far, with these tallies: it is finished where nobody is running
+abbrev pub rowOf : Progress → List Tally → Row
+rowOf p ts = record { number = 0; finished = eqb (p .running) 0; counts = countsOf p ts }
 
 -- the call whose setting is this
 abbrev pub callWith : List ℕ → List ℕ → List ℕ → Setup → List ℕ → Call

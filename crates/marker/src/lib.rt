@@ -6,6 +6,7 @@ use refusal::Refusal;
 use refusal::Verdict;
 use turns::Progress;
 use turns::Setup;
+use turns::counts;
 use worker::registers;
 use worker::registers::Block;
 use worker::stretch;
@@ -20,10 +21,11 @@ ghost use Rattle.machine.specs.Limits.{most-workers, most-setting};
 ghost use Rattle.machine.specs.Tally.{tally-words};
 ghost use Rattle.machine.specs.Machine.{stretchLength};
 ghost use Rattle.machine.specs.Call.{outside, scheduleFits};
+ghost use Rattle.turns.specs.Counting.{Countable};
 ghost use Rattle.turns.specs.Held.{memory};
 ghost use Rattle.turns.specs.Turned.{Ready};
 ghost use Rattle.marker.specs.Answer.{callOf, row, Finds, Answered};
-ghost use Rattle.marker.specs.Stages.{IsBegun, DoesAll, topFor, Settling, Settled, rowOf, callWith, Faultless, Collectable, Collected};
+ghost use Rattle.marker.specs.Stages.{IsScheduled, DoesAll, topFor, Settling, Settled, rowOf, callWith, Faultless, Collectable, Collected};
 
 pub enum Marked {
     // All workers have ended.
@@ -186,8 +188,8 @@ fn settle(setup: Setup, work: &mut [u32], regs: &[u32])
     }
 }
 
-// The turns of a schedule, in order, until all workers have ended.
-fn take_turns(
+// The turns of a schedule, in order, from any state, until all workers have ended.
+pub fn take_turns(
     offsets: &[u32],
     targets: &[u32],
     setup: Setup,
@@ -198,8 +200,8 @@ fn take_turns(
     regs: &mut [u32],
     begun: Progress,
 ) -> Progress
-    requires { ⌜ Ready (IsBegun setup (now offsets) (now targets) (now schedule)) setup (memory (now marks) (now work) (now tallies) (now regs) begun) ⌝ }
-    ensures { λ p. ⌜ DoesAll (IsBegun setup (now (offsets .entry)) (now (targets .entry)) (now (schedule .entry)))
+    requires { ⌜ Ready (IsScheduled setup (now offsets) (now targets) (now schedule)) setup (memory (now marks) (now work) (now tallies) (now regs) begun) ⌝ }
+    ensures { λ p. ⌜ DoesAll (IsScheduled setup (now (offsets .entry)) (now (targets .entry)) (now (schedule .entry)))
         setup (now (schedule .entry)) (memory (now (marks .entry)) (now (work .entry)) (now (tallies .entry)) (now (regs .entry)) begun)
         (memory (now (marks .exit)) (now (work .exit)) (now (tallies .exit)) (now (regs .exit)) p) ⌝ }
 {
@@ -219,15 +221,16 @@ fn take_turns(
 }
 
 // The answer of a collection that is so far.
-fn answer(p: Progress) -> Marked
-    ensures { λ r. ⌜ row r ≡ rowOf p ⌝ }
+fn answer(tallies: &[u64], workers: u32, p: Progress) -> Marked
+    requires { ⌜ Countable (now tallies) workers p ⌝ }
+    ensures { λ r. ⌜ ((x : Countable (now (tallies .entry)) workers p) → row r ≡ rowOf p (x .tallies)) ⌝ }
 {
-    let counts = p.counts;
+    let all = counts::counted(tallies, workers, p);
     let running = p.running;
     if running == 0 {
-        return Marked::Finished(counts);
+        return Marked::Finished(all);
     }
-    Marked::Unfinished(counts)
+    Marked::Unfinished(all)
 }
 
 // A checked call, with its registers all zero.
@@ -269,7 +272,7 @@ fn collected(
         begun,
     );
     settle(setup, work, regs);
-    answer(p)
+    answer(tallies, setup.workers, p)
 }
 
 // A checked call.

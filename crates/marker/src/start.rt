@@ -6,6 +6,7 @@ use worker::registers::Block;
 use worker::stretch;
 ghost use mathlib.Core.Path.{_≡_};
 ghost use lib.ListN.{length, replicate};
+ghost use Rattle.turns.specs.Counting.{freshProgress};
 ghost use Rattle.marker.specs.Starting.{Gathering, GathersOne, Gatherable, Gathers, Startable, Started};
 
 // What the starts so far come to: the marks set, the references of their runs, and where the runs
@@ -81,6 +82,19 @@ fn gather(offsets: &[u32], starts: &[u32], marks: &mut [u8], s: &mut [u32]) -> G
     t
 }
 
+// Before the first turn, with so many starts and workers that carry references.
+fn begun(starts: u64, carrying: u64, running: u64) -> Progress
+    ensures { λ p. ⌜ p ≡ freshProgress starts carrying running ⌝ }
+{
+    Progress {
+        starts,
+        refused: 0,
+        moved: 0,
+        carrying,
+        running,
+    }
+}
+
 // The start, where s is worker 0's stretch and the registers are all zero.
 pub fn start(
     offsets: &[u32],
@@ -96,13 +110,10 @@ pub fn start(
 {
     clear_marks(marks);
     let t = gather(offsets, starts, marks, s);
-    let live = t.live as u64;
+    let starts = t.live as u64;
     let carried = t.carried;
     if carried == 0 {
-        return Progress {
-            counts: machine::fresh(live, 0),
-            running: setup.workers as u64,
-        };
+        return begun(starts, 0, setup.workers as u64);
     }
     let top = stretch::lower(s, t.at);
     let first = top.first;
@@ -121,8 +132,5 @@ pub fn start(
             target: targets[first as usize],
         },
     );
-    Progress {
-        counts: machine::fresh(live, 1),
-        running: setup.workers as u64,
-    }
+    begun(starts, 1, setup.workers as u64)
 }

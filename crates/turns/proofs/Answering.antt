@@ -10,8 +10,6 @@ use lib.Dec.{ltb}
 use Rattle.laws.specs.Choice.{pick}
 use Rattle.laws.specs.Every.{Every}
 use Rattle.graph.specs.Graph.{Graph, target}
-use Rattle.machine.specs.Row.{countMove}
-use Rattle.machine.specs.declared.Counts.{Counts}
 use Rattle.machine.specs.Run.{Run, run, runFrom, carried, keep, half}
 use Rattle.machine.specs.Tally.{tally}
 use Rattle.machine.specs.Machine.{State, asking, denied, busy, Cell, empty, from, poll, phase, worker, giver, receiver, answer, shares}
@@ -30,8 +28,9 @@ use Rattle.worker.specs.Stretch.{Sharing}
 use Rattle.turns.specs.Held.{memory, settingOf, stretchAt, phaseWord, nextTarget, topOf, BusyIs, Holds, Scene}
 use Rattle.turns.specs.Turned.{turned, Ready, IsPolling, IsAsked, Dividing, Divided}
 use Rattle.turns.proofs.Bounds.{block-room, stretch-room}
+use Rattle.turns.proofs.Counting.{moved-counts, shared-counts}
 use Rattle.turns.specs.Raising.{raisedWords}
-use Rattle.turns.proofs.Raising.{raised-held}
+use Rattle.turns.proofs.Raising.{there, raised-held}
 use Rattle.turns.proofs.Each.{all-same, hold-one, hold-two}
 use Rattle.turns.proofs.Asking.{turn-as}
 
@@ -128,7 +127,7 @@ module _ {G : Graph} {g : Setup} {s : State} {marks work tallies regs : List ℕ
       refl
       (h .marks-are)
       (h .tallies-are)
-      (ap (λ (x : Counts). countMove x 0 0) (h .counts-are)))
+      (moved-counts h 0))
 
   -- a worker with an asker
   module _ (b : ℕ) {a n : ℕ} {rs : List Run} (e : worker s b ≡ busy (from a) n poll rs) where
@@ -167,7 +166,7 @@ module _ {G : Graph} {g : Setup} {s : State} {marks work tallies regs : List ℕ
         refl
         (h .marks-are)
         (h .tallies-are)
-        (ap (λ (x : Counts). countMove x 0 1) (h .counts-are)))
+        (moved-counts h 1))
 
     -- ---- sharing
 
@@ -236,7 +235,7 @@ module _ {G : Graph} {g : Setup} {s : State} {marks work tallies regs : List ℕ
           refl
           (h .marks-are)
           (raised-held c h b (poll-low b e) (tally 0 0 0 1))
-          (ap (λ (x : Counts). countMove x 1 0) (h .counts-are)))
+          (shared-counts h b (there c h b (poll-low b e))))
 
       -- the same, as the words tell it
       words : (blockAt regs b .cell - 1 ≡ a) × (blockAt regs b .carried ≡ carried rs)

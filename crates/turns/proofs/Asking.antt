@@ -7,7 +7,6 @@ use native.Mathlib.Omega.{arith}
 use lib.ListN.{length}
 use Rattle.laws.specs.Every.{Every}
 use Rattle.graph.specs.Graph.{Graph, references, target}
-use Rattle.machine.specs.Row.{countMove}
 use Rattle.machine.specs.declared.Counts.{Counts}
 use Rattle.machine.specs.Run.{Run, run}
 use Rattle.machine.specs.Machine.{State, Worker, idle, asking, denied, ended, given, busy, empty, from, Phase, poll, look, claim, worker, runsOf, turn, becomes, asks, idleTurn, workerTurn}
@@ -23,6 +22,7 @@ use Rattle.turns.specs.Claiming.{takenBlock}
 use Rattle.turns.specs.Held.{memory, settingOf, stretchAt, phaseWord, nextTarget, topOf, Carrying, BusyIs, BlockIs, Holds, Scene}
 use Rattle.turns.specs.Turned.{turned}
 use Rattle.turns.proofs.Bounds.{block-room, running-at}
+use Rattle.turns.proofs.Counting.{moved-counts, ended-counts}
 use Rattle.turns.proofs.Each.{SameBut, all-same, hold-one, hold-two}
 
 -- the state after worker b's turn, by what b is
@@ -55,7 +55,7 @@ module _ {G : Graph} {g : Setup} {s : State} {marks work tallies regs : List ℕ
       (hold-one h long b low e idle work (put-stored regs b (block-room c h b low .long) 0 0 (omega arith)) refl (stays b) refl refl refl
       (h .marks-are)
       (h .tallies-are)
-      (ap (λ (x : Counts). countMove x 0 0) (h .counts-are)))
+      (moved-counts h 0))
 
   module _ (b v : ℕ) (e : worker s b ≡ idle) where
     pub idle-low : b < g .workers
@@ -65,22 +65,22 @@ module _ {G : Graph} {g : Setup} {s : State} {marks work tallies regs : List ℕ
     idle-running = rw e at (running-at c h b)
 
     -- it ends
-    ends-as : p .counts .carrying ≡ 0 → turned g b v G s ≡ becomes s b ended
+    ends-as : p .carrying ≡ 0 → turned g b v G s ≡ becomes s b ended
     ends-as z =
         turn-as g b v G s e
         ∙ ap (λ (k : ℕ). idleTurn k s b v) (sym (ap (λ (x : Counts). x .carrying) (h .counts-are)) ∙ z)
 
-    pub holds-ended : p .counts .carrying ≡ 0 → Holds G g (turned g b v G s) (memory marks work tallies (putAt regs b 0 3) (endedOne p))
+    pub holds-ended : p .carrying ≡ 0 → Holds G g (turned g b v G s) (memory marks work tallies (putAt regs b 0 3) (endedOne p))
     holds-ended z =
         rw (ends-as z)
         (hold-one h long b idle-low e ended work (put-stored regs b (block-room c h b idle-low .long) 0 3 (omega arith)) refl (stays b) refl
         (omega (arith, rw e at (running-at c h b))) refl
         (h .marks-are)
         (h .tallies-are)
-        (ap (λ (x : Counts). countMove x 0 0) (h .counts-are)))
+        (ended-counts h))
 
     -- it asks, by what the named worker is
-    asks-as : p .counts .carrying ≢ 0 → turned g b v G s ≡ asks (worker s v) s b v
+    asks-as : p .carrying ≢ 0 → turned g b v G s ≡ asks (worker s v) s b v
     asks-as n = turn-as g b v G s e ∙ by (s .counts .carrying) (λ z. n (ap (λ (x : Counts). x .carrying) (h .counts-are) ∙ z))
       where
         by : (k : ℕ) → k ≢ 0 → idleTurn k s b v ≡ asks (worker s v) s b v
@@ -88,7 +88,7 @@ module _ {G : Graph} {g : Setup} {s : State} {marks work tallies regs : List ℕ
         by (suc k) q = refl
 
     -- nobody is asked where the named worker is not busy with an empty cell
-    pub holds-still : p .counts .carrying ≢ 0 → ((n : ℕ) (q : Phase) (rs : List Run) → worker s v ≡ busy empty n q rs → ⊥)
+    pub holds-still : p .carrying ≢ 0 → ((n : ℕ) (q : Phase) (rs : List Run) → worker s v ≡ busy empty n q rs → ⊥)
         → Holds G g (turned g b v G s) (memory marks work tallies regs p)
     holds-still n none = rw (asks-as n ∙ still (worker s v) refl) h
       where
@@ -102,7 +102,7 @@ module _ {G : Graph} {g : Setup} {s : State} {marks work tallies regs : List ℕ
         still (busy (from a) n r rs) q = refl
 
     -- it is asked
-    pub holds-asked : p .counts .carrying ≢ 0 → v < g .workers → (n : ℕ) (q : Phase) (rs : List Run) → worker s v ≡ busy empty n q rs
+    pub holds-asked : p .carrying ≢ 0 → v < g .workers → (n : ℕ) (q : Phase) (rs : List Run) → worker s v ≡ busy empty n q rs
         → Holds G g (turned g b v G s) (memory marks work tallies (putAt (putAt regs v 2 (b + 1)) b 0 1) (movedOn p 0 0))
     holds-asked m lv n q rs f =
         let r = block-room c h v lv in
@@ -129,7 +129,7 @@ module _ {G : Graph} {g : Setup} {s : State} {marks work tallies regs : List ℕ
         refl
         (h .marks-are)
         (h .tallies-are)
-        (ap (λ (x : Counts). countMove x 0 0) (h .counts-are)))
+        (moved-counts h 0))
 
   -- ---- what a block tells of its worker
 
@@ -202,4 +202,4 @@ module _ {G : Graph} {g : Setup} {s : State} {marks work tallies regs : List ℕ
         refl
         (h .marks-are)
         (h .tallies-are)
-        (ap (λ (x : Counts). countMove x 0 0) (h .counts-are)))
+        (moved-counts h 0))

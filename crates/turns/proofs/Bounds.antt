@@ -1,5 +1,5 @@
 -- What a state that is held gives the code: bounds, room, and what the kept numbers say.
-use mathlib.Core.Path.{refl}
+use mathlib.Core.Path.{refl, ap}
 use Prim.Native.Nat.{ℕ, _+_, _*_, _≤_, _<_}
 use native.Mathlib.Nat.{mul-le-mul-right, mul-le-mul, suc-mul}
 use native.Mathlib.Omega.{arith}
@@ -7,11 +7,11 @@ use lib.ListN.{length}
 use Rattle.laws.proofs.Sum.{sum-share}
 use Rattle.graph.specs.Graph.{Graph}
 use Rattle.machine.specs.Machine.{State, ended, worker}
-use Rattle.machine.specs.Row.{Roomy}
-use Rattle.machine.proofs.Facts.{live-below, followed-limit, carrying-limit}
+use Rattle.machine.specs.declared.Counts.{Counts}
+use Rattle.machine.proofs.Facts.{carrying-limit}
 use Rattle.worker.specs.Registers.{Room}
 use Rattle.turns.specs.declared.Setup.{Setup}
-use Rattle.turns.specs.Counting.{running?}
+use Rattle.turns.specs.Counting.{running?, Roomy}
 use Rattle.turns.specs.Held.{Memory, Holds, Scene}
 
 module _ {G : Graph} {g : Setup} {s : State} (c : Scene G g s) where
@@ -33,20 +33,15 @@ module _ {G : Graph} {g : Setup} {s : State} (c : Scene G g s) where
     pub block-room : (b : ℕ) → b < g .workers → Room (μ .regs) b
     block-room b low = record { low = omega (arith, workers-limit); long = omega (arith, h .regs-long) }
 
-    -- no count is at its end
-    pub roomy : Roomy (μ .progress .counts)
+    -- no number that is kept by value is at its end
+    pub roomy : Roomy (μ .progress)
     roomy =
-        let a = c .accepted in
         let n = c .sound in
-        rw (h .counts-are)
-        (record {
-          live = omega (arith, live-below a n, c .objects-limit);
-          followed = omega (arith, followed-limit a n, c .references-limit);
-          handed = c .handed-room;
-          refused = omega (arith, n .refused-moved, c .moved-room);
-          moved = c .moved-room;
-          carrying = omega (arith, carrying-limit a n, workers-limit);
-        })
+        record {
+          refused = omega (arith, ap (λ (k : Counts). k .refused) (h .counts-are), n .refused-moved, c .moved-room);
+          moved = omega (arith, ap (λ (k : Counts). k .moved) (h .counts-are), c .moved-room);
+          carrying = omega (arith, ap (λ (k : Counts). k .carrying) (h .counts-are), carrying-limit (c .accepted) n, workers-limit);
+        }
 
     -- a worker that has not ended counts as running
     pub running-at : (b : ℕ) → running? (worker s b) ≤ μ .progress .running

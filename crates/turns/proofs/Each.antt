@@ -16,7 +16,7 @@ use Rattle.worker.specs.declared.registers.Block.{Block}
 use Rattle.worker.specs.Registers.{Stored}
 use Rattle.turns.specs.declared.Setup.{Setup}
 use Rattle.turns.specs.declared.Progress.{Progress}
-use Rattle.turns.specs.Counting.{running?}
+use Rattle.turns.specs.Counting.{running?, countsOf}
 use Rattle.turns.specs.Held.{memory, stretchAt, BlockIs, Each, Holds}
 
 -- every stretch but b's is as it was
@@ -47,7 +47,7 @@ module _ {G : Graph} {g : Setup} {s : State} {marks work tallies regs : List ℕ
   pub hold-one : (w : Worker) {r : Block} {marks′ tallies′ regs′ : List ℕ} (work′ : List ℕ) {p′ : Progress} → Stored regs b r regs′ → length work′ ≡ length work
       → SameBut (g .workers) (g .stretch) b work work′ → BlockIs G w r (stretchAt (g .stretch) b work′)
       → p′ .running + running? x ≡ p .running + running? w
-      → {s′ : State} → s′ .workers ≡ set (s .workers) b w → marks′ ≡ s′ .marks → tallies′ ≡ talliesWords (s′ .tallies) → p′ .counts ≡ s′ .counts → Holds G g s′ (memory marks′ work′ tallies′ regs′ p′)
+      → {s′ : State} → s′ .workers ≡ set (s .workers) b w → marks′ ≡ s′ .marks → tallies′ ≡ talliesWords (s′ .tallies) → countsOf p′ (s′ .tallies) ≡ s′ .counts → Holds G g s′ (memory marks′ work′ tallies′ regs′ p′)
   hold-one w {r} {marks′} {tallies′} {regs′} work′ {p′} st wl same bl ru {s′} ws ma ta co =
       record {
         marks-are = ma;
@@ -66,7 +66,7 @@ module _ {G : Graph} {g : Setup} {s : State} {marks work tallies regs : List ℕ
       → ((i : ℕ) → i < g .workers → i ≢ b → i ≢ a → stretchAt (g .stretch) i work′ ≡ stretchAt (g .stretch) i work)
       → BlockIs G w r (stretchAt (g .stretch) b work′) → BlockIs G z q (stretchAt (g .stretch) a work′)
       → p′ .running + running? x + running? y ≡ p .running + running? w + running? z
-      → {s′ : State} → s′ .workers ≡ set (set (s .workers) b w) a z → marks′ ≡ s′ .marks → tallies′ ≡ talliesWords (s′ .tallies) → p′ .counts ≡ s′ .counts → Holds G g s′ (memory marks′ work′ tallies′ regs′ p′)
+      → {s′ : State} → s′ .workers ≡ set (set (s .workers) b w) a z → marks′ ≡ s′ .marks → tallies′ ≡ talliesWords (s′ .tallies) → countsOf p′ (s′ .tallies) ≡ s′ .counts → Holds G g s′ (memory marks′ work′ tallies′ regs′ p′)
   hold-two w {r} {regs₁} st a la other {y} iy z {q} {marks′} {tallies′} {regs′} work′ {p′} st′ wl same bl bl′ ru {s′} ws ma ta co =
       record {
         marks-are = ma;

@@ -1,6 +1,7 @@
 pub mod Answering
 pub mod Asking
 pub mod Bounds
+pub mod Counting
 pub mod Dividing
 pub mod Each
 pub mod Raising

@@ -10,10 +10,8 @@ use lib.ListN.{length, getD, set}
 use Rattle.laws.proofs.Sum.{default}
 use Rattle.graph.specs.Graph.{Graph, graph, objects, references, first, after, target}
 use Rattle.graph.proofs.OverMarked.{after-limit}
-use Rattle.machine.specs.Row.{countMove}
-use Rattle.machine.specs.declared.Counts.{Counts}
 use Rattle.machine.specs.Run.{Run, run, runFrom, leaving}
-use Rattle.machine.specs.Tally.{tally, tallied, talliesWords}
+use Rattle.machine.specs.Tally.{Tally, tally, tallied, talliesWords}
 use Rattle.machine.specs.Machine.{busy, look, claim, worker, markOf, claimMark, lookTurn, Claimed, claims, notClaimed, onwardRuns, follows}
 use Rattle.machine.specs.Limits.{most-workers}
 use Rattle.machine.specs.Owners.{claimTells}
@@ -24,11 +22,12 @@ use Rattle.turns.specs.declared.Setup.{Setup}
 use Rattle.turns.specs.declared.Progress.{Progress}
 use Rattle.turns.specs.declared.follow.Opened.{Opened}
 use Rattle.turns.specs.Counting.{movedOn}
-use Rattle.turns.specs.Claiming.{openedNone, openedBy, openedAt, claimTally, marksBy, claimedMarks}
+use Rattle.turns.specs.Claiming.{openedNone, openedBy, openedAt, claimTally, tallyAtClaim, marksBy, claimedMarks}
 use Rattle.turns.specs.Held.{memory, stretchAt, BusyIs, Holds}
 use Rattle.turns.specs.Turned.{turned, Ready, IsLooking, IsClaiming, IsFollowing}
 use Rattle.turns.proofs.Bounds.{block-room}
-use Rattle.turns.specs.Raising.{raisedWords}
+use Rattle.turns.proofs.Counting.{moved-counts}
+use Rattle.turns.specs.Raising.{Raisable, raisedWords}
 use Rattle.turns.proofs.Raising.{raisable, raised-held}
 use Rattle.turns.proofs.Each.{all-same, hold-one}
 use Rattle.turns.proofs.Asking.{turn-as}
@@ -102,8 +101,6 @@ module _ {g : Setup} {targets : List ℕ} {b : ℕ} {marks work tallies regs : L
         order = omega arith;
         limit = omega arith;
         opened-is = refl;
-        won-is = refl;
-        won-limit = omega arith;
         marks-are = x .holds .marks-are;
         tallies-are = raised-held (x .scene) (x .holds) b look-low (tally 1 0 0 0);
         turn-is = λ v. look-as v ∙ by (getD marks (blockAt regs b .target) 0) n;
@@ -141,14 +138,9 @@ module _ {g : Setup} {targets : List ℕ} {b : ℕ} {marks work tallies regs : L
       refl
       (x .holds .marks-are)
       (x .holds .tallies-are)
-      (ap (λ (n : Counts). countMove n 0 0) (x .holds .counts-are)))
+      (moved-counts (x .holds) 0))
 
 -- ---- a claim
-
--- one mark at most is new
-pub opened-limit : {o : Opened} (t : Bool) (offsets : List ℕ) (v : ℕ) → o ≡ openedBy t offsets v → o .won ≤ 1
-opened-limit true offsets v e = omega (arith, ap (λ (o : Opened). o .won) e)
-opened-limit false offsets v e = omega (arith, ap (λ (o : Opened). o .won) e)
 
 module _ {g : Setup} {offsets targets : List ℕ} {b : ℕ} {marks work tallies regs : List ℕ} {p : Progress}
     (x : Ready (IsClaiming offsets targets b) g (memory marks work tallies regs p)) where
@@ -186,6 +178,11 @@ module _ {g : Setup} {offsets targets : List ℕ} {b : ℕ} {marks work tallies 
   pub opens-there : blockAt regs b .target + 1 < length offsets
   opens-there = omega (arith, target-word, is-object, ap (λ (G : Graph). objects G) (x .here .graph-is))
 
+  -- its tally can be raised, whether it is won or lost
+  pub claim-raisable : (t : Bool) → Raisable tallies b (claimTally t)
+  claim-raisable true = raisable (x .scene) (x .holds) b claim-low _ (omega arith) (omega arith) (omega arith) (omega arith)
+  claim-raisable false = raisable (x .scene) (x .holds) b claim-low _ (omega arith) (omega arith) (omega arith) (omega arith)
+
   -- what the claim finds, by the mark that is read
   abbrev found : Claimed
   found = claims (markOf (x .state) t) (x .graph) (x .state) b t
@@ -200,9 +197,6 @@ module _ {g : Setup} {offsets targets : List ℕ} {b : ℕ} {marks work tallies 
     pub order : o .first ≤ o .end
     pub limit : o .end ≤ references (x .graph)
     pub opened-is : d .opened ≡ runFrom (o .first) (o .end - o .first)
-    pub won-is : o .won ≡ d .won
-    pub won-limit : o .won ≤ 1
-    pub lost-is : 1 - o .won ≡ d .lost
 
   finds : (k : ℕ) → Finds (openedBy (claimTells k b .won) offsets t) (claims k (x .graph) (x .state) b t)
   finds zero =
@@ -214,11 +208,8 @@ module _ {g : Setup} {offsets targets : List ℕ} {b : ℕ} {marks work tallies 
         order = omega (arith, r .rises t is-object, a, q);
         limit = omega (arith, after-limit (x .graph) r t is-object, a);
         opened-is = ap (λ (G : Graph). leaving G t) (x .here .graph-is);
-        won-is = refl;
-        won-limit = omega arith;
-        lost-is = refl;
       })
-  finds (suc k) = record { order = omega arith; limit = omega arith; opened-is = refl; won-is = refl; won-limit = omega arith; lost-is = refl }
+  finds (suc k) = record { order = omega arith; limit = omega arith; opened-is = refl }
 
   claim-as : (v : ℕ) → turned g b v (x .graph) (x .state)
       ≡ follows (x .state) b (x .here .cell) (x .here .since) (x .here .left) found (onwardRuns (cf .first) (cf .more) (found .opened) (cf .below))
@@ -232,15 +223,20 @@ module _ {g : Setup} {offsets targets : List ℕ} {b : ℕ} {marks work tallies 
       by zero = ap (λ (l : List ℕ). set l t (claimMark b)) (x .holds .marks-are)
       by (suc k) = x .holds .marks-are
 
-  -- the tallies, where the claim is won or lost
-  claim-tally : {o : Opened} → Finds o found
-      → raisedWords tallies b (claimTally o) ≡ talliesWords (tallied (x .state .tallies) b (tally 1 (found .won) (found .lost) 0))
-  claim-tally {o} d =
-      raised-held (x .scene) (x .holds) b claim-low (claimTally o)
-      ∙ ap (λ (k : ℕ). talliesWords (tallied (x .state .tallies) b (tally 1 k (1 - o .won) 0))) (d .won-is)
-      ∙ ap (λ (k : ℕ). talliesWords (tallied (x .state .tallies) b (tally 1 (found .won) k 0))) (d .lost-is)
+  -- the tallies that it leaves
+  abbrev foundTally : ℕ → Tally
+  foundTally k = tally 1 (claims k (x .graph) (x .state) b t .won) (claims k (x .graph) (x .state) b t .lost) 0
 
-  claimed-at : IsFollowing g targets (claimedMarks marks b t) (raisedWords tallies b (claimTally (openedAt offsets marks b t))) (openedAt offsets marks b t) b (x .graph) (x .state)
+  tally-claimed : raisedWords tallies b (tallyAtClaim marks b t) ≡ talliesWords (tallied (x .state .tallies) b (tally 1 (found .won) (found .lost) 0))
+  tally-claimed =
+      raised-held (x .scene) (x .holds) b claim-low (tallyAtClaim marks b t)
+      ∙ ap (λ (y : Tally). talliesWords (tallied (x .state .tallies) b y)) (by (getD marks t 0) ∙ ap foundTally (sym read))
+    where
+      by : (k : ℕ) → claimTally (claimTells k b .won) ≡ foundTally k
+      by zero = refl
+      by (suc k) = refl
+
+  claimed-at : IsFollowing g targets (claimedMarks marks b t) (raisedWords tallies b (tallyAtClaim marks b t)) (openedAt offsets marks b t) b (x .graph) (x .state)
   claimed-at =
       let d = subst (λ (k : ℕ). Finds (openedAt offsets marks b t) (claims k (x .graph) (x .state) b t)) (sym read) (finds (getD marks t 0)) in
       record {
@@ -257,17 +253,15 @@ module _ {g : Setup} {offsets targets : List ℕ} {b : ℕ} {marks work tallies 
         order = d .order;
         limit = d .limit;
         opened-is = d .opened-is;
-        won-is = d .won-is;
-        won-limit = d .won-limit;
         marks-are = marks-claimed;
-        tallies-are = claim-tally d;
+        tallies-are = tally-claimed;
         turn-is = claim-as;
         targets-are = sym (ap (λ (G : Graph). G .targets) (x .here .graph-is));
       }
 
-  pub claimed-here : IsFollowing g targets (claimedMarks marks b (blockAt regs b .target)) (raisedWords tallies b (claimTally (openedAt offsets marks b (blockAt regs b .target)))) (openedAt offsets marks b (blockAt regs b .target)) b (x .graph) (x .state)
+  pub claimed-here : IsFollowing g targets (claimedMarks marks b (blockAt regs b .target)) (raisedWords tallies b (tallyAtClaim marks b (blockAt regs b .target))) (openedAt offsets marks b (blockAt regs b .target)) b (x .graph) (x .state)
   claimed-here =
-      subst (λ (i : ℕ). IsFollowing g targets (claimedMarks marks b i) (raisedWords tallies b (claimTally (openedAt offsets marks b i))) (openedAt offsets marks b i) b (x .graph) (x .state)) (sym target-word) claimed-at
+      subst (λ (i : ℕ). IsFollowing g targets (claimedMarks marks b i) (raisedWords tallies b (tallyAtClaim marks b i)) (openedAt offsets marks b i) b (x .graph) (x .state)) (sym target-word) claimed-at
 
-  abbrev pub claimed : Ready (IsFollowing g targets (claimedMarks marks b (blockAt regs b .target)) (raisedWords tallies b (claimTally (openedAt offsets marks b (blockAt regs b .target)))) (openedAt offsets marks b (blockAt regs b .target)) b) g (memory marks work tallies regs p)
+  abbrev pub claimed : Ready (IsFollowing g targets (claimedMarks marks b (blockAt regs b .target)) (raisedWords tallies b (tallyAtClaim marks b (blockAt regs b .target))) (openedAt offsets marks b (blockAt regs b .target)) b) g (memory marks work tallies regs p)
   claimed = record { graph = x .graph; state = x .state; scene = x .scene; holds = x .holds; here = claimed-here }

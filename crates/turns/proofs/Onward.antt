@@ -16,6 +16,7 @@ use Rattle.graph.specs.Graph.{Graph, references, target}
 use Rattle.machine.specs.Row.{countFollow}
 use Rattle.machine.specs.declared.Counts.{Counts}
 use Rattle.machine.specs.Run.{Run, run, runFrom, carried}
+use Rattle.machine.specs.Tally.{tally, tallied}
 use Rattle.machine.specs.Machine.{Worker, idle, denied, busy, Cell, empty, from, phase, worker, onward, dismiss, dismissed, emptied, onwardRuns, follows}
 use Rattle.machine.proofs.Facts.{busy-below, busy-carried, busy-carried-limit, busy-room, busy-runs-limit, first-run-limit, asker-asking, asker-below, asker-other, InTargets, carrying-at}
 use Rattle.machine.proofs.Runs.{carried-append, carried-from}
@@ -30,11 +31,13 @@ use Rattle.worker.proofs.Next.{some?, next-told, next-goes-on, length-next}
 use Rattle.turns.specs.declared.Setup.{Setup}
 use Rattle.turns.specs.declared.Progress.{Progress}
 use Rattle.turns.specs.declared.follow.Opened.{Opened}
-use Rattle.turns.specs.Counting.{followedOn}
+use Rattle.turns.specs.Counting.{countsOf, followedOn}
 use Rattle.turns.specs.Claiming.{nextWord, advancedBlock, Advanceable, stoppedCount, stoppedAt}
 use Rattle.turns.specs.Held.{memory, stretchAt, cellWord, phaseWord, topOf, BusyIs, Holds, Scene}
 use Rattle.turns.specs.Turned.{turned, Ready, IsFollowing}
 use Rattle.turns.proofs.Bounds.{block-room, stretch-room, stretch-limit}
+use Rattle.turns.proofs.Counting.{followed-counts}
+use Rattle.turns.proofs.Raising.{there}
 use Rattle.turns.proofs.Parts.{length-stretch, length-back, back-here, back-other}
 use Rattle.turns.proofs.Each.{SameBut, hold-one, hold-two}
 use Rattle.turns.proofs.Asking.{first-told}
@@ -160,9 +163,13 @@ module _ {g : Setup} {targets marks′ tallies′ : List ℕ} {o : Opened} {b : 
       (l .1))
 
   -- it counts as carrying
-  pub carries-one : 1 ≤ p .counts .carrying
+  pub carries-one : 1 ≤ p .carrying
   carries-one =
-      rw (x .holds .counts-are) (carrying-at (c .accepted) (c .sound) b (rw (y .is) (busy-carried (c .accepted) (c .sound) b (y .is))))
+      omega (
+        arith,
+        ap (λ (n : Counts). n .carrying) (x .holds .counts-are),
+        carrying-at (c .accepted) (c .sound) b (rw (y .is) (busy-carried (c .accepted) (c .sound) b (y .is))),
+      )
 
   -- an asker in the cell has a block
   pub asker-room : block .cell ≢ 0 → Room regs (block .cell - 1)
@@ -226,10 +233,10 @@ module _ {g : Setup} {targets marks′ tallies′ : List ℕ} {o : Opened} {b : 
   others a l n =
       rw whole at (back-other (g .stretch) b work words (stretch-room c (x .holds) b follow-low) words-long (b * g .stretch + g .stretch) refl a n)
 
-  counts : (k m : ℕ) → countFollow (p .counts) (o .won) k m ≡ countFollow (x .state .counts) (y .found .won) k m
-  counts k m =
-      ap (λ (n : Counts). countFollow n (o .won) k m) (x .holds .counts-are)
-      ∙ ap (λ (i : ℕ). countFollow (x .state .counts) i k m) (y .won-is)
+  -- the counts afterwards
+  counts : (k m : ℕ) → countsOf (followedOn p k m) (tallied (x .state .tallies) b (tally 1 (y .found .won) (y .found .lost) 0))
+      ≡ countFollow (x .state .counts) (y .found .won) k m
+  counts k m = followed-counts (x .holds) b (there c (x .holds) b follow-low) (y .found .won) (y .found .lost) k m
 
   state : (v : ℕ) → turned g b v (x .graph) (x .state) ≡ follows (x .state) b (y .cell) (y .since) (y .left) (y .found) runs
   state v = y .turn-is v ∙ ap (λ (l : List Run). follows (x .state) b (y .cell) (y .since) (y .left) (y .found) (onwardRuns (y .first) (y .more) l (y .below))) (y .opened-is)
@@ -237,7 +244,7 @@ module _ {g : Setup} {targets marks′ tallies′ : List ℕ} {o : Opened} {b : 
   -- something is left
   pub holds-onward : goesOn (topOf block) (o .first) (o .end) ≡ true → {regs′ : List ℕ}
       → Stored regs b (advancedBlock block (o .first) (o .end) top (getD targets (top .first) 0)) regs′ → (v : ℕ)
-      → Holds (x .graph) g (turned g b v (x .graph) (x .state)) (memory marks′ after tallies′ regs′ (followedOn p (o .won) 0 0))
+      → Holds (x .graph) g (turned g b v (x .graph) (x .state)) (memory marks′ after tallies′ regs′ (followedOn p 0 0))
   holds-onward l st v =
       let some = some-runs runs (sym left-is ∙ l) in
       let on = gone-on (x .state .workers) b (suc (y .since)) (y .left) (y .cell) runs some in
@@ -270,7 +277,7 @@ module _ {g : Setup} {targets marks′ tallies′ : List ℕ} {o : Opened} {b : 
 
   -- nothing is left
   pub holds-stopped : goesOn (topOf block) (o .first) (o .end) ≡ false → (v : ℕ) → {work′ regs′ : List ℕ} {q : Progress} → work′ ≡ after
-      → regs′ ≡ stoppedAt regs b (block .cell) → q ≡ followedOn p (o .won) (stoppedCount (block .cell)) 1
+      → regs′ ≡ stoppedAt regs b (block .cell) → q ≡ followedOn p (stoppedCount (block .cell)) 1
       → Holds (x .graph) g (turned g b v (x .graph) (x .state)) (memory marks′ work′ tallies′ regs′ q)
   holds-stopped l v ew er eq = rw (emptied v, ew, er, eq) (by (y .cell) (y .is) (is .cell))
     where
@@ -282,7 +289,7 @@ module _ {g : Setup} {targets marks′ tallies′ : List ℕ} {o : Opened} {b : 
       by : (cell : Cell) → worker (x .state) b ≡ busy cell (y .since) (y .phase) (run (y .first) (y .more) ∷ y .below)
           → block .cell ≡ cellWord cell
           → Holds (x .graph) g (follows (x .state) b cell (y .since) (y .left) (y .found) [])
-          (memory marks′ after tallies′ (stoppedAt regs b (block .cell)) (followedOn p (o .won) (stoppedCount (block .cell)) 1))
+          (memory marks′ after tallies′ (stoppedAt regs b (block .cell)) (followedOn p (stoppedCount (block .cell)) 1))
       by empty e q =
           rw q
           (hold-one (x .holds) (c .sound .workers-length) b follow-low (y .is) idle after

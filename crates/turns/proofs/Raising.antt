@@ -12,10 +12,11 @@ use Rattle.graph.specs.Graph.{Graph}
 use Rattle.machine.specs.Tally.{Tally, tally, noTally, addTally, tallied, tallyWords, talliesWords}
 use Rattle.machine.specs.Machine.{State}
 use Rattle.machine.specs.Sound.{tallyOf}
+use Rattle.machine.proofs.Facts.{followed-limit}
 use Rattle.turns.specs.declared.Setup.{Setup}
 use Rattle.turns.specs.Held.{Memory, Holds, Scene}
 use Rattle.turns.specs.Raising.{tallyAt, Raisable, raisedWords}
-use Rattle.turns.proofs.Bounds.{workers-limit, roomy}
+use Rattle.turns.proofs.Bounds.{workers-limit}
 
 -- a store and a read behind what stands before
 set-mid : (pre xs : List ℕ) (i j v : ℕ) → i ≡ length pre + j → set (pre ++ xs) i v ≡ pre ++ set xs j v
@@ -42,18 +43,19 @@ module _ (ts : List Tally) (b : ℕ) (low : b < length ts) where
   place : (k : ℕ) → tallyAt b + k ≡ length (near .pre) + k
   place k = omega (arith, near .long)
 
-  -- the four words
-  pub word-followed : getD (talliesWords ts) (tallyAt b) 0 ≡ t .followed
-  word-followed = rw words (get-mid (near .pre) _ (tallyAt b) 0 (omega (arith, near .long)))
+  -- its words
+  pub word-at : (k : ℕ) → k < 4 → getD (talliesWords ts) (tallyAt b + k) 0 ≡ getD (tallyWords t) k 0
+  word-at k l = rw words (get-mid (near .pre) _ (tallyAt b + k) k (place k) ∙ by k l)
+    where
+      by : (k : ℕ) → k < 4 → getD (tallyWords t ++ near .post) k 0 ≡ getD (tallyWords t) k 0
+      by zero l = refl
+      by (suc zero) l = refl
+      by (suc (suc zero)) l = refl
+      by (suc (suc (suc zero))) l = refl
+      by (suc (suc (suc (suc k)))) l = absurd (omega arith)
 
-  pub word-won : getD (talliesWords ts) (tallyAt b + 1) 0 ≡ t .won
-  word-won = rw words (get-mid (near .pre) _ (tallyAt b + 1) 1 (place 1))
-
-  pub word-lost : getD (talliesWords ts) (tallyAt b + 2) 0 ≡ t .lost
-  word-lost = rw words (get-mid (near .pre) _ (tallyAt b + 2) 2 (place 2))
-
-  pub word-handed : getD (talliesWords ts) (tallyAt b + 3) 0 ≡ t .handed
-  word-handed = rw words (get-mid (near .pre) _ (tallyAt b + 3) 3 (place 3))
+  word-followed : getD (talliesWords ts) (tallyAt b) 0 ≡ t .followed
+  word-followed = let z : tallyAt b + 0 ≡ tallyAt b = omega arith in rw z at (word-at 0 (omega arith))
 
   -- stored one after the other
   stores : (ws : List ℕ) → ws ≡ near .pre ++ (t .followed ∷ t .won ∷ t .lost ∷ t .handed ∷ near .post) → (f w l h : ℕ)
@@ -71,7 +73,7 @@ module _ (ts : List Tally) (b : ℕ) (low : b < length ts) where
   unfolding talliesWords
   raised y =
       stores (talliesWords ts) words _ _ _ _
-      ∙ rw (word-followed, word-won, word-lost, word-handed) (sym (near .put (addTally t y)))
+      ∙ rw (word-followed, word-at 1 (omega arith), word-at 2 (omega arith), word-at 3 (omega arith)) (sym (near .put (addTally t y)))
 
   pub words-room : tallyAt b + 4 ≤ length (talliesWords ts)
   unfolding talliesWords
@@ -80,23 +82,23 @@ module _ (ts : List Tally) (b : ℕ) (low : b < length ts) where
 -- ---- of a state that is held
 
 module _ {G : Graph} {g : Setup} {s : State} {μ : Memory} (c : Scene G g s) (h : Holds G g s μ) (b : ℕ) (low : b < g .workers) where
-  there : b < length (s .tallies)
+  pub there : b < length (s .tallies)
   there = omega (arith, c .sound .tallies-length)
 
   pub raisable : (y : Tally) → y .followed ≤ 1 → y .won ≤ 1 → y .lost ≤ 1 → y .handed ≤ 1 → Raisable (μ .tallies) b y
   raisable y f w l d =
       let n = c .sound in
-      let r = rw (h .counts-are) at (roomy c h) in
+      let few = followed-limit (c .accepted) n in
       let most = sum-share (λ (t : Tally). t .followed) noTally refl (s .tallies) b in
       let gave = sum-share (λ (t : Tally). t .handed) noTally refl (s .tallies) b in
       rw (h .tallies-are)
       (record {
         low = omega (arith, workers-limit c);
         room = words-room (s .tallies) b there;
-        followed = omega (arith, word-followed (s .tallies) b there, most, n .tallies-followed, r .followed);
-        won = omega (arith, word-won (s .tallies) b there, n .tallies-claims b, most, n .tallies-followed, r .followed);
-        lost = omega (arith, word-lost (s .tallies) b there, n .tallies-claims b, most, n .tallies-followed, r .followed);
-        handed = omega (arith, word-handed (s .tallies) b there, gave, n .tallies-handed, r .handed);
+        followed = omega (arith, word-followed (s .tallies) b there, most, n .tallies-followed, few, c .references-limit);
+        won = omega (arith, word-at (s .tallies) b there 1 (omega arith), n .tallies-claims b, most, n .tallies-followed, few, c .references-limit);
+        lost = omega (arith, word-at (s .tallies) b there 2 (omega arith), n .tallies-claims b, most, n .tallies-followed, few, c .references-limit);
+        handed = omega (arith, word-at (s .tallies) b there 3 (omega arith), gave, n .tallies-handed, c .handed-room);
       })
 
   -- the words afterwards are the raised tallies'

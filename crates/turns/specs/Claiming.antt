@@ -18,12 +18,12 @@ use Rattle.turns.specs.declared.follow.Opened.{Opened}
 use Rattle.turns.specs.declared.follow.Ownership.{Ownership}
 use Rattle.turns.specs.declared.follow.Ownership.the-variants.{Won, Lost}
 
-abbrev pub openedWith : ℕ → ℕ → ℕ → Opened
-openedWith won first end = record { won = won; first = first; end = end }
+abbrev pub openedWith : ℕ → ℕ → Opened
+openedWith first end = record { first = first; end = end }
 
 -- nothing opens
 abbrev pub openedNone : Opened
-openedNone = openedWith 0 0 0
+openedNone = openedWith 0 0
 
 -- each answer of a claim as a row
 abbrev pub claimRow : Ownership → ClaimRow
@@ -32,15 +32,19 @@ claimRow (Lost owner) = record { won = false; owner = owner }
 
 -- what opens, by whether the claim is won
 abbrev pub openedBy : Bool → List ℕ → ℕ → Opened
-openedBy true offsets t = openedWith 1 (getD offsets t 0) (getD offsets (t + 1) 0)
+openedBy true offsets t = openedWith (getD offsets t 0) (getD offsets (t + 1) 0)
 openedBy false offsets t = openedNone
 
 abbrev pub openedAt : List ℕ → List ℕ → ℕ → ℕ → Opened
 openedAt offsets marks b t = openedBy (claimTells (getD marks t 0) b .won) offsets t
 
--- what the tally of its worker counts: the reference followed, and the claim won or lost
-abbrev pub claimTally : Opened → Tally
-claimTally o = tally 1 (o .won) (1 - o .won) 0
+-- what the tally of its worker counts, by whether the claim is won: the reference followed, and the claim won or lost
+abbrev pub claimTally : Bool → Tally
+claimTally true = tally 1 1 0 0
+claimTally false = tally 1 0 1 0
+
+abbrev pub tallyAtClaim : List ℕ → ℕ → ℕ → Tally
+tallyAtClaim marks b t = claimTally (claimTells (getD marks t 0) b .won)
 
 -- the marks afterwards
 abbrev pub marksBy : ℕ → List ℕ → ℕ → ℕ → List ℕ

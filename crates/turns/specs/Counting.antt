@@ -1,7 +1,12 @@
--- How far a collection is, by value: the counts, and how many workers have not ended.
-use Prim.Native.Nat.{ℕ, _-_}
+-- How far a collection is, by value: what the tallies do not tell of its counts, and how many workers have not ended.
+use Prim.Native.Nat.{ℕ, _+_, _-_, _≤_, _<_, _^_}
+use mathlib.Core.Path.{_≡_}
+use mathlib.Core.List.{List}
+use lib.ListN.{length, getD}
+use Rattle.laws.specs.Sum.{sum}
 use Rattle.machine.specs.declared.Counts.{Counts}
-use Rattle.machine.specs.Row.{countMove, countFollow}
+use Rattle.machine.specs.Limits.{most-workers}
+use Rattle.machine.specs.Tally.{Tally, tally-words, tallyWords, talliesWords}
 use Rattle.machine.specs.Machine.{Worker, idle, asking, denied, ended, given, busy}
 use Rattle.turns.specs.declared.Progress.{Progress}
 
@@ -14,17 +19,83 @@ running? ended = 0
 running? (given rs) = 1
 running? (busy c n p rs) = 1
 
-abbrev pub progressWith : Counts → ℕ → Progress
-progressWith c running = record { counts = c; running = running }
+-- ---- the counts that a progress and the tallies make
+
+-- word number k of a tally
+abbrev pub tallyWord : ℕ → Tally → ℕ
+tallyWord k t = getD (tallyWords t) k 0
+
+abbrev pub countsOf : Progress → List Tally → Counts
+countsOf p ts =
+    record {
+      live = p .starts + sum (λ (t : Tally). t .won) ts;
+      followed = sum (λ (t : Tally). t .followed) ts;
+      handed = sum (λ (t : Tally). t .handed) ts;
+      refused = p .refused;
+      moved = p .moved;
+      carrying = p .carrying;
+    }
+
+-- the words of W tallies, whose words number k add up to what a word holds
+pub record Summable (ws : List ℕ) (W k : ℕ) : Type 0 where
+  pub tallies : List Tally
+  pub words-are : ws ≡ talliesWords tallies
+  pub count : length tallies ≡ W
+  pub few : W ≤ most-workers
+  pub low : k < tally-words
+  pub fits : sum (tallyWord k) tallies < 2 ^ 64
+
+-- the words of W tallies, with which each count is what a word holds
+pub record Countable (ws : List ℕ) (W : ℕ) (p : Progress) : Type 0 where
+  pub tallies : List Tally
+  pub words-are : ws ≡ talliesWords tallies
+  pub count : length tallies ≡ W
+  pub few : W ≤ most-workers
+  pub live-fits : countsOf p tallies .live < 2 ^ 64
+  pub followed-fits : countsOf p tallies .followed < 2 ^ 64
+  pub handed-fits : countsOf p tallies .handed < 2 ^ 64
+
+-- ---- what turns leave of a progress
+
+-- before the first turn, with so many starts, and workers that carry references
+abbrev pub freshProgress : ℕ → ℕ → ℕ → Progress
+freshProgress starts carrying running = record { starts = starts; refused = 0; moved = 0; carrying = carrying; running = running }
+
+-- none of the numbers that turns raise is at its end
+pub record Roomy (p : Progress) : Type 0 where
+  pub refused : p .refused + 1 < 2 ^ 64
+  pub moved : p .moved + 1 < 2 ^ 64
+  pub carrying : p .carrying + 1 < 2 ^ 64
 
 -- after a turn that follows nothing and leaves as many running
 abbrev pub movedOn : Progress → ℕ → ℕ → Progress
-movedOn p handed⁺ refused⁺ = progressWith (countMove (p .counts) handed⁺ refused⁺) (p .running)
+movedOn p handed⁺ refused⁺ =
+    record {
+      starts = p .starts;
+      refused = p .refused + refused⁺;
+      moved = p .moved + 1;
+      carrying = p .carrying + handed⁺;
+      running = p .running;
+    }
 
 -- after a worker has ended
 abbrev pub endedOne : Progress → Progress
-endedOne p = progressWith (countMove (p .counts) 0 0) (p .running - 1)
+endedOne p =
+    record {
+      starts = p .starts;
+      refused = p .refused;
+      moved = p .moved + 1;
+      carrying = p .carrying;
+      running = p .running - 1;
+    }
 
--- after following: so many more live and refused, and so many workers left with nothing
-abbrev pub followedOn : Progress → ℕ → ℕ → ℕ → Progress
-followedOn p live⁺ refused⁺ emptied = progressWith (countFollow (p .counts) live⁺ refused⁺ emptied) (p .running)
+-- after following: so many more refused, and so many workers left with nothing
+abbrev pub followedOn : Progress → ℕ → ℕ → Progress
+followedOn p refused⁺ emptied =
+    record {
+      starts = p .starts;
+      refused = p .refused + refused⁺;
+      moved = p .moved + 1;
+      carrying = p .carrying - emptied;
+      running = p .running;
+    }

@@ -17,7 +17,7 @@ use Rattle.worker.specs.Registers.{blockAt, block-words, status-idle, status-as
 use Rattle.worker.specs.Stretch.{topWith, Told}
 use Rattle.turns.specs.declared.Setup.{Setup}
 use Rattle.turns.specs.declared.Progress.{Progress}
-use Rattle.turns.specs.Counting.{running?}
+use Rattle.turns.specs.Counting.{running?, countsOf}
 
 -- what is lent and changed by turns, and what is kept by value
 pub record Memory : Type 0 where
@@ -93,7 +93,7 @@ Each G W L ws regs work = (b : ℕ) → b < W → BlockIs G (getD ws b ended) (b
 pub record Holds (G : Graph) (g : Setup) (s : State) (μ : Memory) : Type 0 where
   pub marks-are : μ .marks ≡ s .marks
   pub tallies-are : μ .tallies ≡ talliesWords (s .tallies)
-  pub counts-are : μ .progress .counts ≡ s .counts
+  pub counts-are : countsOf (μ .progress) (s .tallies) ≡ s .counts
   pub running-is : μ .progress .running ≡ sum running? (s .workers)
   pub regs-long : length (μ .regs) ≡ block-words * g .workers
   pub work-long : length (μ .work) ≡ g .workers * g .stretch

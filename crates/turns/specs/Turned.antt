@@ -81,8 +81,8 @@ pub record IsClaiming (offsets targets : List ℕ) (b : ℕ) (G : Graph) (s : St
   pub is : worker s b ≡ busy cell since (claim left) runs
   pub graph-is : G ≡ graph offsets targets
 
--- it follows that reference, at whose target `found` is what opens: a run from f to e, if any, and so many new marks; the
--- marks and the tallies are these then
+-- it follows that reference, at whose target `found` is what is found: what opens is a run from f to e, if any; the marks
+-- and the tallies are these then
 pub record IsFollowing (g : Setup) (targets marks tallies : List ℕ) (o : Opened) (b : ℕ) (G : Graph) (s : State) : Type 0 where
   pub cell : Cell
   pub since : ℕ
@@ -97,8 +97,6 @@ pub record IsFollowing (g : Setup) (targets marks tallies : List ℕ) (o : Opene
   pub order : o .first ≤ o .end
   pub limit : o .end ≤ references G
   pub opened-is : found .opened ≡ runFrom (o .first) (o .end - o .first)
-  pub won-is : o .won ≡ found .won
-  pub won-limit : o .won ≤ 1
   pub marks-are : marks ≡ found .marks
   pub tallies-are : tallies ≡ talliesWords (tallied (s .tallies) b (tally 1 (found .won) (found .lost) 0))
   pub turn-is : (v : ℕ) → turned g b v G s ≡ follows s b cell since left found (onwardRuns first more (found .opened) below)

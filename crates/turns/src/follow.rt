@@ -1,6 +1,7 @@
 // The turns of a worker that looks or claims, and following; and taking a hand-over up.
 use crate::Progress;
 use crate::Setup;
+use crate::counts;
 use worker::registers;
 use worker::registers::Block;
 ghost use mathlib.Core.Path.{_≡_};
@@ -11,26 +12,22 @@ ghost use lib.ListN.{length};
 ghost use Rattle.machine.specs.Limits.{most-workers};
 ghost use Rattle.machine.specs.Machine.{claimMark};
 ghost use Rattle.worker.specs.Registers.{Room, blockAt};
-ghost use Rattle.turns.specs.Claiming.{openedNone, openedBy, claimRow, Claims, nextWord, Advanceable, Advanced, stoppedCount, stoppedAt, takenBlock};
+ghost use Rattle.turns.specs.Claiming.{openedNone, openedBy, claimRow, claimTally, Claims, nextWord, Advanceable, Advanced, stoppedCount, stoppedAt, takenBlock};
 ghost use Rattle.turns.specs.Held.{memory};
+ghost use Rattle.turns.specs.Raising.{Raisable, raisedWords};
 ghost use Rattle.turns.specs.Turned.{Ready, DoesAny, IsGiven, IsLooking, IsClaiming, IsFollowing};
 
-// What is found at a target: how many marks are new, and the run that opens, from `first` to `end`.
+// What opens at a target: a run, from `first` to `end`.
 pub struct Opened {
-    pub won: u64,
     pub first: u32,
     pub end: u32,
 }
 
-// The target is marked already.
-fn lost() -> Opened
+// The target is marked already: nothing opens.
+fn nothing() -> Opened
     ensures { λ r. ⌜ r ≡ openedNone ⌝ }
 {
-    Opened {
-        won: 0,
-        first: 0,
-        end: 0,
-    }
+    Opened { first: 0, end: 0 }
 }
 
 // What a claim tells: won or lost, and the owner, whose mark stands there afterwards.
@@ -70,11 +67,22 @@ fn opens(offsets: &[u32], t: u32, told: Ownership) -> Opened
     let v = t as usize;
     match told {
         Ownership::Won(_) => Opened {
-            won: 1,
             first: offsets[v],
             end: offsets[v + 1],
         },
-        Ownership::Lost(_) => lost(),
+        Ownership::Lost(_) => nothing(),
+    }
+}
+
+// Worker b's tally with a claim, which is followed, whether it is won or lost. A branch for each, so
+// that a word that does not change is not written.
+fn count_claim(tallies: &mut [u64], b: u32, told: Ownership)
+    requires { ⌜ Raisable (now tallies) b (claimTally (claimRow told .won)) ⌝ }
+    ensures { λ _. ⌜ now (tallies .exit) ≡ raisedWords (now (tallies .entry)) b (claimTally (claimRow told .won)) ⌝ }
+{
+    match told {
+        Ownership::Won(_) => crate::raise(tallies, b, 1, 1, 0, 0),
+        Ownership::Lost(_) => crate::raise(tallies, b, 1, 0, 1, 0),
     }
 }
 
@@ -169,8 +177,8 @@ fn stop(regs: &mut [u32], b: u32, cell: u32) -> u64
     1
 }
 
-// Worker b, with the block r, follows its first reference, at whose target c was found. Its tally was
-// raised before.
+// Worker b, with the block r, follows its first reference, at whose target c opens. Who calls raises
+// its tally.
 fn follow(
     targets: &[u32],
     setup: Setup,
@@ -190,7 +198,6 @@ fn follow(
 {
     let len = setup.stretch;
     let from = b as usize * len;
-    let counts = p.counts;
     if advance(
         targets,
         &mut work[from..from + len],
@@ -200,16 +207,10 @@ fn follow(
         c.first,
         c.end,
     ) {
-        return Progress {
-            counts: machine::count_follow(counts, c.won, 0, 0),
-            running: p.running,
-        };
+        return counts::followed(p, 0, 0);
     }
     let refused = stop(regs, b, r.cell);
-    Progress {
-        counts: machine::count_follow(counts, c.won, refused, 1),
-        running: p.running,
-    }
+    counts::followed(p, refused, 1)
 }
 
 // A look: where the target is marked, the reference is followed; where not, the next turn is a claim.
@@ -232,11 +233,13 @@ pub fn look(
     let t = r.target as usize;
     let seen = marks[t];
     if seen != 0 {
+        let q = follow(targets, setup, work, regs, p, b, r, nothing());
+        // Behind it, so that what is left of the block is loaded where it is used.
         crate::raise(tallies, b, 1, 0, 0, 0);
-        return follow(targets, setup, work, regs, p, b, r, lost());
+        return q;
     }
     registers::put(regs, b, registers::STATUS, registers::CLAIM);
-    crate::moved(p, 0, 0)
+    counts::moved(p, 0, 0)
 }
 
 // A claim; the reference is followed, whether the claim is won or lost.
@@ -256,11 +259,13 @@ pub fn claim(
         (memory (now (marks .entry)) (now (work .entry)) (now (tallies .entry)) (now (regs .entry)) p)
         (memory (now (marks .exit)) (now (work .exit)) (now (tallies .exit)) (now (regs .exit)) q) ⌝ }
 {
+    let first = registers::load(regs, b);
+    let target = first.target;
+    let told = claim_target(marks, b, target);
+    count_claim(tallies, b, told);
+    let found = opens(offsets, target, told);
+    // Once more, so that the rest of the block is not kept over the writing of the tally.
     let r = registers::load(regs, b);
-    let told = claim_target(marks, b, r.target);
-    let found = opens(offsets, r.target, told);
-    let won = found.won;
-    crate::raise(tallies, b, 1, won, 1 - won, 0);
     follow(targets, setup, work, regs, p, b, r, found)
 }
 
@@ -274,5 +279,5 @@ pub fn take_up(targets: &[u32], setup: Setup, regs: &mut [u32], p: Progress, b: 
     let r = registers::load(regs, b);
     let first = r.first as usize;
     registers::store(regs, b, taken(r, targets[first]));
-    crate::moved(p, 0, 0)
+    counts::moved(p, 0, 0)
 }

@@ -1,6 +1,7 @@
 // The turn of an idle worker.
 use crate::Progress;
 use crate::Setup;
+use crate::counts;
 use worker::registers;
 ghost use mathlib.Core.List.{List};
 ghost use Prim.Native.Nat.{ℕ};
@@ -15,14 +16,10 @@ pub fn idle_turn(setup: Setup, regs: &mut [u32], p: Progress, b: u32, v: u32) ->
         (memory marks work tallies (now (regs .entry)) p)
         (memory marks work tallies (now (regs .exit)) r)) ⌝ }
 {
-    let counts = p.counts;
-    let carrying = counts.carrying;
+    let carrying = p.carrying;
     if carrying == 0 {
         registers::put(regs, b, registers::STATUS, registers::ENDED);
-        return Progress {
-            counts: machine::count_move(counts, 0, 0),
-            running: p.running - 1,
-        };
+        return counts::ended(p);
     }
     let workers = setup.workers;
     if workers <= v {
@@ -39,5 +36,5 @@ pub fn idle_turn(setup: Setup, regs: &mut [u32], p: Progress, b: u32, v: u32) ->
     }
     registers::put(regs, v, registers::CELL, b + 1);
     registers::put(regs, b, registers::STATUS, registers::ASKING);
-    crate::moved(p, 0, 0)
+    counts::moved(p, 0, 0)
 }

@@ -1,15 +1,12 @@
 // A turn of the machine on the lent memories: marks, work memory, tallies and registers.
+pub mod counts;
 mod follow;
 mod idle;
 mod poll;
 
-use machine::Counts;
 use worker::registers;
 ghost use mathlib.Core.Path.{_≡_};
-ghost use Prim.Native.Nat.{_≤_};
-ghost use Rattle.machine.specs.Row.{Roomy};
 ghost use Rattle.machine.specs.Tally.{tally};
-ghost use Rattle.turns.specs.Counting.{movedOn};
 ghost use Rattle.turns.specs.Held.{memory};
 ghost use Rattle.turns.specs.Raising.{Raisable, raisedWords};
 ghost use Rattle.turns.specs.Turned.{Ready, Does, IsLent};
@@ -22,23 +19,16 @@ pub struct Setup {
     pub stretch: usize,
 }
 
-// How far a collection is: its counts, and how many workers have not ended. A word of another width
-// than the registers': the compiler joins the writing of the two where they are of one.
+// How far a collection is: what its tallies do not tell of its counts, and how many workers have not
+// ended. Words of another width than the registers': the compiler joins the writing of the two where
+// they are of one.
 pub struct Progress {
-    pub counts: Counts,
+    // The marks that no claim set.
+    pub starts: u64,
+    pub refused: u64,
+    pub moved: u64,
+    pub carrying: u64,
     pub running: u64,
-}
-
-// After a turn that follows nothing and leaves as many workers running.
-fn moved(p: Progress, handed: u64, refused: u64) -> Progress
-    requires { ⌜ Roomy (p .counts) × (handed ≤ 1) × (refused ≤ 1) ⌝ }
-    ensures { λ r. ⌜ r ≡ movedOn p handed refused ⌝ }
-{
-    let counts = p.counts;
-    Progress {
-        counts: machine::count_move(counts, handed, refused),
-        running: p.running,
-    }
 }
 
 // Worker b's tally, with so many more followed, won, lost and handed. Where a number is 0, no word is
@@ -82,7 +72,7 @@ pub fn turn(
         registers::IDLE => idle::idle_turn(setup, regs, p, b, v),
         registers::DENIED => {
             registers::put(regs, b, registers::STATUS, registers::IDLE);
-            moved(p, 0, 0)
+            counts::moved(p, 0, 0)
         }
         registers::GIVEN => follow::take_up(targets, setup, regs, p, b),
         registers::POLL => poll::poll(setup, work, tallies, regs, p, b),

@@ -1,6 +1,7 @@
 // The turn of a worker that polls: it answers the asker in its cell, and a batch begins.
 use crate::Progress;
 use crate::Setup;
+use crate::counts;
 use machine::frontier::Held;
 use worker::registers;
 use worker::registers::Block;
@@ -192,7 +193,7 @@ fn share(
     registers::store(regs, b, shared(r, setup.batch, half, parts.kept));
     registers::store(regs, asker, given(parts.given, rest));
     crate::raise(tallies, b, 0, 0, 0, 1);
-    crate::moved(p, 1, 0)
+    counts::moved(p, 1, 0)
 }
 
 // The asker is answered no.
@@ -208,7 +209,7 @@ fn refuse(setup: Setup, regs: &mut [u32], p: Progress, b: u32, r: Block) -> Prog
     registers::put(regs, b, registers::CELL, 0);
     registers::begin(regs, b, batch, r.since + batch, carried - batch);
     registers::put(regs, r.cell - 1, registers::STATUS, registers::DENIED);
-    crate::moved(p, 0, 1)
+    counts::moved(p, 0, 1)
 }
 
 // Whether a poll shares: where more than K are carried, or where since is at least K and at least 2
@@ -245,7 +246,7 @@ pub fn poll(
         let carried = r.carried;
         let batch = least(setup.batch, carried);
         registers::begin(regs, b, batch, r.since + batch, carried - batch);
-        return crate::moved(p, 0, 0);
+        return counts::moved(p, 0, 0);
     }
     if shares(setup.cutoff, r.since, r.carried) {
         return share(setup, work, tallies, regs, p, b, r);

@@ -5,7 +5,7 @@ use native.Mathlib.Omega.{arith}
 use lib.ListN.{length}
 use Rattle.turns.specs.Held.{memory}
 use Rattle.turns.specs.Turned.{Ready}
-use Rattle.marker.specs.Stages.{IsBegun}
+use Rattle.marker.specs.Stages.{IsScheduled}
 use Rattle.marker.proofs.Loop.{LoopAt, at-start, at-stop, at-end, at-pair, at-turn, at-next}
 use Rattle.marker.proofs.take_turns.Statement.{statement}
 use Rattle.marker.proofs.take_turns.Tie as tie
@@ -14,7 +14,7 @@ abbrev Inv-loop : tie.InvT-loop
 Inv-loop offsets targets setup schedule marks₀ work₀ tallies₀ regs₀ p₀ i₀ marks work tallies regs p i =
     (i ≤ length schedule)
     × (((length marks ≡ length marks₀) × ((length work ≡ length work₀) × ((length tallies ≡ length tallies₀) × (length regs ≡ length regs₀))))
-    × ((x : Ready (IsBegun setup offsets targets schedule) setup (memory marks₀ work₀ tallies₀ regs₀ p₀)) → LoopAt x i (memory marks work tallies regs p)))
+    × ((x : Ready (IsScheduled setup offsets targets schedule) setup (memory marks₀ work₀ tallies₀ regs₀ p₀)) → LoopAt x i (memory marks work tallies regs p)))
 
 abbrev μ-loop : tie.MeasureT-loop
 μ-loop offsets targets setup schedule marks₀ work₀ tallies₀ regs₀ p₀ i₀ marks work tallies regs p i = length schedule - i
@@ -45,7 +45,7 @@ turn-requires c κs =
     let tested = c .before .before .before .before .before .before .before in
     let start = tested .before .before .before .before .before .before .before .before .before in
     let x = start .pre in
-    at-turn x (tested .before .loop .inv .1 .1 x) (tested .loop-test .taken) (omega arith)
+    at-turn x (tested .before .loop .inv .1 .1 x) (tested .loop-test .taken)
 
 add-i : tie.Need-add-i Inv-loop μ-loop
 add-i c =
@@ -71,7 +71,7 @@ loop-again c =
             (omega (arith, t .kept .1 .1 .1 .1 .1 .0, l .inv .1 .0 .1 .1 .0), omega (arith, t .kept .1 .1 .1 .1 .1 .1 .0, l .inv .1 .0 .1 .1 .1)),
           ),
         ),
-        λ y. at-next y (l .inv .1 .1 y) (tested .loop-test .taken) (omega (arith, start .good)) (t .ensures),
+        λ y. at-next y (l .inv .1 .1 y) (tested .loop-test .taken) (t .ensures),
       ),
     )
 

@@ -23,10 +23,9 @@ gather-requires c κs =
 
 returns : tie.Need-returns
 returns c =
-    let at-fresh = c .before in
-    let none = at-fresh .before in
+    let none = c .before .before in
     let gathered = gather (none .before) in
-    rw (at-fresh .fresh .ensures)
+    rw (c .begun .ensures)
     (begin-none (entry (clear gathered) .pre) (clear gathered .clear-marks .kept .0) (gathered .gather .ensures) (none .if1 .taken))
 
 lower-requires : tie.Need-lower-requires
@@ -36,8 +35,8 @@ lower-requires c κs =
     lower-ready (entry (clear gathered) .pre) (clear gathered .clear-marks .kept .0) (gathered .gather .ensures) (some .if1 .left)
     (gathered .gather .kept .1 .1 .1 .0)
 
-shared-slice-read-t30 : tie.Need-shared-slice-read-t30
-shared-slice-read-t30 c =
+shared-slice-read-t29 : tie.Need-shared-slice-read-t29
+shared-slice-read-t29 c =
     let low = c .before .before .before .before in
     let some = low .before .before in
     let gathered = gather (some .before) in
@@ -51,18 +50,17 @@ store-requires c κs =
 
 returns-2 : tie.Need-returns-2
 returns-2 c =
-    let at-fresh = c .before in
-    let store = at-fresh .before .before .before in
+    let store = c .before .before .before .before in
     let low = store .before .before .before .before .before in
     let some = low .before .before in
     let gathered = gather (some .before) in
-    rw (at-fresh .fresh2 .ensures)
+    rw (c .begun2 .ensures)
     (begin-some (entry (clear gathered) .pre) (clear gathered .clear-marks .kept .0) (gathered .gather .ensures) (some .if1 .left)
     (gathered .gather .kept .1 .1 .1 .0) (low .lower .ensures) _ (store .store .ensures))
 
 pub start-spec : {M : Type 1} → statement M
 start-spec =
     tie.close
-    (tie.spec (λ c κs. search needs) gather-requires (λ c. search needs) (λ c κs. search needs) (λ c. search needs) (λ c. search needs)
-    (λ c. search needs) returns lower-requires (λ c. search needs) (λ c. search needs) shared-slice-read-t30 store-requires
-    (λ c κs. search needs) (λ c. search needs) (λ c. search needs) (λ c. search needs) (λ c. search needs) returns-2)
+    (tie.spec (λ c κs. search needs) gather-requires (λ c. search needs) (λ c. search needs) (λ c κs. search needs) (λ c. search needs)
+    (λ c. search needs) returns lower-requires (λ c. search needs) (λ c. search needs) shared-slice-read-t29 store-requires
+    (λ c. search needs) (λ c κs. search needs) (λ c. search needs) (λ c. search needs) (λ c. search needs) returns-2)

@@ -11,7 +11,7 @@ use Rattle.turns.proofs.follow.follow.Tie as tie
 
 -- back to the entry
 abbrev entry : tie.After-advance → tie.Start
-entry c = c .before .before .before .before .before .before .before
+entry c = c .before .before .before .before .before .before
 
 mul-from : tie.Need-mul-from
 mul-from c =
@@ -21,34 +21,34 @@ mul-from c =
 
 add-advance : tie.Need-add-advance
 add-advance c =
-    let start = c .before .before .before .before in
+    let start = c .before .before .before in
     let x = start .pre .1 .1 .1 .1 .1 in
     omega (arith, place-limit (x .scene) (x .holds) (start .args .b) (follow-low x))
 
 mul-advance : tie.Need-mul-advance
 mul-advance c =
-    let start = c .before .before .before .before in
+    let start = c .before .before .before in
     let x = start .pre .1 .1 .1 .1 .1 in
     omega (arith, place-limit (x .scene) (x .holds) (start .args .b) (follow-low x))
 
 part-advance-end : tie.Need-part-advance-end
 part-advance-end c =
-    let start = c .before .before .before .before in
+    let start = c .before .before .before in
     let x = start .pre .1 .1 .1 .1 .1 in
     omega (arith, stretch-room (x .scene) (x .holds) (start .args .b) (follow-low x))
 
 advance-requires : tie.Need-advance-requires
 advance-requires c κs =
-    let start = c .before .before .before .before .before .before in
+    let start = c .before .before .before .before .before in
     let a = start .args in
     let m : a .b * a .setup .stretch + a .setup .stretch - a .b * a .setup .stretch ≡ a .setup .stretch = omega arith in
     rw m (advanceable (start .pre .1 .1 .1 .1 .1) (start .pre .0))
 
-count-follow-requires : tie.Need-count-follow-requires
-count-follow-requires c κs =
+followed-requires : tie.Need-followed-requires
+followed-requires c κs =
     let start = entry (c .before .before .before .before .before) in
     let x = start .pre .1 .1 .1 .1 .1 in
-    (roomy (x .scene) (x .holds), x .here .won-limit, omega arith, omega arith)
+    (roomy (x .scene) (x .holds), omega arith, omega arith)
 
 returns : tie.Need-returns
 returns c =
@@ -59,7 +59,7 @@ returns c =
     let m : a .b * a .setup .stretch + a .setup .stretch - a .b * a .setup .stretch ≡ a .setup .stretch = omega arith in
     let d = rw (start .pre .0, m) at (at-advance .advance .ensures) in
     let t = at-if1 .if1 .taken in
-    λ marks marks′ tallies tallies′ v x. rw (d .words, c .count-follow .ensures, m) (holds-onward x (sym (d .says) ∙ t) (d .onward t) v)
+    λ marks marks′ tallies tallies′ v x. rw (d .words, c .followed .ensures, m) (holds-onward x (sym (d .says) ∙ t) (d .onward t) v)
 
 stop-requires : tie.Need-stop-requires
 stop-requires c κs =
@@ -71,12 +71,12 @@ stop-requires c κs =
     rw (at-advance .advance .ensures .nothing (at-if1 .if1 .left), start .pre .0)
     (block-room (x .scene) (x .holds) (start .args .b) (follow-low x), λ z. asker-room x z)
 
-count-follow-requires-2 : tie.Need-count-follow-requires-2
-count-follow-requires-2 c κs =
+followed-requires-2 : tie.Need-followed-requires-2
+followed-requires-2 c κs =
     let at-stop = c .before .before in
     let start = entry (at-stop .before .before .before .before .before .before .before) in
     let x = start .pre .1 .1 .1 .1 .1 in
-    (roomy (x .scene) (x .holds), x .here .won-limit, omega (arith, at-stop .stop .ensures .0, stopped-one (start .args .r .cell)), omega (arith, carries-one x))
+    (roomy (x .scene) (x .holds), omega (arith, at-stop .stop .ensures .0, stopped-one (start .args .r .cell)), omega (arith, carries-one x))
 
 returns-2 : tie.Need-returns-2
 returns-2 c =
@@ -91,11 +91,11 @@ returns-2 c =
     let regs = rw (d .nothing t, start .pre .0) at (at-stop .stop .ensures .1) in
     let refused = rw (start .pre .0) at (at-stop .stop .ensures .0) in
     λ marks marks′ tallies tallies′ v x.
-    holds-stopped x (sym (d .says) ∙ t) v (rw (d .words, m)) regs (rw (c .count-follow2 .ensures, refused))
+    holds-stopped x (sym (d .says) ∙ t) v (rw (d .words, m)) regs (rw (c .followed2 .ensures, refused))
 
 pub follow-spec : {M : Type 1} → statement M
 follow-spec =
     tie.close
     (tie.spec mul-from add-advance mul-advance (λ c. search needs) (λ c. search needs) part-advance-end advance-requires
-    count-follow-requires (λ c. search needs) (λ c. search needs) returns stop-requires count-follow-requires-2
+    followed-requires (λ c. search needs) (λ c. search needs) returns stop-requires followed-requires-2
     (λ c. search needs) (λ c. search needs) returns-2)

@@ -21,29 +21,35 @@ shared-slice-read-seen c =
     let start = at-load .before .before .before .before .before .before .before in
     rw (at-load .load .ensures) (look-there (start .pre))
 
-raise-requires : tie.Need-raise-requires
-raise-requires c κs =
-    let start = c .before .before .before .before .before .before .before .before .before .before .before in
-    let x = start .pre in
-    raisable (x .scene) (x .holds) (start .args .b) (look-low x) _ (omega arith) (omega arith) (omega arith) (omega arith)
+-- back to the entry
+abbrev entry : tie.After-load → tie.Start
+entry c = c .before .before .before .before .before .before .before
 
 follow-requires : tie.Need-follow-requires
 follow-requires c κs =
-    let at-if1 = c .before .before .before .before .before .before .before in
+    let at-if1 = c .before .before .before in
     let at-load = at-if1 .before .before .before in
-    let start = at-load .before .before .before .before .before .before .before in
+    let start = entry at-load in
     let n = rw (at-load .load .ensures) at (at-if1 .if1 .taken) in
-    (at-load .load .ensures, (start .args .marks .now, (start .args .marks .now, (start .args .tallies .now, (raisedWords (start .args .tallies .now) (start .args .b) (tally 1 0 0 0), rw (c .lost .ensures) (seen (start .pre) n))))))
+    (at-load .load .ensures, (start .args .marks .now, (start .args .marks .now, (start .args .tallies .now, (raisedWords (start .args .tallies .now) (start .args .b) (tally 1 0 0 0), rw (c .nothing .ensures) (seen (start .pre) n))))))
+
+raise-requires : tie.Need-raise-requires
+raise-requires c κs =
+    let at-follow = c .before .before .before .before .before in
+    let at-if1 = at-follow .before .before .before .before in
+    let start = entry (at-if1 .before .before .before) in
+    let x = start .pre in
+    raisable (x .scene) (x .holds) (start .args .b) (look-low x) _ (omega arith) (omega arith) (omega arith) (omega arith)
 
 returns : tie.Need-returns
 returns c =
-    let at-follow = c .before .before .before .before in
-    let at-lost = at-follow .before in
-    let at-raise = at-lost .before .before .before .before .before in
-    let at-if1 = at-raise .before .before in
+    let at-raise = c .before .before in
+    let at-follow = at-raise .before .before .before .before .before .before in
+    let at-nothing = at-follow .before in
+    let at-if1 = at-nothing .before .before .before in
     let at-load = at-if1 .before .before .before in
     let n = rw (at-load .load .ensures) at (at-if1 .if1 .taken) in
-    let d = rw (at-lost .lost .ensures) at (at-follow .follow .ensures) in
+    let d = rw (at-nothing .nothing .ensures) at (at-follow .follow .ensures) in
     λ v x. rw (at-raise .raise .ensures) (d _ _ _ _ v (seen x n))
 
 put-requires : tie.Need-put-requires
@@ -69,5 +75,5 @@ returns-2 c =
 pub look-spec : {M : Type 1} → statement M
 look-spec =
     tie.close
-    (tie.spec load-requires (λ c. search needs) shared-slice-read-seen raise-requires (λ c κs. search needs) follow-requires
+    (tie.spec load-requires (λ c. search needs) shared-slice-read-seen (λ c κs. search needs) follow-requires raise-requires
     (λ c. search needs) (λ c. search needs) (λ c. search needs) returns put-requires moved-requires (λ c. search needs) returns-2)

@@ -8,8 +8,8 @@ use Rattle.turns.proofs.idle.idle_turn.Statement.{statement}
 use Rattle.turns.proofs.idle.idle_turn.Tie as tie
 
 -- back to the entry
-abbrev entry : tie.After-counts → tie.Start
-entry c = c .before .before
+abbrev entry : tie.After-slice-known → tie.Start
+entry c = c .before
 
 -- back to where the named worker's block is loaded
 abbrev loaded : tie.After-put-arg2 → tie.After-load
@@ -24,26 +24,19 @@ put-requires c κs =
     let x = start .pre .1 .1 .1 in
     (block-room (x .scene) (x .holds) (start .args .b) (idle-low (x .scene) (x .holds) (start .args .b) 0 (x .here)), omega arith)
 
-count-move-requires : tie.Need-count-move-requires
-count-move-requires c κs =
+ended-requires : tie.Need-ended-requires
+ended-requires c κs =
     let start = entry (c .before .before .before .before .before) in
     let x = start .pre .1 .1 .1 in
-    (roomy (x .scene) (x .holds), omega arith, omega arith)
-
-sub-t17 : tie.Need-sub-t17
-sub-t17 c =
-    let start = entry (c .before .before .before .before .before .before .before) in
-    let x = start .pre .1 .1 .1 in
-    idle-running (x .scene) (x .holds) (start .args .b) 0 (x .here)
+    (roomy (x .scene) (x .holds), idle-running (x .scene) (x .holds) (start .args .b) 0 (x .here))
 
 returns : tie.Need-returns
 returns c =
-    let at-count-move = c .before in
-    let at-put = at-count-move .before .before .before in
+    let at-put = c .before .before .before in
     let at-if1 = at-put .before .before in
     let start = entry (at-if1 .before) in
     let a = start .args in
-    λ marks work tallies x. rw (at-put .put .ensures, at-count-move .count-move .ensures) (holds-ended (x .scene) (x .holds) (a .b) (a .v) (x .here) (at-if1 .if1 .taken))
+    λ marks work tallies x. rw (at-put .put .ensures, c .ended .ensures) (holds-ended (x .scene) (x .holds) (a .b) (a .v) (x .here) (at-if1 .if1 .taken))
 
 returns-2 : tie.Need-returns-2
 returns-2 c =
@@ -108,6 +101,6 @@ returns-5 c =
 pub idle-turn-spec : {M : Type 1} → statement M
 idle-turn-spec =
     tie.close
-    (tie.spec put-requires count-move-requires sub-t17 (λ c. search needs) returns returns-2 (λ c κs. search needs)
+    (tie.spec put-requires ended-requires (λ c. search needs) returns returns-2 (λ c κs. search needs)
     (λ c. search needs) returns-3 (λ c. search needs) returns-4 add-put (λ c κs. search needs) put-requires-3
     moved-requires (λ c. search needs) returns-5)

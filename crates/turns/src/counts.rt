@@ -1,0 +1,86 @@
+// The counts of a collection: the part that is kept by value and changed by turns, and all of them at
+// the end. What the tallies add up to is not counted twice.
+use crate::Progress;
+use machine::Counts;
+ghost use mathlib.Core.Path.{_≡_};
+ghost use Prim.Native.Nat.{_≤_};
+ghost use Rattle.laws.specs.Sum.{sum};
+ghost use Rattle.turns.specs.Counting.{Roomy, movedOn, endedOne, followedOn, tallyWord, Summable, Countable, countsOf};
+
+// Words of a tally by their number.
+pub const FOLLOWED: usize = 0;
+
+pub const WON: usize = 1;
+
+pub const HANDED: usize = 3;
+
+// After a turn that follows nothing, with so many more handed and refused. An asker carries from its
+// hand-over on.
+pub fn moved(p: Progress, handed: u64, refused: u64) -> Progress
+    requires { ⌜ Roomy p × (handed ≤ 1) × (refused ≤ 1) ⌝ }
+    ensures { λ r. ⌜ r ≡ movedOn p handed refused ⌝ }
+{
+    Progress {
+        starts: p.starts,
+        refused: p.refused + refused,
+        moved: p.moved + 1,
+        carrying: p.carrying + handed,
+        running: p.running,
+    }
+}
+
+// After a turn in which a worker ends.
+pub fn ended(p: Progress) -> Progress
+    requires { ⌜ Roomy p × (1 ≤ p .running) ⌝ }
+    ensures { λ r. ⌜ r ≡ endedOne p ⌝ }
+{
+    Progress {
+        starts: p.starts,
+        refused: p.refused,
+        moved: p.moved + 1,
+        carrying: p.carrying,
+        running: p.running - 1,
+    }
+}
+
+// After a turn that follows a reference, with so many more refused, and so many workers left with
+// nothing.
+pub fn followed(p: Progress, refused: u64, emptied: u64) -> Progress
+    requires { ⌜ Roomy p × (refused ≤ 1) × (emptied ≤ p .carrying) ⌝ }
+    ensures { λ r. ⌜ r ≡ followedOn p refused emptied ⌝ }
+{
+    Progress {
+        starts: p.starts,
+        refused: p.refused + refused,
+        moved: p.moved + 1,
+        carrying: p.carrying - emptied,
+        running: p.running,
+    }
+}
+
+// What the tallies' words number k add up to.
+pub fn total(tallies: &[u64], workers: u32, k: usize) -> u64
+    requires { ⌜ Summable (now tallies) workers k ⌝ }
+    ensures { λ r. ⌜ ((x : Summable (now (tallies .entry)) workers k) → r ≡ sum (tallyWord k) (x .tallies)) ⌝ }
+{
+    let mut all: u64 = 0;
+    for b in 0..workers {
+        all += tallies[machine::TALLY * b as usize + k];
+    }
+    all
+}
+
+// All counts of a collection that is so far.
+pub fn counted(tallies: &[u64], workers: u32, p: Progress) -> Counts
+    requires { ⌜ Countable (now tallies) workers p ⌝ }
+    ensures { λ r. ⌜ ((x : Countable (now (tallies .entry)) workers p) → r ≡ countsOf p (x .tallies)) ⌝ }
+{
+    Counts {
+        live: p.starts + total(tallies, workers, WON),
+        followed: total(tallies, workers, FOLLOWED),
+        handed: total(tallies, workers, HANDED),
+        refused: p.refused,
+        moved: p.moved,
+        carrying: p.carrying,
+    }
+}
