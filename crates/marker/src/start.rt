@@ -1,12 +1,12 @@
 // The start: the starts are marked, and worker 0 carries their runs in list order.
 use turns::Progress;
 use turns::Setup;
+use turns::counts;
 use worker::registers;
 use worker::registers::Block;
 use worker::stretch;
 ghost use mathlib.Core.Path.{_≡_};
 ghost use lib.ListN.{length, replicate};
-ghost use Rattle.turns.specs.Counting.{freshProgress};
 ghost use Rattle.marker.specs.Starting.{Gathering, GathersOne, Gatherable, Gathers, Startable, Started};
 
 // What the starts so far come to: the marks set, the references of their runs, and where the runs
@@ -82,19 +82,6 @@ fn gather(offsets: &[u32], starts: &[u32], marks: &mut [u8], s: &mut [u32]) -> G
     t
 }
 
-// Before the first turn, with so many starts and workers that carry references.
-fn begun(starts: u64, carrying: u64, running: u64) -> Progress
-    ensures { λ p. ⌜ p ≡ freshProgress starts carrying running ⌝ }
-{
-    Progress {
-        starts,
-        refused: 0,
-        moved: 0,
-        carrying,
-        running,
-    }
-}
-
 // The start, where s is worker 0's stretch and the registers are all zero.
 pub fn start(
     offsets: &[u32],
@@ -113,7 +100,7 @@ pub fn start(
     let starts = t.live as u64;
     let carried = t.carried;
     if carried == 0 {
-        return begun(starts, 0, setup.workers as u64);
+        return counts::begun(starts, 0, setup.workers as u64);
     }
     let top = stretch::lower(s, t.at);
     let first = top.first;
@@ -132,5 +119,5 @@ pub fn start(
             target: targets[first as usize],
         },
     );
-    begun(starts, 1, setup.workers as u64)
+    counts::begun(starts, 1, setup.workers as u64)
 }

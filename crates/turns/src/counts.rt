@@ -5,7 +5,7 @@ use machine::Counts;
 ghost use mathlib.Core.Path.{_≡_};
 ghost use Prim.Native.Nat.{_≤_};
 ghost use Rattle.laws.specs.Sum.{sum};
-ghost use Rattle.turns.specs.Counting.{Roomy, movedOn, endedOne, followedOn, tallyWord, Summable, Countable, countsOf};
+ghost use Rattle.turns.specs.Counting.{freshProgress, Roomy, movedOn, endedOne, followedOn, tallyWord, Summable, Countable, countsOf};
 
 // Words of a tally by their number.
 pub const FOLLOWED: usize = 0;
@@ -13,6 +13,19 @@ pub const FOLLOWED: usize = 0;
 pub const WON: usize = 1;
 
 pub const HANDED: usize = 3;
+
+// Before the first turn, with so many starts and workers that carry references.
+pub fn begun(starts: u64, carrying: u64, running: u64) -> Progress
+    ensures { λ p. ⌜ p ≡ freshProgress starts carrying running ⌝ }
+{
+    Progress {
+        starts,
+        refused: 0,
+        moved: 0,
+        carrying,
+        running,
+    }
+}
 
 // After a turn that follows nothing, with so many more handed and refused. An asker carries from its
 // hand-over on.
