@@ -10,7 +10,7 @@ use Rattle.marker.proofs.collected.Tie as tie
 
 -- back from the stretches to the turns, from there to the tallies, from there to the start, and from there to the entry
 abbrev turns : tie.After-settle-arg2 → tie.After-take-turns
-turns c = c .before .before .before .before .before .before .before .before .before .before
+turns c = let tallied = c .before .before .before .before .before in tallied .before .before .before .before .before
 
 abbrev clear : tie.After-take-turns → tie.After-clear-tallies
 clear c = c .before .before .before .before .before .before .before
