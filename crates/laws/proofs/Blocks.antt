@@ -5,7 +5,7 @@ use Prim.Native.Nat.{ℕ, zero, suc, _+_, _*_, _<_}
 use native.Mathlib.Nat.{zero-mul, suc-mul}
 use native.Mathlib.Omega.{arith}
 use lib.ListN.{length, getD, set, take, drop, replicate, length-append, length-drop, take-append-drop, replicate-append-replicate}
-use lib.Seq.{drop-drop}
+use lib.Seq.{drop-drop, drop-at, take-at, getD-take, getD-drop}
 use Rattle.laws.specs.Blocks.{laid}
 use Rattle.laws.specs.Sum.{sum}
 
@@ -76,3 +76,17 @@ unfolding sum
 sum-same f [] b y d e = refl
 sum-same f (x ∷ l) zero y d e = ap (λ (t : ℕ). t + sum f l) e
 sum-same f (x ∷ l) (suc b) y d e = ap (λ (t : ℕ). f x + t) (sum-same f l b y d e)
+
+-- block b is a part of them
+pub laid-part : {A B : Type 0} (f : A → List B) (w : ℕ) (d : A) (l : List A) (b : ℕ) → ((i : ℕ) → length (f (getD l i d)) ≡ w)
+    → b < length l → take w (drop (b * w) (laid f l)) ≡ f (getD l b d)
+laid-part f w d l b each h =
+    let r = around f w d l b each h in
+    rw (r .is, drop-at (r .pre) (f (getD l b d) ++ r .post) (b * w) (r .long), take-at (f (getD l b d)) (r .post) w (each b))
+
+-- and its elements stand there
+pub laid-at : {A B : Type 0} (f : A → List B) (w : ℕ) (d : A) (e : B) (l : List A) (b k : ℕ) → ((i : ℕ) → length (f (getD l i d)) ≡ w)
+    → b < length l → k < w → getD (laid f l) (b * w + k) e ≡ getD (f (getD l b d)) k e
+laid-at {B = B} f w d e l b k each h i =
+    sym (getD-take w (drop (b * w) (laid f l)) k e i ∙ getD-drop (b * w) (laid f l) k e)
+    ∙ ap (λ (t : List B). getD t k e) (laid-part f w d l b each h)

@@ -1,9 +1,13 @@
 pub mod Every
 pub mod Blocks
+pub mod Filling
 pub mod Grouping
 pub mod Running
 pub mod Scan
 pub mod Span
 pub mod Stores
 pub mod Sum
+pub mod Test
 pub mod Words
+pub mod Decides
+pub mod Passing

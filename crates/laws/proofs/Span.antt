@@ -1,12 +1,14 @@
 -- Sums over consecutive numbers: parts laid end to end, the weight 1, and counting one number.
-use mathlib.Core.Path.{_≡_, refl, ap}
+use mathlib.Core.Path.{_≡_, refl, ap, _∙_}
+use mathlib.Core.List.{List, [], _∷_}
 use mathlib.Core.Logic.{⊎-elim, by-cases}
 use native.Mathlib.Decide.{decLe}
 use Prim.Native.Nat.{ℕ, zero, suc, _+_, _≤_, _<_}
+use lib.ListN.{length, getD}
 use native.Mathlib.Omega.{arith}
 use native.Mathlib.Nat.{zero-add, add-zero}
 use Rattle.laws.specs.Sum.{hit}
-use Rattle.laws.specs.Span.{span}
+use Rattle.laws.specs.Span.{span, listing}
 use Rattle.laws.proofs.Sum.{hit-same, hit-at-most-one, hit-equal, hit-other, either-positive}
 
 pub span-add : (g : ℕ → ℕ) (f j k : ℕ) → span g f (j + k) ≡ span g f j + span g (f + j) k
@@ -55,3 +57,31 @@ span-hit-one e f (suc k) h q =
     let same : e ≡ f = omega arith in
     omega (arith, ap (hit e) same, hit-same e, span-hit-out e (suc f) k (omega arith)))
     (λ (p : ¬ (e ≤ f)). omega (arith, hit-other e f (omega arith), span-hit-one e (suc f) k (omega arith) (omega arith)))
+
+-- ---- lists over consecutive numbers
+
+module _ {A : Type 0} where
+  pub listing-length : (g : ℕ → A) (f k : ℕ) → length (listing g f k) ≡ k
+  unfolding listing
+  listing-length g f zero = refl
+  listing-length g f (suc k) = ap suc (listing-length g (suc f) k)
+
+  -- a list is what stands at its places
+  pub listing-is : (g : ℕ → A) (d : A) (f k : ℕ) (l : List A) → length l ≡ k
+      → ((i : ℕ) → i < k → g (f + i) ≡ getD l i d) → listing g f k ≡ l
+  unfolding listing
+  listing-is g d f zero [] e h = refl
+  listing-is g d f zero (x ∷ l) e h = absurd (omega arith)
+  listing-is g d f (suc k) [] e h = absurd (omega arith)
+  listing-is g d f (suc k) (x ∷ l) e h =
+      let here : g f ≡ x = rw add-zero at (h 0 (omega arith)) in
+      let rest : listing g (suc f) k ≡ l =
+      listing-is g d (suc f) k l (omega arith) (λ i p. let q : suc f + i ≡ f + suc i = omega arith in ap g q ∙ h (suc i) (omega arith)) in
+      rw (here, rest)
+
+  pub listing-at : (g : ℕ → A) (d : A) (f k i : ℕ) → i < k → getD (listing g f k) i d ≡ g (f + i)
+  unfolding listing
+  listing-at g d f zero i h = absurd (omega arith)
+  listing-at g d f (suc k) zero h = rw add-zero
+  listing-at g d f (suc k) (suc i) h =
+      let q : suc f + i ≡ f + suc i = omega arith in listing-at g d (suc f) k i (omega arith) ∙ ap g q

@@ -4,4 +4,6 @@ pub mod Every
 pub mod Grouping
 pub mod Span
 pub mod Sum
+pub mod Test
 pub mod Words
+pub mod Decides

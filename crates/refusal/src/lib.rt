@@ -30,6 +30,8 @@ pub enum Refusal {
     File,
     // 13: no start, or more leases than a catalogue may have.
     Starts,
+    // 14: saved words that hold no sound collection.
+    Saved,
 }
 
 // What a check finds.
@@ -56,6 +58,7 @@ pub fn number_of(r: Refusal) -> u8
         Refusal::Large => 11,
         Refusal::File => 12,
         Refusal::Starts => 13,
+        Refusal::Saved => 14,
     }
 }
 
