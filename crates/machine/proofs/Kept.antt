@@ -24,6 +24,7 @@ use Rattle.machine.proofs.Marks.{live-grows}
 use Rattle.machine.proofs.Change.{before, after, beforeAt, afterAt, put-length, put-sum, put-at, put-each}
 use Rattle.machine.proofs.Move.{move}
 use Rattle.machine.proofs.Step.{over, Step, step}
+use Rattle.machine.proofs.Rested.{Rested, rested-move}
 use Rattle.machine.proofs.Tallied.{raised-length, raised-sum, raised-at, Tallied, tallied-move}
 
 -- what all carry is the sum of 1 over the references that they hold
@@ -134,8 +135,8 @@ module _ {G : Graph} {starts : List ℕ} {W : ℕ} {g : Setting} {s : State} (A 
         )
 
     -- the tallies grow with the counts
-    sound-step : {b k : ℕ} → Tallied G s b s′ k → Sound G starts W g s′
-    sound-step Y =
+    sound-step : {b k : ℕ} → Tallied G s b s′ k → Rested s′ W → Sound G starts W g s′
+    sound-step Y R =
         record {
           marks-length = long ∙ S .marks-length;
           workers-length = ap length (T .workers) ∙ put-length (s .workers) (T .changes) ∙ S .workers-length;
@@ -154,6 +155,8 @@ module _ {G : Graph} {starts : List ℕ} {W : ℕ} {g : Setting} {s : State} (A 
           targets-marked = kept-targets;
           cells = λ (a : ℕ). omega (arith, S .cells a, T .weighs .cells a, sums (holds a), places waits a);
           stopped-empty = kept-stopped;
+          rested-length = R .long;
+          rested-carrying = R .none;
           since-followed = omega (arith, S .since-followed, T .weighs .since, T .weighs .followed, sums sinceOf);
           refused-moved = omega (arith, S .refused-moved, T .weighs .refused);
           tallies-length = raised-length (Y .raised) ∙ S .tallies-length;
@@ -181,7 +184,7 @@ module _ {G : Graph} {starts : List ℕ} {W : ℕ} {g : Setting} {s : State} (A 
 
   -- a turn keeps a state sound
   pub sound-turn : (x : Entry) → Sound G starts W g (turn G g s x)
-  sound-turn x = sound-step (step A S (move A S x)) (tallied-move A S (move A S x))
+  sound-turn x = sound-step (step A S (move A S x)) (tallied-move A S (move A S x)) (rested-move A S (move A S x))
 
   -- and a collection fresh, with what the turn takes off in its trail
   pub fresh-turn : {l : List ℕ} → Fresh G starts g s l → (x : Entry) → Fresh G starts g (turn G g s x) (l ++ takes (worker s (x .worker)) G s)

@@ -14,6 +14,7 @@ pub mod Demand2
 pub mod Owners
 pub mod Events
 pub mod Progress
+pub mod Rested
 pub mod Demand3
 pub mod Instances
 pub mod Lamp

@@ -179,7 +179,7 @@ module _ (G : Graph) where
 
   -- ---- whole runs
 
-  whole-tail : (r : Run) (rs : List Run) → WholeButLast G (r ∷ rs) → WholeButLast G rs
+  pub whole-tail : (r : Run) (rs : List Run) → WholeButLast G (r ∷ rs) → WholeButLast G rs
   whole-tail r [] t = tt
   whole-tail r (q ∷ rs) t = t .1
 

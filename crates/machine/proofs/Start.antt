@@ -9,6 +9,7 @@ use native.Mathlib.Nat.{zero-add, add-zero}
 use lib.ListN.{length, getD, set, take, replicate, length-set, length-append, length-replicate}
 use lib.Seq.{getD-set-other}
 use Rattle.laws.specs.Every.{Every}
+use Rattle.laws.specs.Grouping.{itself}
 use Rattle.laws.specs.Span.{span}
 use Rattle.laws.specs.Sum.{sum, hit}
 use Rattle.laws.proofs.Every.{every-append}
@@ -20,7 +21,7 @@ use Rattle.graph.proofs.OverMarked.{over-set-again, over-none, over-total, over
 use Rattle.graph.proofs.Reached.{rounds-grows, reached-chain, starts-marked}
 use Rattle.machine.specs.Run.{Run, carried, leaving}
 use Rattle.machine.specs.Tally.{Tally, noTally}
-use Rattle.machine.specs.Machine.{Setting, State, Entry, Worker, idle, ended, busy, empty, poll, runsOf, worker, carries?, live, newRun, startRuns, withRuns, unmarked, start, turns, trail}
+use Rattle.machine.specs.Machine.{Setting, State, Entry, Worker, idle, ended, busy, empty, poll, runsOf, carriedBy, worker, carries?, live, newRun, startRuns, withRuns, unmarked, start, turns, trail}
 use Rattle.machine.specs.Accepted.{Accepted}
 use Rattle.machine.specs.Sound.{Marked, Within, Whole, Carries, WorkerSound, holds, waits, stopped, sinceOf, runsSum, heldSum, carriedTimes, distinctStarts, Sound, asks?, Fresh}
 use Rattle.machine.specs.Demand2.{outcome}
@@ -45,7 +46,7 @@ marks-at-length vs ms = marks-at (λ (l : List ℕ). length l ≡ length ms) (λ
 marks-at-keeps : (vs ms : List ℕ) (u : ℕ) → Marked ms u → Marked (marksAt vs ms) u
 marks-at-keeps vs ms u = marks-at (λ (l : List ℕ). Marked l u) (λ (l : List ℕ) (v : ℕ). marked-keeps l v 1 u (omega arith)) vs ms
 
-none-marked : (n u : ℕ) → getD (replicate {A = ℕ} n 0) u 0 ≡ 0
+pub none-marked : (n u : ℕ) → getD (replicate {A = ℕ} n 0) u 0 ≡ 0
 none-marked zero u = refl
 none-marked (suc n) zero = refl
 none-marked (suc n) (suc u) = none-marked n u
@@ -239,7 +240,9 @@ module _ {G : Graph} {starts : List ℕ} {W : ℕ} {g : Setting} (A : Accepted G
             ∙ sym (each-start (λ (w : Worker). waits w ≡ 0) rs (W - 1) (λ (h : 0 < length rs). refl) refl refl i);
         stopped-empty = λ (h : 0 < sum stopped (start G starts W .workers)).
             absurd (omega (arith, none-start stopped refl (λ (l : List Run). refl)));
-        since-followed = omega (arith, none-start sinceOf refl (λ (l : List Run). refl));
+        rested-length = length-replicate W 0;
+        rested-carrying = λ (b : ℕ) (h : 0 < carriedBy (worker (start G starts W) b)). none-marked W b;
+        since-followed = omega (arith, none-start sinceOf refl (λ (l : List Run). refl), sum-none itself W 0 refl);
         refused-moved = omega arith;
         tallies-length = length-replicate W noTally;
         tallies-followed = sum-none (λ (t : Tally). t .followed) W noTally refl;

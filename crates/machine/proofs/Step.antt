@@ -11,6 +11,7 @@ use lib.Dec.{ltb, leb}
 use borrow.Author.Tests.{ltb-true, leb-true}
 use Rattle.laws.specs.Choice.{both, either}
 use Rattle.laws.specs.Every.{Every}
+use Rattle.laws.specs.Grouping.{itself}
 use Rattle.laws.specs.Span.{span}
 use Rattle.laws.specs.Sum.{sum, hit}
 use Rattle.laws.proofs.Every.{every-map, every-append}
@@ -31,6 +32,7 @@ use Rattle.machine.specs.Move.{wakes, takes-up, ends, polls, looks, aske
 use Rattle.machine.proofs.Facts.{there, given-carries, busy-below, busy-working, busy-carried, busy-carried-all, carrying-none, carrying-at, first-target, set-some, run-counts}
 use Rattle.machine.proofs.Runs.{cuts, runs-append, runs-from, runs-cut, carried-is, carried-length, halves, length-from, length-cut, within-part}
 use Rattle.machine.proofs.Runs.{within-cut, within-more, leaving-runs, whole-append, inside-from, inside-keep, inside-rest}
+use Rattle.machine.proofs.Rested.{sum-written}
 use Rattle.machine.proofs.Marks.{claim-mark-set, claim-mark-limit, marked-keeps, marked-from, marked-there, over-more, live-more}
 use Rattle.machine.proofs.Change.{Change, put, Fits, before, after, beforeAt, afterAt, one, two, fits-two, replied, replies-none, replies-one, replies-two}
 
@@ -59,7 +61,7 @@ pub record Weighs (g : Setting) (s s′ : State) (k : ℕ) (cs : List Change) : 
   pub carrying : s′ .counts .carrying + before carries? cs ≡ s .counts .carrying + after carries? cs
   -- who enters a cell waits from then on, and who leaves it has a reply
   pub cells : (i : ℕ) → after (holds i) cs + beforeAt waits i cs ≡ before (holds i) cs + afterAt waits i cs
-  pub since : after sinceOf cs ≤ before sinceOf cs + k
+  pub since : after sinceOf cs + sum itself (s′ .rested) ≤ before sinceOf cs + sum itself (s .rested) + k
   -- nobody ends while references are carried, and none enter when none are
   pub stops : 0 < carriedAll s → after stopped cs ≤ before stopped cs
   pub rests : carriedAll s ≡ 0 → after carriedBy cs ≤ before carriedBy cs
@@ -315,12 +317,12 @@ module _ {G : Graph} {starts : List ℕ} {W : ℕ} {g : Setting} {s : State} (A 
     step-left empty [] q w l =
         step-one b idle q (omega arith) refl tt
         (λ (f : ℕ → ℕ). omega (arith, l .held f))
-        (omega (arith, t .lives, phase-turns-limit p, lowers [] q l, counted q))
+        (omega (arith, t .lives, phase-turns-limit p, lowers [] q l, counted q, sum-written (s .rested) b (suc n)))
         (t .marking)
     step-left (from a) [] q w l =
         step-two b a idle denied q w (omega arith) refl refl tt tt
         (λ (f : ℕ → ℕ). omega (arith, l .held f))
-        (omega (arith, t .lives, phase-turns-limit p, lowers [] q l, counted q))
+        (omega (arith, t .lives, phase-turns-limit p, lowers [] q l, counted q, sum-written (s .rested) b (suc n)))
         (t .marking)
     step-left empty (r ∷ rs′) q w l =
         step-one b (busy empty (suc n) (phase k) (r ∷ rs′)) q (omega arith) refl (working empty r rs′ q l)
@@ -390,7 +392,7 @@ module _ {G : Graph} {starts : List ℕ} {W : ℕ} {g : Setting} {s : State} (A 
       (begins (part t (omega (arith, both, pays)) (l .0) (w .0) (inside-keep G c (t .whole-inside))))
       (part t (omega (arith, both, pays)) (l .1) (w .1) (inside-rest G c (t .whole-inside)))
       (λ (f : ℕ → ℕ). omega (arith, runs-cut f c))
-      (omega (arith, pays, both, three, counted, ap (λ (m : ℕ). min (2 * m) K) (both .0), ap (λ (m : ℕ). min (2 * m) K) (both .1)))
+      (omega (arith, pays, both, three, counted, sum-written (s .rested) a 0, ap (λ (m : ℕ). min (2 * m) K) (both .0), ap (λ (m : ℕ). min (2 * m) K) (both .1)))
       none-taken
   step {b} (follow {c} {n} {k} {e} {j} {p} {rs} {o} q r w) =
       let t = opens b q r in

@@ -32,10 +32,12 @@ pub data Worker : Type 0 where
   given : List Run → Worker
   busy : Cell → ℕ → Phase → List Run → Worker
 
--- What the turns change: a mark for each object, the workers, the tally of each, and the counts.
+-- What the turns change: a mark for each object, the workers, the since of each worker that carries nothing, as it was when
+-- it last carried something (0 for one that carries), the tally of each worker, and the counts.
 pub record State : Type 0 where
   pub marks : List ℕ
   pub workers : List Worker
+  pub rested : List ℕ
   pub tallies : List Tally
   pub counts : Counts
 
@@ -114,6 +116,7 @@ start G starts W =
     record {
       marks = marksAt starts (unmarked G);
       workers = withRuns (startRuns G starts (unmarked G)) ∷ replicate (W - 1) idle;
+      rested = replicate W 0;
       tallies = replicate W noTally;
       counts = freshCounts (live (marksAt starts (unmarked G))) (carries? (withRuns (startRuns G starts (unmarked G))));
     }
@@ -123,7 +126,13 @@ start G starts W =
 -- the state with these workers, and the counts raised by these
 abbrev pub moves : State → List Worker → ℕ → ℕ → State
 moves s ws handed⁺ refused⁺ =
-    record { marks = s .marks; workers = ws; tallies = s .tallies; counts = countMove (s .counts) handed⁺ refused⁺ }
+    record {
+      marks = s .marks;
+      workers = ws;
+      rested = s .rested;
+      tallies = s .tallies;
+      counts = countMove (s .counts) handed⁺ refused⁺;
+    }
 
 -- worker b becomes w, and nothing else
 abbrev pub becomes : State → ℕ → Worker → State
@@ -155,7 +164,7 @@ abbrev pub shares : ℕ → ℕ → ℕ → Bool
 shares K n c = either (ltb K c) (both (leb K n) (leb 2 c))
 
 -- Sharing: the worker that shares, with since n before, keeps the first half of its references; the asker is owed the
--- rest. Both have since 0. (The asker's is set as it takes the hand-over up.)
+-- rest. Both have since 0.
 abbrev pub giver : Setting → ℕ → List Run → Worker
 giver g n rs =
     let k = half (carried rs) in
@@ -164,14 +173,21 @@ giver g n rs =
 abbrev pub receiver : List Run → Worker
 receiver rs = given (rest (half (carried rs)) rs)
 
--- the state where worker b's tally counts so much more
-abbrev pub raises : State → ℕ → Tally → State
-raises s b y = record { marks = s .marks; workers = s .workers; tallies = tallied (s .tallies) b y; counts = s .counts }
+-- the state as worker b hands over to asker a, before the runs move: b's tally counts it, and a's since is 0
+abbrev pub handing : State → ℕ → ℕ → State
+handing s b a =
+    record {
+      marks = s .marks;
+      workers = s .workers;
+      rested = set (s .rested) a 0;
+      tallies = tallied (s .tallies) b (tally 0 0 0 1);
+      counts = s .counts;
+    }
 
 -- The answer to asker a at a poll: a hand-over, which the tally of b counts, or a refusal. Then batch is the smaller of D
 -- and what is carried.
 abbrev pub answer : Bool → Setting → State → ℕ → ℕ → ℕ → List Run → State
-answer true g s b a n rs = moves (raises s b (tally 0 0 0 1)) (set (set (s .workers) b (giver g n rs)) a (receiver rs)) 1 0
+answer true g s b a n rs = moves (handing s b a) (set (set (s .workers) b (giver g n rs)) a (receiver rs)) 1 0
 answer false g s b a n rs =
     moves s (set (set (s .workers) b (busy empty n (phase (min (g .batch) (carried rs))) rs)) a denied) 0 1
 
@@ -190,6 +206,11 @@ abbrev pub dismiss : Cell → List Run → List Worker → List Worker
 dismiss empty rs ws = ws
 dismiss (from a) [] ws = set ws a denied
 dismiss (from a) (r ∷ rs) ws = ws
+
+-- the sinces of those that carry nothing: a worker b left with nothing keeps its own, n
+abbrev pub resting : List Run → List ℕ → ℕ → ℕ → List ℕ
+resting [] ns b n = set ns b n
+resting (r ∷ rs) ns b n = ns
 
 -- 1 for a worker left with nothing
 abbrev pub emptied : List Run → ℕ
@@ -238,6 +259,7 @@ follows s b c n k o rs =
     record {
       marks = o .marks;
       workers = dismiss c rs (set (s .workers) b (onward c (suc n) k rs));
+      rested = resting rs (s .rested) b (suc n);
       tallies = tallied (s .tallies) b (tally 1 (o .won) (o .lost) 0);
       counts = countFollow (s .counts) (o .won) (dismissed c rs) (emptied rs);
     }

@@ -6,6 +6,7 @@ use mathlib.Core.List.{List, [], _∷_}
 use lib.ListN.{length, getD}
 use Rattle.laws.specs.Sum.{sum, hit}
 use Rattle.laws.specs.Every.{Every}
+use Rattle.laws.specs.Grouping.{itself}
 use Rattle.laws.specs.Span.{span}
 use Rattle.graph.specs.Graph.{Graph, Leaves, objects, references, first, after, target}
 use Rattle.graph.specs.Chain.{Reach, set?, overMarked}
@@ -183,8 +184,11 @@ pub record Sound (G : Graph) (starts : List ℕ) (W : ℕ) (g : Setting) (s : St
   pub cells : (a : ℕ) → sum (holds a) (s .workers) ≡ waits (worker s a)
   -- no worker has ended while references are carried
   pub stopped-empty : 0 < sum stopped (s .workers) → carriedAll s ≡ 0
+  -- a since for each worker; one that carries has it beside its batch
+  pub rested-length : length (s .rested) ≡ W
+  pub rested-carrying : (b : ℕ) → 0 < carriedBy (worker s b) → getD (s .rested) b 0 ≡ 0
   -- the sinces sum to at most followed
-  pub since-followed : sum sinceOf (s .workers) ≤ s .counts .followed
+  pub since-followed : sum sinceOf (s .workers) + sum itself (s .rested) ≤ s .counts .followed
   pub refused-moved : s .counts .refused ≤ s .counts .moved
   -- a tally for each worker; their sums are the counts, and the claims won and the starts are what is marked
   pub tallies-length : length (s .tallies) ≡ W

@@ -16,7 +16,7 @@ use Rattle.machine.specs.Run.{Run, run, carried}
 use Rattle.machine.specs.Machine.{State, Worker, idle, ended, busy, empty, poll, carries?, live, withRuns, start}
 use Rattle.machine.proofs.Facts.{InTargets, set-some}
 use Rattle.machine.proofs.Runs.{length-carried, carried-length}
-use Rattle.machine.proofs.Start.{start-inside}
+use Rattle.machine.proofs.Start.{none-marked, start-inside}
 use Rattle.worker.specs.declared.registers.Block.{Block}
 use Rattle.worker.specs.declared.stretch.Top.{Top}
 use Rattle.worker.specs.Registers.{Room, storeAt, Stored}
@@ -108,10 +108,10 @@ module _ {offsets targets starts : List ℕ} {g : Setup} {marks s regs : List �
 
   -- every worker is idle
   idle-holds : (starts k : ℕ) (s : State) → {marks′ tallies : List ℕ} → marks′ ≡ s .marks → tallies ≡ talliesWords (s .tallies) → s .workers ≡ idle ∷ replicate (g .workers - 1) idle
-      → countsOf (freshProgress starts k (g .workers)) (s .tallies) ≡ s .counts → (work : List ℕ) → length work ≡ g .workers * g .stretch
+      → countsOf (freshProgress starts k (g .workers)) (s .tallies) ≡ s .counts → ((b : ℕ) → getD (s .rested) b 0 ≡ 0) → (work : List ℕ) → length work ≡ g .workers * g .stretch
       → Holds G g s (memory marks′ work tallies regs (freshProgress starts k (g .workers)))
   unfolding sum
-  idle-holds starts k s ma ta ws co work long =
+  idle-holds starts k s ma ta ws co rs work long =
       record {
         marks-are = ma;
         tallies-are = ta;
@@ -123,6 +123,10 @@ module _ {offsets targets starts : List ℕ} {g : Setup} {marks s regs : List �
             let w : getD (s .workers) b ended ≡ idle =
             rw ws (getD-replicate (suc (g .workers - 1)) b idle ended (omega (arith, some-workers))) in
             rw (w, x .regs-are) (getD-replicate {A = ℕ} (9 * g .workers) (9 * b) 0 0 (omega arith));
+        rests = λ b h.
+            let w : getD (s .workers) b ended ≡ idle =
+            rw ws (getD-replicate (suc (g .workers - 1)) b idle ended (omega (arith, some-workers))) in
+            rw (w, x .regs-are) (getD-replicate {A = ℕ} (9 * g .workers) (9 * b + 3) 0 0 (omega arith) ∙ sym (rs b));
       }
 
   pub first-room : Room regs 0
@@ -160,13 +164,18 @@ module _ {offsets targets starts : List ℕ} {g : Setup} {marks s regs : List �
     unfolding start talliesWords
     begin-tallies e = e ∙ sym (laid-replicate tallyWords noTally (g .workers) 4 0 refl)
 
+    -- nobody has followed anything
+    begin-rested : (b : ℕ) → getD (begin offsets targets starts g .rested) b 0 ≡ 0
+    unfolding start
+    begin-rested b = none-marked (g .workers) b
+
     -- none has references
     pub begin-none : t .carried ≡ 0 → Started offsets targets starts g marks₂ s₁ regs (freshProgress (t .live) 0 (g .workers))
     unfolding carried sum
     begin-none z work tallies long is zeros =
         let none : runs ≡ [] = no-runs runs (sym (d .carried-is) ∙ z) in
         idle-holds (t .live) 0 (begin offsets targets starts g) begin-marks (begin-tallies zeros) (begin-workers idle (ap withRuns none))
-        (begin-counts 0 (sym (ap (λ (rs : List Run). carries? (withRuns rs)) none))) work long
+        (begin-counts 0 (sym (ap (λ (rs : List Run). carries? (withRuns rs)) none))) begin-rested work long
 
     module _ (h : t .carried ≢ 0) (sl : length s₁ ≡ length s) where
       some : 0 < length runs
@@ -188,12 +197,14 @@ module _ {offsets targets starts : List ℕ} {g : Setup} {marks s regs : List �
         begin-some regs₁ er work tallies long is zeros =
             let c = countsOf (freshProgress (t .live) 1 (g .workers)) [] in
             let counted : carries? (withRuns runs) ≡ 1 = ap carries? (some-runs runs some) ∙ set-some (carried runs) (omega (arith, d .carried-is, h)) in
-            let s₀ : State = record { marks = []; workers = idle ∷ replicate (g .workers - 1) idle; tallies = []; counts = c } in
+            let s₀ : State = record { marks = []; workers = idle ∷ replicate (g .workers - 1) idle; rested = []; tallies = []; counts = c } in
             let r = firstBlock (t .carried) top (getD targets (top .first) 0) in
             let st : Stored regs 0 r regs₁ = rw er (store-stored regs 0 (first-room .long) r) in
-            hold-one (idle-holds (t .live) 1 s₀ refl refl refl refl work long) (ap suc (length-replicate (g .workers - 1) idle) ∙ some-workers) 0
+            hold-one (idle-holds (t .live) 1 s₀ refl refl refl refl (λ b. refl) work long) (ap suc (length-replicate (g .workers - 1) idle) ∙ some-workers) 0
             (omega (arith, x .accepted .some-worker)) refl (busy empty 0 poll runs) work st refl (all-same (g .workers) (g .stretch) 0 work)
             (rw is (first-is G runs top s₂ told some (t .carried) (d .carried-is)))
             refl {s′ = begin offsets targets starts g} (begin-workers (busy empty 0 poll runs) (some-runs runs some)) begin-marks
             (begin-tallies zeros)
             (begin-counts 1 (sym counted))
+            (λ i k. begin-rested i)
+            tt

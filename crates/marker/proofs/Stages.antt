@@ -42,10 +42,10 @@ facts : {c : Call} {marks work tallies : List ℕ} → Faultless c marks work ta
 facts {c} {marks} {work} {tallies} x = checked c (length marks) (length work) (length tallies) (x .none)
 
 -- the first stretch of the work memory, of L words, and the memory with it written anew
-abbrev firstPart : ℕ → List ℕ → List ℕ
+abbrev pub firstPart : ℕ → List ℕ → List ℕ
 firstPart L work = take (L - 0) work
 
-abbrev firstAnew : ℕ → List ℕ → List ℕ → List ℕ
+abbrev pub firstAnew : ℕ → List ℕ → List ℕ → List ℕ
 firstAnew L work s = s ++ drop (L - 0) work
 
 module _ (L : ℕ) (work : List ℕ) (room : L ≤ length work) where
@@ -53,24 +53,24 @@ module _ (L : ℕ) (work : List ℕ) (room : L ≤ length work) where
   front-part = let e : L - 0 ≡ L = omega arith in rw e (length-take-le L work room)
 
   module _ (s : List ℕ) (long : length s ≡ length (firstPart L work)) where
-    front-long : length (firstAnew L work s) ≡ length work
+    pub front-long : length (firstAnew L work s) ≡ length work
     front-long = rw (length-append, length-drop) (omega (arith, long, front-part, room))
 
-    front-here : stretchAt L 0 (firstAnew L work s) ≡ s
+    pub front-here : stretchAt L 0 (firstAnew L work s) ≡ s
     front-here = let e : 0 * L ≡ 0 = omega arith in rw e (take-at s (drop (L - 0) work) L (long ∙ front-part))
 
 module _ {offsets targets starts : List ℕ} {g : Setup} {schedule marks work tallies regs : List ℕ}
     (x : Collectable (callWith offsets targets starts g schedule) g marks work tallies regs) where
-  abbrev call : Call
+  abbrev pub call : Call
   call = callWith offsets targets starts g schedule
 
-  known : Checked call (length marks) (length work) (length tallies)
+  pub known : Checked call (length marks) (length work) (length tallies)
   known = facts (x .faultless)
 
   sound-final : Sound (graphOf call) (call .starts) (g .workers) (settingOf call) (final call)
   sound-final = sound (known .accepted) (entries schedule)
 
-  work-long : length work ≡ g .workers * g .stretch
+  pub work-long : length work ≡ g .workers * g .stretch
   work-long = known .work-exact ∙ ap (λ (L : ℕ). g .workers * L) (sym (x .stretch-is))
 
   -- worker 0's stretch
@@ -91,10 +91,10 @@ module _ {offsets targets starts : List ℕ} {g : Setup} {schedule marks work ta
   -- after the start, with the tallies cleared
   module _ {marks₁ s₁ tallies₁ regs₁ : List ℕ} {p₁ : Progress} (d : Started offsets targets starts g marks₁ s₁ regs₁ p₁)
       (l₁ : length s₁ ≡ length (firstPart (g .stretch) work)) (z₁ : tallies₁ ≡ replicate (length tallies) 0) (short : length schedule < 2 ^ 64) where
-    abbrev work₁ : List ℕ
+    abbrev pub work₁ : List ℕ
     work₁ = firstAnew (g .stretch) work s₁
 
-    pub turns-ready : Ready (IsScheduled g offsets targets schedule) g (memory marks₁ work₁ tallies₁ regs₁ p₁)
+    unfoldable pub turns-ready : Ready (IsScheduled g offsets targets schedule) g (memory marks₁ work₁ tallies₁ regs₁ p₁)
     unfolding start
     turns-ready =
         record {

@@ -1,5 +1,5 @@
 // The marker's call: its checks in their order, the start, the turns of the schedule, and the answer.
-mod start;
+pub mod start;
 
 use machine::Counts;
 use refusal::Refusal;
@@ -116,7 +116,7 @@ fn schedule_fits(schedule: &[u8], workers: u32) -> bool
 }
 
 // The checks, in their order.
-fn check(
+pub fn check(
     offsets: &[u32],
     targets: &[u32],
     starts: &[u32],
@@ -175,7 +175,7 @@ fn top_of(r: Block) -> Top
 }
 
 // Writes each worker's stretch out as the call leaves it.
-fn settle(setup: Setup, work: &mut [u32], regs: &[u32])
+pub fn settle(setup: Setup, work: &mut [u32], regs: &[u32])
     requires { ⌜ Settling (setup .workers) (setup .stretch) (now work) (now regs) ⌝ }
     ensures { λ _. ⌜ Settled (setup .workers) (setup .stretch) (now (work .entry)) (now (regs .entry)) (now (work .exit)) ⌝ }
 {
@@ -221,7 +221,7 @@ pub fn take_turns(
 }
 
 // The answer of a collection that is so far.
-fn answer(tallies: &[u64], workers: u32, p: Progress) -> Marked
+pub fn answer(tallies: &[u64], workers: u32, p: Progress) -> Marked
     requires { ⌜ Countable (now tallies) workers p ⌝ }
     ensures { λ r. ⌜ ((x : Countable (now (tallies .entry)) workers p) → row r ≡ rowOf p (x .tallies)) ⌝ }
 {

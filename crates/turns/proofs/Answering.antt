@@ -6,6 +6,7 @@ use mathlib.Core.List.{List, [], _∷_}
 use Prim.Native.Nat.{ℕ, zero, suc, _+_, _-_, _≤_, _<_, _^_, min}
 use native.Mathlib.Omega.{arith}
 use lib.ListN.{length}
+use lib.Seq.{getD-set-other}
 use lib.Dec.{ltb}
 use Rattle.laws.specs.Choice.{pick}
 use Rattle.laws.specs.Every.{Every}
@@ -14,18 +15,20 @@ use Rattle.machine.specs.Run.{Run, run, runFrom, carried, keep, half}
 use Rattle.machine.specs.Tally.{tally}
 use Rattle.machine.specs.Machine.{State, asking, denied, busy, Cell, empty, from, poll, phase, worker, giver, receiver, answer, shares}
 use Rattle.machine.proofs.Facts.{busy-below, busy-carried, busy-carried-limit, since-limit, followed-limit, asker-asking, asker-below, asker-other}
+use Rattle.machine.proofs.Rested.{written-there}
 use Rattle.machine.proofs.Runs.{halves}
 use Rattle.machine.proofs.Step.{phase-batch, share-pays}
 use Rattle.worker.specs.declared.stretch.Top.{Top}
 use Rattle.worker.specs.Registers.{blockAt, putAt, storeAt, Word, word, beginWords, putsAt, Stored}
 use Rattle.worker.specs.declared.registers.Block.{Block}
 use Rattle.worker.proofs.Blocks.{put-stored, puts-stored, store-stored}
+use Rattle.worker.specs.Status.{phaseWord}
 use Rattle.turns.specs.declared.Setup.{Setup}
 use Rattle.turns.specs.declared.Progress.{Progress}
 use Rattle.turns.specs.Counting.{movedOn}
 use Rattle.turns.specs.Polling.{batchedBlock, sharedBlock, givenBlock}
 use Rattle.worker.specs.Stretch.{Sharing}
-use Rattle.turns.specs.Held.{memory, settingOf, stretchAt, phaseWord, nextTarget, topOf, BusyIs, Holds, Scene}
+use Rattle.turns.specs.Held.{memory, settingOf, stretchAt, nextTarget, topOf, BusyIs, Holds, Scene}
 use Rattle.turns.specs.Turned.{turned, Ready, IsPolling, IsAsked, Dividing, Divided}
 use Rattle.turns.proofs.Bounds.{block-room, stretch-room}
 use Rattle.turns.proofs.Counting.{moved-counts, shared-counts}
@@ -127,7 +130,9 @@ module _ {G : Graph} {g : Setup} {s : State} {marks work tallies regs : List ℕ
       refl
       (h .marks-are)
       (h .tallies-are)
-      (moved-counts h 0))
+      (moved-counts h 0)
+      (λ i k. refl)
+      tt)
 
   -- a worker with an asker
   module _ (b : ℕ) {a n : ℕ} {rs : List Run} (e : worker s b ≡ busy (from a) n poll rs) where
@@ -166,7 +171,12 @@ module _ {G : Graph} {g : Setup} {s : State} {marks work tallies regs : List ℕ
         refl
         (h .marks-are)
         (h .tallies-are)
-        (moved-counts h 1))
+        (moved-counts h 1)
+        (s .rested)
+        (λ i k. refl)
+        tt
+        (λ i k. refl)
+        (ap (λ (r : Block). r .since) (st .others a other) ∙ (rw asker at (h .rests a asker-low))))
 
     -- ---- sharing
 
@@ -235,7 +245,12 @@ module _ {G : Graph} {g : Setup} {s : State} {marks work tallies regs : List ℕ
           refl
           (h .marks-are)
           (raised-held c h b (poll-low b e) (tally 0 0 0 1))
-          (shared-counts h b (there c h b (poll-low b e))))
+          (shared-counts h b (there c h b (poll-low b e)))
+          (s .rested)
+          (λ i k. refl)
+          tt
+          (λ i k. getD-set-other (s .rested) a i 0 0 k)
+          (sym (written-there (s .rested) a)))
 
       -- the same, as the words tell it
       words : (blockAt regs b .cell - 1 ≡ a) × (blockAt regs b .carried ≡ carried rs)

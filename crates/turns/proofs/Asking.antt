@@ -11,15 +11,17 @@ use Rattle.machine.specs.declared.Counts.{Counts}
 use Rattle.machine.specs.Run.{Run, run}
 use Rattle.machine.specs.Machine.{State, Worker, idle, asking, denied, ended, given, busy, empty, from, Phase, poll, look, claim, worker, runsOf, turn, becomes, asks, idleTurn, workerTurn}
 use Rattle.machine.proofs.Facts.{below-workers, busy-below, busy-some, given-below, given-carries, given-runs-limit, InTargets}
+use Rattle.worker.specs.declared.registers.Block.{Block}
 use Rattle.worker.specs.declared.stretch.Top.{Top}
 use Rattle.worker.specs.Stretch.{TopIs}
 use Rattle.worker.specs.Registers.{blockAt, putAt, storeAt}
 use Rattle.worker.proofs.Blocks.{put-stored, store-stored}
+use Rattle.worker.specs.Status.{phaseWord}
 use Rattle.turns.specs.declared.Setup.{Setup}
 use Rattle.turns.specs.declared.Progress.{Progress}
 use Rattle.turns.specs.Counting.{movedOn, endedOne}
 use Rattle.turns.specs.Claiming.{takenBlock}
-use Rattle.turns.specs.Held.{memory, settingOf, stretchAt, phaseWord, nextTarget, topOf, Carrying, BusyIs, BlockIs, Holds, Scene}
+use Rattle.turns.specs.Held.{memory, settingOf, stretchAt, nextTarget, topOf, Carrying, BusyIs, BlockIs, Holds, Scene}
 use Rattle.turns.specs.Turned.{turned}
 use Rattle.turns.proofs.Bounds.{block-room, running-at}
 use Rattle.turns.proofs.Counting.{moved-counts, ended-counts}
@@ -55,7 +57,9 @@ module _ {G : Graph} {g : Setup} {s : State} {marks work tallies regs : List ℕ
       (hold-one h long b low e idle work (put-stored regs b (block-room c h b low .long) 0 0 (omega arith)) refl (stays b) refl refl refl
       (h .marks-are)
       (h .tallies-are)
-      (moved-counts h 0))
+      (moved-counts h 0)
+      (λ i k. refl)
+      (rw e at (h .rests b low)))
 
   module _ (b v : ℕ) (e : worker s b ≡ idle) where
     pub idle-low : b < g .workers
@@ -77,7 +81,9 @@ module _ {G : Graph} {g : Setup} {s : State} {marks work tallies regs : List ℕ
         (omega (arith, rw e at (running-at c h b))) refl
         (h .marks-are)
         (h .tallies-are)
-        (ended-counts h))
+        (ended-counts h)
+        (λ i k. refl)
+        (rw e at (h .rests b idle-low)))
 
     -- it asks, by what the named worker is
     asks-as : p .carrying ≢ 0 → turned g b v G s ≡ asks (worker s v) s b v
@@ -129,7 +135,12 @@ module _ {G : Graph} {g : Setup} {s : State} {marks work tallies regs : List ℕ
         refl
         (h .marks-are)
         (h .tallies-are)
-        (moved-counts h 0))
+        (moved-counts h 0)
+        (s .rested)
+        (λ i k. refl)
+        tt
+        (λ i k. refl)
+        (ap (λ (r : Block). r .since) (st .others b other) ∙ (rw e at (h .rests b idle-low))))
 
   -- ---- what a block tells of its worker
 
@@ -202,4 +213,6 @@ module _ {G : Graph} {g : Setup} {s : State} {marks work tallies regs : List ℕ
         refl
         (h .marks-are)
         (h .tallies-are)
-        (moved-counts h 0))
+        (moved-counts h 0)
+        (λ i k. refl)
+        tt)

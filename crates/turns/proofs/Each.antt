@@ -5,7 +5,7 @@ use mathlib.Core.List.{List}
 use Prim.Native.Nat.{ℕ, _+_, _<_}
 use native.Mathlib.Decide.{decLt}
 use native.Mathlib.Omega.{arith}
-use lib.ListN.{length, set, length-set}
+use lib.ListN.{length, getD, set, length-set}
 use lib.Seq.{getD-set-same, getD-set-other}
 use Rattle.laws.specs.Sum.{sum}
 use Rattle.laws.proofs.Sum.{sum-set}
@@ -17,7 +17,7 @@ use Rattle.worker.specs.Registers.{Stored}
 use Rattle.turns.specs.declared.Setup.{Setup}
 use Rattle.turns.specs.declared.Progress.{Progress}
 use Rattle.turns.specs.Counting.{running?, countsOf}
-use Rattle.turns.specs.Held.{memory, stretchAt, BlockIs, Each, Holds}
+use Rattle.turns.specs.Held.{memory, stretchAt, BlockIs, RestIs, Each, Rests, Holds}
 
 -- every stretch but b's is as it was
 abbrev pub SameBut : ℕ → ℕ → ℕ → List ℕ → List ℕ → Type 0
@@ -41,14 +41,27 @@ module _ (G : Graph) (W L : ℕ) (ws : List Worker) (regs work : List ℕ) (long
       (λ (h : a ≢ b).
       rw (getD-set-other ws b a w ended h, st .others a h, same a low h) (each a low))
 
+-- the sinces of all workers but b stay
+abbrev pub RestsBut : ℕ → List ℕ → List ℕ → Type 0
+RestsBut b ns ns′ = (i : ℕ) → i ≢ b → getD ns′ i 0 ≡ getD ns i 0
+
+module _ (W : ℕ) (ws : List Worker) (ns regs : List ℕ) (long : length ws ≡ W) (rests : Rests W ws ns regs) where
+  pub rests-set : (b : ℕ) (w : Worker) {r : Block} {regs′ : List ℕ} (ns′ : List ℕ) → Stored regs b r regs′ → RestsBut b ns ns′
+      → RestIs w (getD ns′ b 0) r → Rests W (set ws b w) ns′ regs′
+  rests-set b w ns′ st same is a low =
+      either-way a b
+      (λ (e : a ≡ b). rw (e, getD-set-same ws b w ended (omega (arith, long)), st .here) is)
+      (λ (h : a ≢ b). rw (getD-set-other ws b a w ended h, st .others a h, same a h) (rests a low))
+
 -- one worker changes
 module _ {G : Graph} {g : Setup} {s : State} {marks work tallies regs : List ℕ} {p : Progress} (h : Holds G g s (memory marks work tallies regs p))
     (long : length (s .workers) ≡ g .workers) (b : ℕ) (low : b < g .workers) {x : Worker} (is : worker s b ≡ x) where
   pub hold-one : (w : Worker) {r : Block} {marks′ tallies′ regs′ : List ℕ} (work′ : List ℕ) {p′ : Progress} → Stored regs b r regs′ → length work′ ≡ length work
       → SameBut (g .workers) (g .stretch) b work work′ → BlockIs G w r (stretchAt (g .stretch) b work′)
       → p′ .running + running? x ≡ p .running + running? w
-      → {s′ : State} → s′ .workers ≡ set (s .workers) b w → marks′ ≡ s′ .marks → tallies′ ≡ talliesWords (s′ .tallies) → countsOf p′ (s′ .tallies) ≡ s′ .counts → Holds G g s′ (memory marks′ work′ tallies′ regs′ p′)
-  hold-one w {r} {marks′} {tallies′} {regs′} work′ {p′} st wl same bl ru {s′} ws ma ta co =
+      → {s′ : State} → s′ .workers ≡ set (s .workers) b w → marks′ ≡ s′ .marks → tallies′ ≡ talliesWords (s′ .tallies) → countsOf p′ (s′ .tallies) ≡ s′ .counts
+      → RestsBut b (s .rested) (s′ .rested) → RestIs w (getD (s′ .rested) b 0) r → Holds G g s′ (memory marks′ work′ tallies′ regs′ p′)
+  hold-one w {r} {marks′} {tallies′} {regs′} work′ {p′} st wl same bl ru {s′} ws ma ta co rb re =
       record {
         marks-are = ma;
         tallies-are = ta;
@@ -57,6 +70,7 @@ module _ {G : Graph} {g : Setup} {s : State} {marks work tallies regs : List ℕ
         regs-long = st .long ∙ h .regs-long;
         work-long = wl ∙ h .work-long;
         each = rw ws (each-set G (g .workers) (g .stretch) (s .workers) regs work long (h .each) b w work′ st same bl);
+        rests = rw ws (rests-set (g .workers) (s .workers) (s .rested) regs long (h .rests) b w (s′ .rested) st rb re);
       }
 
   -- and another one
@@ -66,8 +80,10 @@ module _ {G : Graph} {g : Setup} {s : State} {marks work tallies regs : List ℕ
       → ((i : ℕ) → i < g .workers → i ≢ b → i ≢ a → stretchAt (g .stretch) i work′ ≡ stretchAt (g .stretch) i work)
       → BlockIs G w r (stretchAt (g .stretch) b work′) → BlockIs G z q (stretchAt (g .stretch) a work′)
       → p′ .running + running? x + running? y ≡ p .running + running? w + running? z
-      → {s′ : State} → s′ .workers ≡ set (set (s .workers) b w) a z → marks′ ≡ s′ .marks → tallies′ ≡ talliesWords (s′ .tallies) → countsOf p′ (s′ .tallies) ≡ s′ .counts → Holds G g s′ (memory marks′ work′ tallies′ regs′ p′)
-  hold-two w {r} {regs₁} st a la other {y} iy z {q} {marks′} {tallies′} {regs′} work′ {p′} st′ wl same bl bl′ ru {s′} ws ma ta co =
+      → {s′ : State} → s′ .workers ≡ set (set (s .workers) b w) a z → marks′ ≡ s′ .marks → tallies′ ≡ talliesWords (s′ .tallies) → countsOf p′ (s′ .tallies) ≡ s′ .counts
+      → (ns : List ℕ) → RestsBut b (s .rested) ns → RestIs w (getD ns b 0) r → RestsBut a ns (s′ .rested) → RestIs z (getD (s′ .rested) a 0) q
+      → Holds G g s′ (memory marks′ work′ tallies′ regs′ p′)
+  hold-two w {r} {regs₁} st a la other {y} iy z {q} {marks′} {tallies′} {regs′} work′ {p′} st′ wl same bl bl′ ru {s′} ws ma ta co ns rb re rb′ re′ =
       record {
         marks-are = ma;
         tallies-are = ta;
@@ -76,6 +92,10 @@ module _ {G : Graph} {g : Setup} {s : State} {marks work tallies regs : List ℕ
         regs-long = st′ .long ∙ st .long ∙ h .regs-long;
         work-long = wl ∙ h .work-long;
         each = rw ws each′;
+        rests =
+            rw ws
+            (rests-set (g .workers) ws₁ ns regs₁ long₁ (rests-set (g .workers) (s .workers) (s .rested) regs long (h .rests) b w ns st rb re) a z
+            (s′ .rested) st′ rb′ re′);
       }
     where
       ws₁ : List Worker

@@ -138,7 +138,9 @@ module _ {g : Setup} {targets : List ℕ} {b : ℕ} {marks work tallies regs : L
       refl
       (x .holds .marks-are)
       (x .holds .tallies-are)
-      (moved-counts (x .holds) 0))
+      (moved-counts (x .holds) 0)
+      (λ i k. refl)
+      tt)
 
 -- ---- a claim
 

@@ -7,6 +7,7 @@ use Prim.Native.Nat.{ℕ, zero, suc, _+_, _-_, _*_, _≤_, _<_}
 use native.Mathlib.Omega.{arith}
 use borrow.Author.Tests.{ltb-false, ne-eqb}
 use lib.ListN.{length, getD, set, take, drop}
+use lib.Seq.{getD-set-same, getD-set-other}
 use lib.Dec.{ltb, eqb}
 use Rattle.laws.specs.Choice.{pick}
 use Rattle.laws.specs.Every.{Every}
@@ -17,8 +18,8 @@ use Rattle.machine.specs.Row.{countFollow}
 use Rattle.machine.specs.declared.Counts.{Counts}
 use Rattle.machine.specs.Run.{Run, run, runFrom, carried}
 use Rattle.machine.specs.Tally.{tally, tallied}
-use Rattle.machine.specs.Machine.{Worker, idle, denied, busy, Cell, empty, from, phase, worker, onward, dismiss, dismissed, emptied, onwardRuns, follows}
-use Rattle.machine.proofs.Facts.{busy-below, busy-carried, busy-carried-limit, busy-room, busy-runs-limit, first-run-limit, asker-asking, asker-below, asker-other, InTargets, carrying-at}
+use Rattle.machine.specs.Machine.{Worker, idle, denied, busy, Cell, empty, from, phase, worker, onward, dismiss, dismissed, emptied, resting, onwardRuns, follows}
+use Rattle.machine.proofs.Facts.{busy-below, busy-working, busy-carried, busy-carried-limit, busy-room, busy-runs-limit, first-run-limit, asker-asking, asker-below, asker-other, InTargets, carrying-at}
 use Rattle.machine.proofs.Runs.{carried-append, carried-from}
 use Rattle.machine.proofs.Step.{phase-batch}
 use Rattle.worker.specs.declared.registers.Block.{Block}
@@ -28,12 +29,13 @@ use Rattle.worker.specs.Stretch.{Holds as Words, Told, Nextable, goesOn, nextTo
 use Rattle.worker.proofs.Blocks.{put-stored}
 use Rattle.worker.proofs.Pairs.{pop-first}
 use Rattle.worker.proofs.Next.{some?, next-told, next-goes-on, length-next}
+use Rattle.worker.specs.Status.{cellWord, phaseWord}
 use Rattle.turns.specs.declared.Setup.{Setup}
 use Rattle.turns.specs.declared.Progress.{Progress}
 use Rattle.turns.specs.declared.follow.Opened.{Opened}
 use Rattle.turns.specs.Counting.{countsOf, followedOn}
 use Rattle.turns.specs.Claiming.{nextWord, advancedBlock, Advanceable, stoppedCount, stoppedAt}
-use Rattle.turns.specs.Held.{memory, stretchAt, cellWord, phaseWord, topOf, BusyIs, Holds, Scene}
+use Rattle.turns.specs.Held.{memory, stretchAt, topOf, BusyIs, Holds, Scene}
 use Rattle.turns.specs.Turned.{turned, Ready, IsFollowing}
 use Rattle.turns.proofs.Bounds.{block-room, stretch-room, stretch-limit}
 use Rattle.turns.proofs.Counting.{followed-counts}
@@ -47,13 +49,24 @@ word-phase : (k : ℕ) → nextWord k ≡ phaseWord (phase k)
 word-phase zero = refl
 word-phase (suc k) = refl
 
+-- where nothing is left behind a reference, it was the only one
+onward-none : (e j : ℕ) (os rs : List Run) → onwardRuns e j os rs ≡ [] → (j ≡ 0) × (rs ≡ [])
+onward-none e (suc j) os rs h = absurd (omega (arith, ap length h))
+onward-none e zero (r ∷ os) rs h = absurd (omega (arith, ap length h))
+onward-none e zero [] rs h = (refl, h)
+
+single : (e j : ℕ) (rs : List Run) → (j ≡ 0) × (rs ≡ []) → carried (run e j ∷ rs) ≡ 1
+unfolding carried sum
+single e j rs h = rw (h .1) (omega (arith, h .0))
+
 -- a worker that goes on, and one that is left with nothing
 gone-on : (ws : List Worker) (b n k : ℕ) (cell : Cell) (rs : List Run) → 0 < length rs
     → (dismiss cell rs (set ws b (onward cell n k rs)) ≡ set ws b (busy cell n (phase k) rs))
     × ((c : Counts) (w : ℕ) → countFollow c w (dismissed cell rs) (emptied rs) ≡ countFollow c w 0 0)
+    × ((ns : List ℕ) (m : ℕ) → resting rs ns b m ≡ ns)
 gone-on ws b n k cell [] some = absurd (omega arith)
-gone-on ws b n k empty (r ∷ rs) some = (refl, λ c w. refl)
-gone-on ws b n k (from a) (r ∷ rs) some = (refl, λ c w. refl)
+gone-on ws b n k empty (r ∷ rs) some = (refl, (λ c w. refl), λ ns m. refl)
+gone-on ws b n k (from a) (r ∷ rs) some = (refl, (λ c w. refl), λ ns m. refl)
 
 some-runs : (rs : List Run) → some? rs ≡ true → 0 < length rs
 some-runs [] e = let z : _≡_ {A = ℕ} 0 1 = cc in absurd (omega arith)
@@ -273,7 +286,19 @@ module _ {g : Setup} {targets marks′ tallies′ : List ℕ} {o : Opened} {b : 
       (on .0)
       (y .marks-are)
       (y .tallies-are)
-      (counts 0 0 ∙ sym (on .1 (x .state .counts) (y .found .won))))
+      (counts 0 0 ∙ sym (on .1 (x .state .counts) (y .found .won)))
+      (λ i k. ap (λ (ns : List ℕ). getD ns i 0) (on .2 (x .state .rested) (suc (y .since))))
+      tt)
+
+  -- where nothing is left, the batch is over with that reference, so its since is not ahead any more
+  last-since : goesOn (topOf block) (o .first) (o .end) ≡ false → block .since ≡ suc (y .since)
+  last-since l =
+      let none = onward-none (y .first) (y .more) (runFrom (o .first) (o .end - o .first)) (y .below) (no-runs runs (sym left-is ∙ l)) in
+      let w = busy-working (c .accepted) (c .sound) b (y .is) in
+      omega (arith, is .since, y .batch-is, w .batch-carried, single (y .first) (y .more) (y .below) none)
+
+  rested-room : b < length (x .state .rested)
+  rested-room = omega (arith, c .sound .rested-length, follow-low)
 
   -- nothing is left
   pub holds-stopped : goesOn (topOf block) (o .first) (o .end) ≡ false → (v : ℕ) → {work′ regs′ : List ℕ} {q : Progress} → work′ ≡ after
@@ -301,15 +326,19 @@ module _ {g : Setup} {targets marks′ tallies′ : List ℕ} {o : Opened} {b : 
           refl
           (y .marks-are)
           (y .tallies-are)
-          (counts 0 1))
+          (counts 0 1)
+          (λ i k. getD-set-other (x .state .rested) b i (suc (y .since)) 0 k)
+          (last-since l ∙ sym (getD-set-same (x .state .rested) b (suc (y .since)) 0 rested-room)))
       by (from a) e q =
           let la = asker-below (c .accepted) (c .sound) b e in
           let st = put-stored regs b (block-room c (x .holds) b follow-low .long) 0 0 (omega arith) in
           let i : suc a - 1 ≡ a = omega arith in
+          let other = asker-other (c .accepted) (c .sound) b e in
+          let asks = asker-asking (c .accepted) (c .sound) b e in
           rw (q, ne-eqb (suc a) 0 (λ z. omega (arith, z)), i)
           (hold-two (x .holds) (c .sound .workers-length) b follow-low e idle st a la
-          (asker-other (c .accepted) (c .sound) b e)
-          (asker-asking (c .accepted) (c .sound) b e)
+          other
+          asks
           denied
           after
           (put-stored (putAt regs b 0 0) a (rw (st .long) (block-room c (x .holds) a la .long)) 0 2 (omega arith))
@@ -321,4 +350,11 @@ module _ {g : Setup} {targets marks′ tallies′ : List ℕ} {o : Opened} {b : 
           refl
           (y .marks-are)
           (y .tallies-are)
-          (counts 1 1))
+          (counts 1 1)
+          (set (x .state .rested) b (suc (y .since)))
+          (λ j k. getD-set-other (x .state .rested) b j (suc (y .since)) 0 k)
+          (last-since l ∙ sym (getD-set-same (x .state .rested) b (suc (y .since)) 0 rested-room))
+          (λ j k. refl)
+          (ap (λ (r : Block). r .since) (st .others a other)
+          ∙ (rw asks at (x .holds .rests a la))
+          ∙ sym (getD-set-other (x .state .rested) b a (suc (y .since)) 0 other)))

@@ -8,9 +8,10 @@ use Rattle.machine.specs.Machine.{State, Worker, idle, asking, denied, ended, g
 use Rattle.machine.specs.Sound.{sinceOf}
 use Rattle.worker.specs.declared.registers.Block.{Block}
 use Rattle.worker.specs.Registers.{blockAt}
+use Rattle.worker.specs.Status.{phaseWord}
 use Rattle.turns.specs.declared.Setup.{Setup}
 use Rattle.turns.specs.declared.Progress.{Progress}
-use Rattle.turns.specs.Held.{memory, settingOf, stretchAt, phaseWord, BlockIs, Holds}
+use Rattle.turns.specs.Held.{memory, settingOf, stretchAt, BlockIs, Holds}
 use Rattle.turns.specs.Turned.{turned, Ready, IsIdle, IsGiven, IsPolling, IsLooking, IsClaiming, IsLent}
 use Rattle.turns.proofs.Asking.{turn-as}
 

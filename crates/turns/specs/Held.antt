@@ -13,7 +13,8 @@ use Rattle.machine.specs.Accepted.{Accepted}
 use Rattle.machine.specs.Sound.{Sound, batchOf}
 use Rattle.worker.specs.declared.registers.Block.{Block}
 use Rattle.worker.specs.declared.stretch.Top.{Top}
-use Rattle.worker.specs.Registers.{blockAt, block-words, status-idle, status-asking, status-denied, status-ended, status-given, status-poll, status-look, status-claim}
+use Rattle.worker.specs.Registers.{blockAt, block-words, status-idle, status-asking, status-denied, status-ended, status-given}
+use Rattle.worker.specs.Status.{cellWord, phaseWord}
 use Rattle.worker.specs.Stretch.{topWith, Told}
 use Rattle.turns.specs.declared.Setup.{Setup}
 use Rattle.turns.specs.declared.Progress.{Progress}
@@ -39,17 +40,6 @@ abbrev pub stretchAt : ℕ → ℕ → List ℕ → List ℕ
 stretchAt L b work = take L (drop (b * L) work)
 
 -- ---- one worker
-
--- an empty cell is 0, one that holds asker a is a + 1
-abbrev pub cellWord : Cell → ℕ
-cellWord empty = 0
-cellWord (from a) = suc a
-
--- the status of a busy worker
-abbrev pub phaseWord : Phase → ℕ
-phaseWord poll = status-poll
-phaseWord (look k) = status-look
-phaseWord (claim k) = status-claim
 
 -- where the first reference leads
 abbrev pub nextTarget : Graph → List Run → ℕ
@@ -83,11 +73,24 @@ BlockIs G ended r s = r .status ≡ status-ended
 BlockIs G (given rs) r s = (r .status ≡ status-given) × Carrying 0 rs r s
 BlockIs G (busy c n p rs) r s = BusyIs G c n p rs r s
 
+-- the since of a worker that is not busy stands in its block too
+abbrev pub RestIs : Worker → ℕ → Block → Type 0
+RestIs idle n r = r .since ≡ n
+RestIs asking n r = r .since ≡ n
+RestIs denied n r = r .since ≡ n
+RestIs ended n r = r .since ≡ n
+RestIs (given rs) n r = r .since ≡ n
+RestIs (busy c k p rs) n r = Unit {0}
+
 -- ---- the state
 
 -- every worker's
 abbrev pub Each : Graph → ℕ → ℕ → List Worker → List ℕ → List ℕ → Type 0
 Each G W L ws regs work = (b : ℕ) → b < W → BlockIs G (getD ws b ended) (blockAt regs b) (stretchAt L b work)
+
+-- and every since of a worker that is not busy
+abbrev pub Rests : ℕ → List Worker → List ℕ → List ℕ → Type 0
+Rests W ws ns regs = (b : ℕ) → b < W → RestIs (getD ws b ended) (getD ns b 0) (blockAt regs b)
 
 -- the memories hold the state
 pub record Holds (G : Graph) (g : Setup) (s : State) (μ : Memory) : Type 0 where
@@ -98,6 +101,7 @@ pub record Holds (G : Graph) (g : Setup) (s : State) (μ : Memory) : Type 0 wher
   pub regs-long : length (μ .regs) ≡ block-words * g .workers
   pub work-long : length (μ .work) ≡ g .workers * g .stretch
   pub each : Each G (g .workers) (g .stretch) (s .workers) (μ .regs) (μ .work)
+  pub rests : Rests (g .workers) (s .workers) (s .rested) (μ .regs)
 
 -- a state of an accepted call, and that its counts have room for one more turn
 pub record Scene (G : Graph) (g : Setup) (s : State) : Type 0 where
