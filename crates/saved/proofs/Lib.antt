@@ -1,0 +1,5 @@
+pub mod Exact
+pub mod Joined
+pub mod Kept
+pub mod Room
+pub mod RoundTrip

@@ -1,0 +1,107 @@
+-- SPECIFICATION 8.3: the calls that begin a collection and save it, and that take a saved one up: their checks, what they leave,
+-- and what calls in a row come to.
+use mathlib.Core.Path.{_≡_}
+use Prim.Native.Nat.{ℕ, zero, suc, _+_, _*_}
+use mathlib.Core.Bool.{Bool, true, false, not, _||_}
+use mathlib.Core.List.{List, [], _∷_, _++_}
+use lib.ListN.{length}
+use lib.Dec.{eqb}
+use Rattle.laws.specs.Choice.{both}
+use Rattle.refusal.specs.Order.{raise, first}
+use Rattle.graph.specs.Graph.{Graph, objects}
+use Rattle.graph.specs.Chain.{Reach}
+use Rattle.machine.specs.Row.{Row, refusedRow}
+use Rattle.machine.specs.Tally.{tally-words, talliesWords}
+use Rattle.machine.specs.Machine.{Setting, State, Entry, turns, entries, result, stretchLength, memory}
+use Rattle.machine.specs.Call.{Call, scheduledBy, graphOf, settingOf, settingFault, countFault, graphFault, startsFault, objectFault, scheduleFits, scheduleFault, final}
+use Rattle.machine.specs.Demand2.{outcome, Demand2}
+use Rattle.machine.specs.Demand3.{Demand3}
+use Rattle.machine.specs.Lamp.{Lamp}
+use Rattle.machine.specs.Owners.{Owners}
+use Rattle.machine.specs.Tallies.{Tallies}
+use Rattle.saved.specs.Layout.{savedWords, savedLength, stateOf}
+use Rattle.saved.specs.Test.{saved?}
+
+-- ---- the checks: 8, 4, 7, 10, 13, 5, 9, and 14 where a saved collection is taken up
+
+-- 7: not n marks, not W × (2n + 4) work words, not 4 × W tally words, or another number of saved words than the layout has
+abbrev pub savedBufferFault : ℕ → ℕ → ℕ → ℕ → ℕ → ℕ → ℕ
+savedBufferFault n W marks work tallies saved =
+    raise
+    (not (eqb marks n)
+    || not (eqb work (W * stretchLength n))
+    || not (eqb tallies (W * tally-words))
+    || not (eqb saved (savedLength n W)))
+    7
+    0
+
+-- the number of the first fault of a call with so many marks, work words, tally words and saved words
+unfoldable pub beginFault : Call → ℕ → ℕ → ℕ → ℕ → ℕ
+unfolding scheduleFits
+beginFault c marks work tallies saved =
+    first (settingFault (c .workers) (c .batch) (c .cutoff))
+    (first (countFault (c .offsets) (c .targets))
+    (first (savedBufferFault (objects (graphOf c)) (c .workers) marks work tallies saved)
+    (first (graphFault (graphOf c))
+    (first (startsFault (c .starts))
+    (first (objectFault (objects (graphOf c)) (c .starts))
+    (scheduleFault (c .workers) (c .schedule)))))))
+
+-- 14: the saved words hold no sound collection of this graph, these starts and these settings
+abbrev pub savedFault : Call → List ℕ → ℕ
+savedFault c w = raise (not (saved? (graphOf c) (c .starts) (c .workers) (settingOf c) w)) 14 0
+
+unfoldable pub resumeFault : Call → ℕ → ℕ → ℕ → List ℕ → ℕ
+unfolding beginFault
+resumeFault c marks work tallies w = first (beginFault c marks work tallies (length w)) (savedFault c w)
+
+-- ---- what a call leaves
+
+-- the state that is reached from saved words by the turns of the schedule
+abbrev pub resumed : Call → List ℕ → State
+resumed c w = turns (graphOf c) (settingOf c) (stateOf (objects (graphOf c)) (c .workers) w) (entries (c .schedule))
+
+-- by the number of the fault: the row, and a lent buffer, which is as before beside a refusal
+abbrev pub rowFor : ℕ → State → Row
+rowFor zero s = result s
+rowFor (suc k) s = refusedRow (suc k)
+
+abbrev pub bufferFor : ℕ → List ℕ → List ℕ → List ℕ
+bufferFor zero new old = new
+bufferFor (suc k) new old = old
+
+-- ---- a collection begun afresh, in one call or several, whose turns so far are xs: what the last call reports and leaves
+pub record Afresh (c : Call) (xs : List Entry) (r : Row) (marks work tallies w : List ℕ) : Type 0 where
+  -- all of it is as one call with these turns leaves it
+  pub row-is : r ≡ result (outcome (graphOf c) (c .starts) (c .workers) (settingOf c) xs)
+  pub marks-are : marks ≡ outcome (graphOf c) (c .starts) (c .workers) (settingOf c) xs .marks
+  pub work-is : work ≡ memory (objects (graphOf c)) (outcome (graphOf c) (c .starts) (c .workers) (settingOf c) xs .workers)
+  pub tallies-are : tallies ≡ talliesWords (outcome (graphOf c) (c .starts) (c .workers) (settingOf c) xs .tallies)
+  pub saved-is : w ≡ savedWords (objects (graphOf c)) (outcome (graphOf c) (c .starts) (c .workers) (settingOf c) xs)
+  -- the words are sound and tell of the state that was reached
+  pub sound : saved? (graphOf c) (c .starts) (c .workers) (settingOf c) w ≡ true
+  pub told : stateOf (objects (graphOf c)) (c .workers) w ≡ outcome (graphOf c) (c .starts) (c .workers) (settingOf c) xs
+  -- the demands hold of all turns together
+  pub demand2 : Demand2 (graphOf c) (c .starts) (c .workers) (settingOf c) xs r marks
+  pub demand3 : Demand3 (graphOf c) (c .starts) (c .workers) (settingOf c) xs r
+  pub lamp : Lamp (graphOf c) (c .starts) (c .workers) (settingOf c) xs r
+  pub owners : Owners (graphOf c) (c .starts) (c .workers) (settingOf c) xs r marks
+  pub counted :
+      Tallies (graphOf c) (c .starts) (c .workers) (settingOf c) xs r (outcome (graphOf c) (c .starts) (c .workers) (settingOf c) xs .tallies)
+
+-- ---- calls in a row
+
+-- a schedule cut into parts, laid end to end
+unfoldable pub whole : List (List ℕ) → List ℕ
+whole [] = []
+whole (l ∷ ls) = l ++ whole ls
+
+-- the words after a saved collection is taken up with each of these schedules, one call after the other
+unfoldable pub resumedAll : Call → List (List ℕ) → List ℕ → List ℕ
+resumedAll c [] w = w
+resumedAll c (l ∷ ls) w = resumedAll c ls (savedWords (objects (graphOf c)) (resumed (scheduledBy l c) w))
+
+-- whole entries, each with a worker below W, in each part
+unfoldable pub allFit : ℕ → List (List ℕ) → Bool
+allFit W [] = true
+allFit W (l ∷ ls) = both (scheduleFits W l) (allFit W ls)

@@ -1,0 +1,5 @@
+pub mod Calls
+pub mod Drawn
+pub mod Layout
+pub mod Sound
+pub mod Test

@@ -1,0 +1,5 @@
+// A collection that was stopped, as words: the definitions stand in specs/, and what is proved of them
+// in proofs/.
+
+// The first word of a saved collection.
+pub const FORM: u32 = 1;
