@@ -1,0 +1,12 @@
+pub mod HeadLaws
+pub mod RunLaws
+pub mod StretchLaws
+pub mod LoadLaws
+pub mod Reading
+pub mod Rebuilt
+pub mod Told
+pub mod Parts
+pub mod Needed
+pub mod Deciding
+pub mod MarkLaws
+pub mod CountLaws

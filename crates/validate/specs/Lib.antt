@@ -1,0 +1,5 @@
+pub mod Checked
+pub mod Heads
+pub mod Marks
+pub mod Runs
+pub mod Counts
