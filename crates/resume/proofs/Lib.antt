@@ -1,0 +1,10 @@
+pub mod Calling
+pub mod Checking
+pub mod Finishing
+pub mod Numbers
+pub mod Parts
+pub mod Records
+pub mod Restoring
+pub mod Resuming
+pub mod Running
+pub mod Saving

@@ -1,0 +1,5 @@
+pub mod Answer
+pub mod Copies
+pub mod Restoring
+pub mod Saving
+pub mod Workers
