@@ -7,13 +7,18 @@ use mathlib.Core.List.{List, [], _∷_}
 use lib.ListN.{length}
 use lib.Dec.{eqb}
 use Rattle.laws.specs.Choice.{pick}
-use Rattle.graph.specs.Graph.{graph, partStart, partLength}
+use Rattle.graph.specs.Graph.{graph, objects, partStart, partLength}
 use Rattle.catalogue.specs.Answer.{Row, ReadRow, headerRow, taken, readRow, offsetsAfter, targetsAfter, sizesAfter, startsAfter}
 use Rattle.catalogue.specs.Reading.{Reading, refused}
 use Rattle.machine.specs.declared.Counts.{Counts}
 use Rattle.machine.specs.Row.{Row as MarkRow, counts-number, countWords}
-use Rattle.machine.specs.Call.{Call, marking, marksAfter, workAfter, talliesAfter}
+use Rattle.machine.specs.Tally.{talliesWords}
+use Rattle.machine.specs.Machine.{State, memory}
+use Rattle.machine.specs.Call.{Call, graphOf, final, marking, marksAfter, workAfter, talliesAfter}
 use Rattle.sweep.specs.Sweep.{sweeping, listAfter}
+use Rattle.saved.specs.Layout.{savedWords}
+use Rattle.saved.specs.Calls.{beginFault, resumeFault, resumed, rowFor, bufferFor}
+use Rattle.resume.specs.Answer.{lengthFor}
 
 -- 7 where the result words are not as many as the call has results, else what the call answers
 abbrev pub answerIn : ℕ → List ℕ → ℕ → ℕ
@@ -97,3 +102,31 @@ pub record MarksIn (c : Call) (marks work tallies result marks′ work′ tallie
   pub fills-work : work′ ≡ pick (eqb (length result) mark-words) (workAfter c marks work tallies) work
   pub fills-tallies : tallies′ ≡ pick (eqb (length result) mark-words) (talliesAfter c marks work tallies) tallies
   pub fills-result : result′ ≡ wordsFor (answerIn mark-words result (marking c marks work tallies .number)) (markWords (marking c marks work tallies)) result
+
+-- ---- saved words: how many
+
+abbrev pub lengthAnswer : ℕ → ℕ → List ℕ → ℕ
+lengthAnswer n W result = answerIn 1 result (lengthFor n W .number)
+
+abbrev pub lengthWords : ℕ → ℕ → List ℕ
+lengthWords n W = lengthFor n W .words ∷ []
+
+-- ---- begin and resume: the words of mark, and the saved ones
+
+-- the number answered and every lent byte and word afterwards, where k is the number of the call's fault and s the state that it reaches
+pub record SavesIn (c : Call) (k : ℕ) (s : State) (marks work tallies w result marks′ work′ tallies′ w′ result′ : List ℕ) (answer : ℕ) : Type 0 where
+  pub answers : answer ≡ answerIn mark-words result (rowFor k s .number)
+  pub fills-marks : marks′ ≡ pick (eqb (length result) mark-words) (bufferFor k (s .marks) marks) marks
+  pub fills-work : work′ ≡ pick (eqb (length result) mark-words) (bufferFor k (memory (objects (graphOf c)) (s .workers)) work) work
+  pub fills-tallies : tallies′ ≡ pick (eqb (length result) mark-words) (bufferFor k (talliesWords (s .tallies)) tallies) tallies
+  pub fills-saved : w′ ≡ pick (eqb (length result) mark-words) (bufferFor k (savedWords (objects (graphOf c)) s) w) w
+  pub fills-result : result′ ≡ wordsFor (answerIn mark-words result (rowFor k s .number)) (markWords (rowFor k s)) result
+
+-- a collection begun, and one taken up from its saved words
+abbrev pub BeginsIn : Call → List ℕ → List ℕ → List ℕ → List ℕ → List ℕ → List ℕ → List ℕ → List ℕ → List ℕ → List ℕ → ℕ → Type 0
+BeginsIn c marks work tallies w result =
+    SavesIn c (beginFault c (length marks) (length work) (length tallies) (length w)) (final c) marks work tallies w result
+
+abbrev pub ResumesIn : Call → List ℕ → List ℕ → List ℕ → List ℕ → List ℕ → List ℕ → List ℕ → List ℕ → List ℕ → List ℕ → ℕ → Type 0
+ResumesIn c marks work tallies w result =
+    SavesIn c (resumeFault c (length marks) (length work) (length tallies) w) (resumed c w) marks work tallies w result

@@ -5,6 +5,7 @@ use catalogue::Found;
 use machine::COUNTS;
 use machine::Counts;
 use marker::Marked;
+use resume::Length;
 use sweep::Swept;
 ghost use mathlib.Core.Path.{_≡_};
 ghost use mathlib.Core.List.{[], _∷_};
@@ -13,7 +14,7 @@ ghost use lib.ListN.{length};
 ghost use lib.Seq.{sets};
 ghost use Rattle.catalogue.specs.Answer.{row, foundRow, headerRow};
 ghost use Rattle.marker.specs.Answer.{callOf, row as markRow};
-ghost use Rattle.kullneyra.specs.Calls.{ReadsIn, headerAnswer, headerWords, readWords, wordsFor, partAnswer, partWords, sweepAnswer, sweepWords, sweepList, mark-words, resultWords, markWords, MarksIn};
+ghost use Rattle.kullneyra.specs.Calls.{ReadsIn, headerAnswer, headerWords, readWords, wordsFor, partAnswer, partWords, sweepAnswer, sweepWords, sweepList, mark-words, resultWords, markWords, MarksIn, lengthAnswer, lengthWords, BeginsIn, ResumesIn};
 
 // Result words of the marker: finished, and the counts.
 const MARK_WORDS: usize = 1 + COUNTS;
@@ -202,6 +203,98 @@ pub extern "C" fn kullneyra_mark(
         marks,
         work,
         tallies,
+    );
+    give_marked(answer, result)
+}
+
+// How many words a saved collection takes; one result word.
+#[no_mangle]
+pub extern "C" fn kullneyra_saved_words(objects: u32, workers: u32, result: &mut [u64]) -> u32
+    ensures { λ r. ⌜ r ≡ lengthAnswer objects workers (now (result .entry)) ⌝ }
+    ensures { λ r. ⌜ now (result .exit) ≡ wordsFor (lengthAnswer objects workers (now (result .entry))) (lengthWords objects workers) (now (result .entry)) ⌝ }
+{
+    if result.len() != 1 {
+        return 7;
+    }
+    match resume::saved_length(objects, workers) {
+        Length::Words(words) => {
+            result[0] = words;
+            0
+        }
+        Length::Refused(refusal) => refusal::number_of(refusal) as u32,
+    }
+}
+
+// As the marker, and saves the collection.
+#[no_mangle]
+pub extern "C" fn kullneyra_begin(
+    offsets: &[u32],
+    targets: &[u32],
+    starts: &[u32],
+    workers: u32,
+    batch: u32,
+    cutoff: u32,
+    schedule: &[u8],
+    marks: &mut [u8],
+    work: &mut [u32],
+    tallies: &mut [u64],
+    saved: &mut [u32],
+    result: &mut [u64],
+) -> u32
+    ensures { λ r. ⌜ BeginsIn (callOf (now (offsets .entry)) (now (targets .entry)) (now (starts .entry)) workers batch cutoff (now (schedule .entry))) (now (marks .entry)) (now (work .entry)) (now (tallies .entry)) (now (saved .entry)) (now (result .entry)) (now (marks .exit)) (now (work .exit)) (now (tallies .exit)) (now (saved .exit)) (now (result .exit)) r ⌝ }
+{
+    if result.len() != MARK_WORDS {
+        return 7;
+    }
+    let answer = resume::begin(
+        offsets,
+        targets,
+        starts,
+        workers,
+        batch,
+        cutoff,
+        schedule,
+        marks,
+        work,
+        tallies,
+        saved,
+    );
+    give_marked(answer, result)
+}
+
+// Takes a saved collection up, and saves it again.
+#[no_mangle]
+pub extern "C" fn kullneyra_resume(
+    offsets: &[u32],
+    targets: &[u32],
+    starts: &[u32],
+    workers: u32,
+    batch: u32,
+    cutoff: u32,
+    schedule: &[u8],
+    marks: &mut [u8],
+    work: &mut [u32],
+    tallies: &mut [u64],
+    saved: &mut [u32],
+    result: &mut [u64],
+) -> u32
+    ensures { λ r. ⌜ ResumesIn (callOf (now (offsets .entry)) (now (targets .entry)) (now (starts .entry)) workers batch cutoff (now (schedule .entry))) (now (marks .entry)) (now (work .entry)) (now (tallies .entry)) (now (saved .entry)) (now (result .entry)) (now (marks .exit)) (now (work .exit)) (now (tallies .exit)) (now (saved .exit)) (now (result .exit)) r ⌝ }
+{
+    if result.len() != MARK_WORDS {
+        return 7;
+    }
+    let answer = resume::go_on(
+        offsets,
+        targets,
+        starts,
+        workers,
+        batch,
+        cutoff,
+        schedule,
+        marks,
+        work,
+        tallies,
+        saved,
     );
     give_marked(answer, result)
 }

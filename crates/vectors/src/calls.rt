@@ -189,6 +189,137 @@ fn mark_into(
     show::memory(marks, work, tallies);
 }
 
+fn saved_length(cells: &[u64], places: &[usize; 512]) {
+    let mut objects = [0u32; 1];
+    let mut workers = [0u32; 1];
+    copy_words(cells, places, 0, &mut objects);
+    copy_words(cells, places, 1, &mut workers);
+    show::length(resume::saved_length(objects[0], workers[0]));
+}
+
+// The calls that save: `begin`, or `go on` with what is saved.
+fn save(kind: u8, cells: &[u64], places: &[usize; 512]) {
+    let mut offsets = [0u32; 64];
+    let mut targets = [0u32; 64];
+    let mut starts = [0u32; 512];
+    let o = copy_words(cells, places, 0, &mut offsets);
+    let t = copy_words(cells, places, 1, &mut targets);
+    let s = copy_words(cells, places, 2, &mut starts);
+    save_graph(
+        kind,
+        &offsets[..o],
+        &targets[..t],
+        &starts[..s],
+        cells,
+        places,
+    );
+}
+
+fn save_graph(
+    kind: u8,
+    offsets: &[u32],
+    targets: &[u32],
+    starts: &[u32],
+    cells: &[u64],
+    places: &[usize; 512],
+) {
+    let mut setting = [0u32; 3];
+    let mut schedule = [0u8; 512];
+    let mut marks = [0u8; 64];
+    let mut work = [0u32; 512];
+    let mut tallies = [0u64; 128];
+    let mut saved = [0u32; 512];
+    copy_words(cells, places, 3, &mut setting);
+    let s = copy_bytes(cells, places, 4, &mut schedule);
+    let m = copy_bytes(cells, places, 5, &mut marks);
+    let w = copy_words(cells, places, 6, &mut work);
+    let c = copy_longs(cells, places, 7, &mut tallies);
+    let l = copy_words(cells, places, 8, &mut saved);
+    if kind == b'b' {
+        begin_into(
+            offsets,
+            targets,
+            starts,
+            &setting,
+            &schedule[..s],
+            &mut marks[..m],
+            &mut work[..w],
+            &mut tallies[..c],
+            &mut saved[..l],
+        );
+    } else {
+        go_on_into(
+            offsets,
+            targets,
+            starts,
+            &setting,
+            &schedule[..s],
+            &mut marks[..m],
+            &mut work[..w],
+            &mut tallies[..c],
+            &mut saved[..l],
+        );
+    }
+}
+
+fn begin_into(
+    offsets: &[u32],
+    targets: &[u32],
+    starts: &[u32],
+    setting: &[u32; 3],
+    schedule: &[u8],
+    marks: &mut [u8],
+    work: &mut [u32],
+    tallies: &mut [u64],
+    saved: &mut [u32],
+) {
+    let answer = resume::begin(
+        offsets,
+        targets,
+        starts,
+        setting[0],
+        setting[1],
+        setting[2],
+        schedule,
+        marks,
+        work,
+        tallies,
+        saved,
+    );
+    show::marked(answer);
+    show::memory(marks, work, tallies);
+    show::words(saved);
+}
+
+fn go_on_into(
+    offsets: &[u32],
+    targets: &[u32],
+    starts: &[u32],
+    setting: &[u32; 3],
+    schedule: &[u8],
+    marks: &mut [u8],
+    work: &mut [u32],
+    tallies: &mut [u64],
+    saved: &mut [u32],
+) {
+    let answer = resume::go_on(
+        offsets,
+        targets,
+        starts,
+        setting[0],
+        setting[1],
+        setting[2],
+        schedule,
+        marks,
+        work,
+        tallies,
+        saved,
+    );
+    show::marked(answer);
+    show::memory(marks, work, tallies);
+    show::words(saved);
+}
+
 fn sweep(cells: &[u64], places: &[usize; 512]) {
     let mut marks = [0u8; 64];
     let mut list = [0u32; 64];
@@ -210,6 +341,9 @@ pub fn call(kind: u8, text: &[u8], cells: &[u64], places: &[usize; 512]) {
         b'r' => read(cells, places),
         b'v' => view(cells, places),
         b'm' => mark(cells, places),
+        b'w' => saved_length(cells, places),
+        b'b' => save(kind, cells, places),
+        b'g' => save(kind, cells, places),
         _ => sweep(cells, places),
     }
     io::write_all(1, b"\n");

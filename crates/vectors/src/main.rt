@@ -4,11 +4,14 @@
 //     read NAME: BYTES | OFFSETS | TARGETS | SIZES | STARTS    the header call, then the reader
 //     view NAME: OFFSETS | TARGETS | OBJECT            the references of one object
 //     mark NAME: OFFSETS | TARGETS | STARTS | W D K | SCHEDULE | MARKS | WORK | TALLIES
+//     words NAME: N | W                                how many words a saved collection takes
+//     begin NAME: OFFSETS | TARGETS | STARTS | W D K | SCHEDULE | MARKS | WORK | TALLIES | SAVED
+//     go on NAME: the same, with what is saved
 //     sweep NAME: MARKS | SIZES | LIST
 //
 // and a line that begins with no small letter is a comment. A list is words with a space between
 // them: 12 is a number, 12:4 its four lowest bytes, the lowest first, S the numbers under a letter,
-// and 5*WORD a word five times. A list has up to 2,560 bytes, 512 turns' bytes or work words, 264
+// and 5*WORD a word five times. A list has up to 2,560 bytes, 512 turns' bytes, work words or saved words, 264
 // starts, or 64 other numbers. What a call fills in is lent as the line has it. A case is answered by a line: its head,
 // the calls' answers, and each list that was lent to be filled as it is then, five or more equal
 // numbers as 5*7.

@@ -6,6 +6,7 @@ use machine::COUNTS;
 use machine::Counts;
 use marker::Marked;
 use refusal::Refusal;
+use resume::Length;
 use sweep::Swept;
 
 fn number(n: u64) {
@@ -76,6 +77,13 @@ pub fn swept(s: Swept) {
             number(freed);
         }
         Swept::Refused(r) => refused(r),
+    }
+}
+
+pub fn length(l: Length) {
+    match l {
+        Length::Words(words) => number(words),
+        Length::Refused(r) => refused(r),
     }
 }
 

@@ -1,0 +1,35 @@
+-- The calls that save, by the length of the result words: with another one nothing is made, and with the right one what the call promises is told.
+use mathlib.Core.Path.{_≡_}
+use mathlib.Core.Bool.{true, false}
+use mathlib.Core.List.{List}
+use Prim.Native.Nat.{ℕ}
+use lib.ListN.{length}
+use lib.Dec.{eqb}
+use Rattle.machine.specs.Machine.{State}
+use Rattle.machine.specs.Call.{Call}
+use Rattle.marker.specs.declared.Marked.{Marked}
+use Rattle.marker.specs.Answer.{row}
+use Rattle.resume.specs.Answer.{Answers}
+use Rattle.kullneyra.specs.Calls.{mark-words, markWords, wordsFor, SavesIn}
+
+module _ {c : Call} {k : ℕ} {s : State} {marks work tallies w result : List ℕ} where
+  pub not-made : eqb (length result) mark-words ≡ false
+      → SavesIn c k s marks work tallies w result marks work tallies w result 7
+  not-made f =
+      record { answers = rw f; fills-marks = rw f; fills-work = rw f; fills-tallies = rw f; fills-saved = rw f; fills-result = rw f }
+
+  pub made : {r : Marked} {marks′ work′ tallies′ w′ result′ : List ℕ} {answer : ℕ}
+      → eqb (length result) mark-words ≡ true
+      → Answers c k s marks work tallies w r marks′ work′ tallies′ w′
+      → answer ≡ row r .number → result′ ≡ wordsFor (row r .number) (markWords (row r)) result
+      → SavesIn c k s marks work tallies w result marks′ work′ tallies′ w′ result′ answer
+  made f a number words =
+      let h = a .row-is in
+      record {
+        answers = rw (f, ← h) number;
+        fills-marks = rw f (a .marks-are);
+        fills-work = rw f (a .work-is);
+        fills-tallies = rw f (a .tallies-are);
+        fills-saved = rw f (a .saved-is);
+        fills-result = rw (f, ← h) words;
+      }
