@@ -44,6 +44,7 @@ extern "C" {
 #define KULLNEYRA_LARGE 11   /* only printed by the program: a file, or a number in it, too large for it */
 #define KULLNEYRA_FILE 12    /* only printed by the program: a file that cannot be read */
 #define KULLNEYRA_NO_STARTS 13 /* no start, or more leases than KULLNEYRA_MOST_LEASES */
+#define KULLNEYRA_UNSOUND 14 /* saved words that hold no sound collection of this graph, these starts and settings */
 
 /* Limits. Objects, starts, workers, batch and cutoff are 1 at least; references and sizes may be 0. */
 #define KULLNEYRA_MOST_OBJECTS 65536
@@ -62,6 +63,7 @@ extern "C" {
 #define KULLNEYRA_WORK(n, w) ((size_t)(w) * (2 * (size_t)(n) + 4))
 #define KULLNEYRA_TALLIES(w) (4 * (size_t)(w))
 #define KULLNEYRA_LIST(n) ((size_t)(n))
+#define KULLNEYRA_SAVED(n, w) (13 + 12 * (size_t)(w) + (size_t)(n) + KULLNEYRA_WORK(n, w))
 
 /* What a call answers beside its number: a struct for each answer, whose fields are the result words in
  * their order. */
@@ -87,7 +89,7 @@ struct kullneyra_part {
     uint64_t length;
 };
 
-/* mark: what the turns did. */
+/* mark, begin, resume: what the turns did, over all calls of a collection. */
 struct kullneyra_marked {
     uint64_t finished; /* 1 if every worker has ended, else 0 */
     uint64_t live;     /* marked objects */
@@ -120,7 +122,8 @@ struct kullneyra_swept {
 #define KULLNEYRA_HEADER_WORDS (sizeof(struct kullneyra_head) / sizeof(uint32_t))
 #define KULLNEYRA_READ_WORDS (sizeof(struct kullneyra_store) / sizeof(uint32_t))
 #define KULLNEYRA_PART_WORDS (sizeof(struct kullneyra_part) / sizeof(uint64_t))
-#define KULLNEYRA_MARK_WORDS (sizeof(struct kullneyra_marked) / sizeof(uint64_t))
+#define KULLNEYRA_MARK_WORDS (sizeof(struct kullneyra_marked) / sizeof(uint64_t)) /* begin and resume too */
+#define KULLNEYRA_SAVED_WORDS 1
 #define KULLNEYRA_SWEEP_WORDS (sizeof(struct kullneyra_swept) / sizeof(uint64_t))
 
 /* Reads only the catalogue's header record. */
@@ -147,6 +150,30 @@ uint32_t kullneyra_mark(const uint32_t *offsets, size_t offsets_len, const uint3
                         uint32_t cutoff, const uint8_t *schedule, size_t schedule_len, uint8_t *marks,
                         size_t marks_len, uint32_t *work, size_t work_len, uint64_t *tallies,
                         size_t tallies_len, uint64_t *result, size_t result_len);
+
+/* How many words a saved collection of n objects with so many workers takes, as KULLNEYRA_SAVED(n, w) has it. */
+uint32_t kullneyra_saved_words(uint32_t objects, uint32_t workers, uint64_t *result, size_t result_len);
+
+/* As kullneyra_mark, and saves the collection: everything that is needed to go on later stands in the saved
+ * words, marks too. Nobody has to keep the other buffers, but the graph, the starts and the settings are
+ * passed again. The words are for this library; docs/SPECIFICATION.md, 8.1, has their layout. */
+uint32_t kullneyra_begin(const uint32_t *offsets, size_t offsets_len, const uint32_t *targets, size_t targets_len,
+                         const uint32_t *starts, size_t starts_len, uint32_t workers, uint32_t batch,
+                         uint32_t cutoff, const uint8_t *schedule, size_t schedule_len, uint8_t *marks,
+                         size_t marks_len, uint32_t *work, size_t work_len, uint64_t *tallies,
+                         size_t tallies_len, uint32_t *saved, size_t saved_len, uint64_t *result,
+                         size_t result_len);
+
+/* Takes a saved collection up with more turns, and saves it again. A collection that was begun with the same
+ * graph, starts and settings ends as one call with all the turns would have ended it, counts and tallies
+ * included. Marks, work and tallies need not hold anything before. Saved words that hold no sound collection
+ * are KULLNEYRA_UNSOUND. Whoever wrote them: a collection that is finished has marked all that lives. */
+uint32_t kullneyra_resume(const uint32_t *offsets, size_t offsets_len, const uint32_t *targets, size_t targets_len,
+                          const uint32_t *starts, size_t starts_len, uint32_t workers, uint32_t batch,
+                          uint32_t cutoff, const uint8_t *schedule, size_t schedule_len, uint8_t *marks,
+                          size_t marks_len, uint32_t *work, size_t work_len, uint64_t *tallies,
+                          size_t tallies_len, uint32_t *saved, size_t saved_len, uint64_t *result,
+                          size_t result_len);
 
 /* Lists the objects whose mark is 0, upwards, then zeros; answers how many they are and what their sizes add up to. */
 uint32_t kullneyra_sweep(const uint8_t *marks, size_t marks_len, const uint64_t *sizes, size_t sizes_len,
@@ -194,6 +221,41 @@ static inline uint32_t kullneyra_mark_into(const uint32_t *offsets, size_t offse
     const uint32_t number = kullneyra_mark(offsets, offsets_len, targets, targets_len, starts, starts_len, workers,
                                            batch, cutoff, schedule, schedule_len, marks, marks_len, work, work_len,
                                            tallies, tallies_len, words, KULLNEYRA_MARK_WORDS);
+    memcpy(answer, words, sizeof *answer);
+    return number;
+}
+
+static inline uint32_t kullneyra_saved_words_into(uint32_t objects, uint32_t workers, uint64_t *answer) {
+    *answer = 0;
+    return kullneyra_saved_words(objects, workers, answer, KULLNEYRA_SAVED_WORDS);
+}
+
+static inline uint32_t kullneyra_begin_into(const uint32_t *offsets, size_t offsets_len, const uint32_t *targets,
+                                           size_t targets_len, const uint32_t *starts, size_t starts_len,
+                                           uint32_t workers, uint32_t batch, uint32_t cutoff,
+                                           const uint8_t *schedule, size_t schedule_len, uint8_t *marks,
+                                           size_t marks_len, uint32_t *work, size_t work_len,
+                                           uint64_t *tallies, size_t tallies_len, uint32_t *saved,
+                                           size_t saved_len, struct kullneyra_marked *answer) {
+    uint64_t words[KULLNEYRA_MARK_WORDS] = {0};
+    const uint32_t number = kullneyra_begin(offsets, offsets_len, targets, targets_len, starts, starts_len, workers,
+                                           batch, cutoff, schedule, schedule_len, marks, marks_len, work, work_len,
+                                           tallies, tallies_len, saved, saved_len, words, KULLNEYRA_MARK_WORDS);
+    memcpy(answer, words, sizeof *answer);
+    return number;
+}
+
+static inline uint32_t kullneyra_resume_into(const uint32_t *offsets, size_t offsets_len, const uint32_t *targets,
+                                           size_t targets_len, const uint32_t *starts, size_t starts_len,
+                                           uint32_t workers, uint32_t batch, uint32_t cutoff,
+                                           const uint8_t *schedule, size_t schedule_len, uint8_t *marks,
+                                           size_t marks_len, uint32_t *work, size_t work_len,
+                                           uint64_t *tallies, size_t tallies_len, uint32_t *saved,
+                                           size_t saved_len, struct kullneyra_marked *answer) {
+    uint64_t words[KULLNEYRA_MARK_WORDS] = {0};
+    const uint32_t number = kullneyra_resume(offsets, offsets_len, targets, targets_len, starts, starts_len, workers,
+                                           batch, cutoff, schedule, schedule_len, marks, marks_len, work, work_len,
+                                           tallies, tallies_len, saved, saved_len, words, KULLNEYRA_MARK_WORDS);
     memcpy(answer, words, sizeof *answer);
     return number;
 }

@@ -14,7 +14,17 @@ from typing import Iterator, Optional
 TOP = Path(__file__).resolve().parents[2]
 
 # The calls of the crates; the functions that C sees are those of the header.
-CALLS = ("catalogue::header", "catalogue::read", "graph::references_of", "marker::mark", "sweep::sweep", "report::answer")
+CALLS = (
+    "catalogue::header",
+    "catalogue::read",
+    "graph::references_of",
+    "marker::mark",
+    "sweep::sweep",
+    "resume::saved_length",
+    "resume::begin",
+    "resume::go_on",
+    "report::answer",
+)
 EXPORTS = Path("crates/kullneyra/src/lib.rt")
 HEADER = Path("runtime/include/kullneyra.h")
 PROMISES = Path("docs/PROMISES.md")

@@ -9,7 +9,10 @@ import contracts
 from contracts import CALLS, EXPORTS, HEADER, PROMISES, TOP
 
 ASKING = "\n    requires { ⌜ record { n = 1 } ≡ record { n = 1 } ⌝ }"
-FUNCTIONS = ("kullneyra_header", "kullneyra_mark", "kullneyra_read", "kullneyra_references", "kullneyra_sweep")
+FUNCTIONS = tuple(
+    f"kullneyra_{name}"
+    for name in ("header", "mark", "read", "references", "sweep", "saved_words", "begin", "resume")
+)
 
 
 class Contracts(unittest.TestCase):

@@ -56,6 +56,8 @@ int main(void) {
     uint8_t marks[KULLNEYRA_MARKS(2)];
     uint32_t work[KULLNEYRA_WORK(2, 1)];
     uint64_t tallies[KULLNEYRA_TALLIES(1)];
+    uint32_t saved[KULLNEYRA_SAVED(2, 1)];
+    uint64_t saved_words;
     struct kullneyra_head head;
     struct kullneyra_store store;
     struct kullneyra_part part;
@@ -138,6 +140,61 @@ int main(void) {
     expect("tally, won", 0, tally.won);
     expect("tally, lost", 0, tally.lost);
     expect("tally, handed", 0, tally.handed);
+
+    REFUSED("saved words, no worker", KULLNEYRA_SETTING, kullneyra_saved_words_into(2, 0, &saved_words), saved_words);
+    REFUSED("saved words, no object", KULLNEYRA_COUNT, kullneyra_saved_words_into(0, 1, &saved_words), saved_words);
+    ACCEPTED("saved words", kullneyra_saved_words_into(2, 1, &saved_words), saved_words);
+    expect("saved words, how many", KULLNEYRA_SAVED(2, 1), saved_words);
+    ACCEPTED("saved words at the limits",
+             kullneyra_saved_words_into(KULLNEYRA_MOST_OBJECTS, KULLNEYRA_MOST_WORKERS, &saved_words), saved_words);
+    expect("saved words at the limits, how many", KULLNEYRA_SAVED(KULLNEYRA_MOST_OBJECTS, KULLNEYRA_MOST_WORKERS),
+           saved_words);
+
+    /* Two turns, kept in the saved words alone, and a third one. */
+    REFUSED("begin, short saved words", KULLNEYRA_BUFFER,
+            kullneyra_begin_into(offsets, 3, targets, 1, &head.index, 1, 1, 1, 1, turns, 4, marks, 2, work,
+                                 KULLNEYRA_WORK(2, 1), tallies, KULLNEYRA_TALLIES(1), saved, KULLNEYRA_SAVED(2, 1) - 1,
+                                 &marked),
+            marked);
+    ACCEPTED("begin",
+             kullneyra_begin_into(offsets, 3, targets, 1, &head.index, 1, 1, 1, 1, turns, 4, marks, 2, work,
+                                  KULLNEYRA_WORK(2, 1), tallies, KULLNEYRA_TALLIES(1), saved, KULLNEYRA_SAVED(2, 1),
+                                  &marked),
+             marked);
+    expect("begin, unfinished", 0, marked.finished);
+    expect("begin, moved", 2, marked.moved);
+    memset(marks, 7, sizeof marks);
+    memset(work, 7, sizeof work);
+    memset(tallies, 7, sizeof tallies);
+    REFUSED("resume, half a turn", KULLNEYRA_SCHEDULE,
+            kullneyra_resume_into(offsets, 3, targets, 1, &head.index, 1, 1, 1, 1, turns, 1, marks, 2, work,
+                                  KULLNEYRA_WORK(2, 1), tallies, KULLNEYRA_TALLIES(1), saved, KULLNEYRA_SAVED(2, 1),
+                                  &marked),
+            marked);
+    REFUSED("resume, another start", KULLNEYRA_UNSOUND,
+            kullneyra_resume_into(offsets, 3, targets, 1, starts + 1, 1, 1, 1, 1, turns, 2, marks, 2, work,
+                                  KULLNEYRA_WORK(2, 1), tallies, KULLNEYRA_TALLIES(1), saved, KULLNEYRA_SAVED(2, 1),
+                                  &marked),
+            marked);
+    expect("resume, nothing is written beside a refusal", 7, marks[0]);
+    ACCEPTED("resume",
+             kullneyra_resume_into(offsets, 3, targets, 1, &head.index, 1, 1, 1, 1, turns, 2, marks, 2, work,
+                                   KULLNEYRA_WORK(2, 1), tallies, KULLNEYRA_TALLIES(1), saved, KULLNEYRA_SAVED(2, 1),
+                                   &marked),
+             marked);
+    expect("resume, finished", 1, marked.finished);
+    expect("resume, live", 1, marked.live);
+    expect("resume, followed", 1, marked.followed);
+    expect("resume, moved", 3, marked.moved);
+    expect("resume, the index's mark", 1, marks[0]);
+    expect("resume, nobody's mark", 0, marks[1]);
+    expect("resume, the tally", 1, kullneyra_tally_of(tallies, 0).followed);
+    memset(saved, 0, sizeof saved);
+    REFUSED("resume, all zeros", KULLNEYRA_UNSOUND,
+            kullneyra_resume_into(offsets, 3, targets, 1, &head.index, 1, 1, 1, 1, turns, 2, marks, 2, work,
+                                  KULLNEYRA_WORK(2, 1), tallies, KULLNEYRA_TALLIES(1), saved, KULLNEYRA_SAVED(2, 1),
+                                  &marked),
+            marked);
 
     REFUSED("sweep, long list", KULLNEYRA_BUFFER, kullneyra_sweep_into(marks, 2, sizes, 2, list, 3, &swept), swept);
     ACCEPTED("sweep", kullneyra_sweep_into(marks, 2, sizes, 2, list, 2, &swept), swept);

@@ -186,3 +186,75 @@ pub fn mark(graph: &Graph, settings: Settings, repetitions: usize) -> Marking {
     let medians = medians(&mut buffers, repetitions, [&proved, &tuned, &reference, &floor]);
     Marking { medians, turns: turns.len() / 2, followed: outcome.followed, handed: outcome.handed }
 }
+
+/// A collection that is stopped and taken up: its times, in nanoseconds.
+pub struct Stops {
+    /// A call without a turn: the marker's, which checks and starts, and the one that takes up what half of the turns left.
+    pub checked: f64,
+    pub taken: f64,
+    /// Taking up over the checks.
+    pub over_checked: f64,
+    /// All turns in one call of the marker, and in 100 calls that save.
+    pub whole: f64,
+    pub parts: f64,
+    /// 100 calls over one.
+    pub over_whole: f64,
+}
+
+/// How many calls a collection is cut into.
+pub const PARTS: usize = 100;
+
+/// The buffers with the saved words.
+type Saving = (Buffers, Vec<u32>);
+
+/// One call that saves: the collection begun, or taken up.
+fn run_part(graph: &Graph, settings: Settings, part: &[u8], fresh: bool, (b, saved): &mut Saving) -> kullneyra::Marked {
+    let Graph { offsets, targets, .. } = graph;
+    let Buffers { marks, work, tallies, .. } = b;
+    let call = if fresh { kullneyra::begin } else { kullneyra::resume };
+    let part = Schedule::from_bytes(part);
+    call(offsets, targets, &[0], settings, part, marks, work, tallies, saved).expect("a call")
+}
+
+/// Taking up beside a fresh call's checks, and 100 calls beside one.
+pub fn stops(graph: &Graph, settings: Settings, repetitions: usize) -> Stops {
+    let workers = settings.workers as usize;
+    let mut buffers = Buffers::new(graph, workers);
+    let turns = schedule(graph, settings, &mut buffers);
+    let wanted = run_proved(graph, settings, &turns, &mut buffers);
+    let mut saving = (buffers, vec![1; kullneyra::saved_words(graph.n(), workers)]);
+    let each = 2 * (turns.len() / 2).div_ceil(PARTS);
+    let in_parts = |saving: &mut Saving| {
+        let mut last = kullneyra::Marked::default();
+        for (k, part) in turns.chunks(each).enumerate() {
+            last = run_part(graph, settings, part, k == 0, saving);
+        }
+        last
+    };
+    assert_eq!(in_parts(&mut saving), wanted);
+
+    let parts = |saving: &mut Saving| {
+        black_box(in_parts(saving));
+    };
+    let whole = |saving: &mut Saving| {
+        black_box(run_proved(graph, settings, &turns, &mut saving.0));
+    };
+    let long = medians(&mut saving, repetitions, [&parts, &whole]);
+
+    run_part(graph, settings, &turns[..turns.len() / 4 * 2], true, &mut saving);
+    let taken = |saving: &mut Saving| {
+        black_box(run_part(graph, settings, &[], false, saving));
+    };
+    let checked = |saving: &mut Saving| {
+        black_box(run_proved(graph, settings, &[], &mut saving.0));
+    };
+    let short = medians(&mut saving, repetitions, [&taken, &checked]);
+    Stops {
+        checked: short.times[1],
+        taken: short.times[0],
+        over_checked: short.over[1],
+        whole: long.times[1],
+        parts: long.times[0],
+        over_whole: long.over[1],
+    }
+}

@@ -1,4 +1,4 @@
-//! Measures reader, marker and sweep: the proved library and the specification in plain Rust, interleaved on the
+//! Measures reader, marker, sweep and stopping: the proved library and the specification in plain Rust, interleaved on the
 //! same input; for the marker also a tuned machine in safe Rust, and a plain depth-first marking as the floor.
 //!
 //! ```text
@@ -50,6 +50,17 @@ fn growth_rows(repetitions: usize) -> Vec<GrowthRow> {
     GROWTH.map(row).into()
 }
 
+fn stop_rows(graphs: &[Graph], repetitions: usize) -> Vec<(&'static str, u32, calls::Stops)> {
+    let mut rows = Vec::new();
+    for graph in graphs {
+        for workers in [1, 4] {
+            let settings = Settings { workers, batch: 64, cutoff: 64 };
+            rows.push((graph.name, workers, calls::stops(graph, settings, repetitions)));
+        }
+    }
+    rows
+}
+
 fn call_rows(graphs: &[Graph], count: fn(&Graph) -> usize, times: impl Fn(&Graph) -> calls::Times) -> Vec<CallRow> {
     graphs.iter().map(|graph| CallRow { graph: graph.name, count: count(graph), times: times(graph) }).collect()
 }
@@ -65,6 +76,7 @@ fn main() -> io::Result<()> {
     let sweep = call_rows(&graphs, Graph::n, |graph| calls::sweep(graph, repetitions));
     eprintln!("bench: read and swept");
     let marks = mark_rows(&graphs, repetitions);
+    let stops = stop_rows(&graphs, repetitions);
     let growth = growth_rows(repetitions);
 
     let text = [
@@ -74,6 +86,7 @@ fn main() -> io::Result<()> {
         table::calls("Reader", "reference", &read),
         table::marks(&marks),
         table::calls("Sweep", "object", &sweep),
+        table::stops(&stops),
         table::growth(&growth),
         table::goals(&marks),
     ]

@@ -1,6 +1,6 @@
 //! The tables, as Markdown.
 
-use crate::calls::{Marking, Times, FLOOR, PROVED, REFERENCE, TUNED};
+use crate::calls::{Marking, Stops, Times, FLOOR, PROVED, REFERENCE, TUNED};
 use kullneyra::Settings;
 use std::fmt::Write;
 
@@ -76,6 +76,22 @@ pub fn marks(rows: &[MarkRow]) -> String {
             write!(text, " {:.2} |", row.over(side)).expect("text");
         }
         text.push('\n');
+    }
+    text + "\n"
+}
+
+const STOPS_HEAD: &str = "\
+| Store | W | a call's checks, µs | taking up, µs | taking up : checks | one call, µs | 100 calls, µs | 100 calls : one |
+|---|--:|--:|--:|--:|--:|--:|--:|
+";
+
+pub fn stops(rows: &[(&'static str, u32, Stops)]) -> String {
+    let mut text = format!("## Stopping and going on, D 64, K 64\n\n{STOPS_HEAD}");
+    for (graph, workers, stops) in rows {
+        let Stops { checked, taken, over_checked, whole, parts, over_whole } = stops;
+        let [checked, taken, whole, parts] = [checked, taken, whole, parts].map(|time| time / 1_000.0);
+        write!(text, "| {graph} | {workers} | {checked:.1} | {taken:.1} | {over_checked:.2} |").expect("text");
+        writeln!(text, " {whole:.1} | {parts:.1} | {over_whole:.2} |").expect("text");
     }
     text + "\n"
 }

@@ -5,11 +5,42 @@ use std::fmt;
 /// A call and what it is given.
 #[derive(Clone, Debug, PartialEq, Eq)]
 pub enum Call {
-    Header { bytes: Vec<u8> },
-    Read { bytes: Vec<u8>, offsets: usize, targets: usize, sizes: usize, starts: usize },
-    References { offsets: Vec<u32>, targets: Vec<u32>, object: u32 },
+    Header {
+        bytes: Vec<u8>,
+    },
+    Read {
+        bytes: Vec<u8>,
+        offsets: usize,
+        targets: usize,
+        sizes: usize,
+        starts: usize,
+    },
+    References {
+        offsets: Vec<u32>,
+        targets: Vec<u32>,
+        object: u32,
+    },
     Mark(Mark),
-    Sweep { marks: Vec<u8>, sizes: Vec<u64>, list: usize },
+    Sweep {
+        marks: Vec<u8>,
+        sizes: Vec<u64>,
+        list: usize,
+    },
+    SavedWords {
+        objects: u32,
+        workers: u32,
+    },
+    /// Also made in parts, cut before these turns.
+    Begin {
+        mark: Mark,
+        saved: usize,
+        cuts: Vec<usize>,
+    },
+    /// The saved words as they are beforehand.
+    Resume {
+        mark: Mark,
+        saved: Vec<u32>,
+    },
 }
 
 #[derive(Clone, Debug, PartialEq, Eq)]
@@ -31,6 +62,23 @@ impl Mark {
     pub fn call(&self) -> reference::Call<'_> {
         let Mark { ref offsets, ref targets, ref starts, workers, batch, cutoff, ref schedule, .. } = *self;
         reference::Call { offsets, targets, starts, workers, batch, cutoff, schedule }
+    }
+
+    /// How many words the collection takes when it is saved.
+    pub fn places(&self) -> reference::Places {
+        reference::Places::of(self.call())
+    }
+
+    /// The schedule in parts, cut before these turns.
+    pub fn parts(&self, cuts: &[usize]) -> Vec<Mark> {
+        let whole = self.schedule.len();
+        let ends = cuts.iter().map(|cut| whole.min(2 * cut)).chain([whole]);
+        let part = |at: &mut usize, end: usize| {
+            let schedule = self.schedule[*at..end].to_vec();
+            *at = end;
+            Some(Mark { schedule, ..self.clone() })
+        };
+        ends.scan(0, part).collect()
     }
 }
 
@@ -56,7 +104,9 @@ impl Case {
 }
 
 impl Call {
-    pub const NAMES: [&'static str; 5] = ["header", "read", "references", "mark", "sweep"];
+    pub const CALLS: usize = 8;
+    pub const NAMES: [&'static str; Self::CALLS] =
+        ["header", "read", "references", "mark", "sweep", "saved words", "begin", "resume"];
 
     pub fn place(&self) -> usize {
         match self {
@@ -65,22 +115,29 @@ impl Call {
             Call::References { .. } => 2,
             Call::Mark(_) => 3,
             Call::Sweep { .. } => 4,
+            Call::SavedWords { .. } => 5,
+            Call::Begin { .. } => 6,
+            Call::Resume { .. } => 7,
         }
     }
 
     /// The right length of the result buffer.
     pub fn result_words(&self) -> usize {
-        [3, 4, 2, reference::Outcome::WORDS, 2][self.place()]
+        const MARKED: usize = reference::Outcome::WORDS;
+        [3, 4, 2, MARKED, 2, 1, MARKED, MARKED][self.place()]
     }
 
     /// The answers that the specification has for this call.
     pub fn answers(place: usize) -> &'static [u32] {
-        const ANSWERS: [&[u32]; 5] = [
+        const ANSWERS: [&[u32]; Call::CALLS] = [
             &[0, 1, 2, 3, 4, 5, 7],
             &[0, 1, 2, 3, 4, 5, 6, 7, 13],
             &[0, 7],
             &[0, 4, 5, 7, 8, 9, 10, 13],
             &[0, 4, 6, 7],
+            &[0, 4, 7, 8],
+            &[0, 4, 5, 7, 8, 9, 10, 13],
+            &[0, 4, 5, 7, 8, 9, 10, 13, 14],
         ];
         ANSWERS[place]
     }
@@ -158,6 +215,16 @@ impl fmt::Display for Case {
                 list(f, "marks", marks)?;
                 list(f, "sizes", sizes)?;
                 writeln!(f, "  length: list {length}")?;
+            }
+            Call::SavedWords { objects, workers } => writeln!(f, "  {objects} objects, {workers} workers")?,
+            Call::Begin { mark, saved, cuts } => {
+                write!(f, "{mark}")?;
+                writeln!(f, "  length: saved {saved}")?;
+                list(f, "cut before the turns", cuts)?;
+            }
+            Call::Resume { mark, saved } => {
+                write!(f, "{mark}")?;
+                list(f, "saved", saved)?;
             }
         }
         writeln!(f, "  length: result {}", self.result)

@@ -4,17 +4,21 @@ use crate::case::{Call, Case, Mark};
 use crate::damage;
 use crate::judge::reached;
 use crate::rng::Rng;
+use crate::states;
 use crate::store::{self, Store};
 use reference::{Tally, LARGEST_SIZE, MOST_LEASES, STARTS};
 
 /// A small case.
 pub fn small(rng: &mut Rng) -> Case {
-    let call = match rng.below(20) {
+    let call = match rng.below(32) {
         0 | 1 => Call::Header { bytes: catalogue(rng).0 },
         2..=8 => read(rng),
         9 | 10 => references(rng),
         11..=17 => Call::Mark(mark(rng)),
-        _ => sweep(rng),
+        18 | 19 => sweep(rng),
+        20 => saved_words(rng),
+        21..=24 => begin(rng),
+        _ => resume(rng),
     };
     let result = damage::length_once_in(rng, 30, call.result_words());
     Case { result, fill: rng.word(), call }
@@ -103,6 +107,106 @@ fn sweep(rng: &mut Rng) -> Call {
 
 /// A marker's call, accepted more often than not.
 fn mark(rng: &mut Rng) -> Mark {
+    let call = accepted(rng);
+    damaged_once_in(rng, 3, call)
+}
+
+fn damaged_once_in(rng: &mut Rng, times: usize, mut call: Mark) -> Mark {
+    if rng.once_in(times) {
+        for _ in 0..rng.pick(&[1, 1, 1, 2, 3]) {
+            damage::mark(rng, &mut call);
+        }
+    }
+    call
+}
+
+fn saved_words(rng: &mut Rng) -> Call {
+    let (objects, workers) = (rng.between(1, 65_536) as u32, rng.between(1, 16) as u32);
+    let any = rng.word() as u32;
+    Call::SavedWords {
+        objects: rng.pick(&[objects, objects, 0, 1, 65_536, 65_537, u32::MAX, any]),
+        workers: rng.pick(&[workers, workers, workers, 0, 1, 16, 17, any]),
+    }
+}
+
+/// Where turns are parted: nowhere, anywhere, and the same place more than once.
+pub fn cuts(rng: &mut Rng, call: &Mark) -> Vec<usize> {
+    let turns = call.schedule.len() / 2;
+    let count = rng.pick(&[0, 1, 2, 3, 6, turns.min(12)]);
+    let mut cuts: Vec<usize> = (0..count).map(|_| rng.below(turns + 1)).collect();
+    if let (Some(&one), true) = (cuts.first(), rng.once_in(3)) {
+        cuts.push(one);
+    }
+    cuts.sort_unstable();
+    cuts
+}
+
+fn begin(rng: &mut Rng) -> Call {
+    let call = accepted(rng);
+    let right = call.places().all();
+    let cuts = cuts(rng, &call);
+    Call::Begin { saved: damage::length_once_in(rng, 12, right), mark: damaged_once_in(rng, 3, call), cuts }
+}
+
+/// A collection that is begun, and what is left of its turns. The saved words are as they were, written by hand or damaged,
+/// or they are another collection's.
+fn resume(rng: &mut Rng) -> Call {
+    let mut call = accepted(rng);
+    let turns = call.schedule.len() / 2;
+    let some = rng.below(turns + 1);
+    let done = rng.pick(&[0, turns, some, some, some]);
+    let mut saved = begun(&call.parts(&[done])[0]);
+    call.schedule.drain(..2 * done);
+    let (sort, changes) = (rng.below(10), rng.between(1, 30));
+    if matches!(sort, 1..=5) {
+        saved = states::written(rng, &call, saved, changes);
+    }
+    match sort {
+        0 | 1 | 2 => {}
+        3 => saved = states::changed(rng, &call, saved),
+        4 | 5 | 6 | 7 => {
+            for _ in 0..rng.pick(&[1, 1, 1, 2]) {
+                states::damage(rng, call.places(), &mut saved);
+            }
+        }
+        8 => another(rng, &mut call),
+        _ => {
+            call = damaged_once_in(rng, 1, call);
+            if rng.once_in(4) {
+                saved.fill(0);
+            }
+        }
+    }
+    let right = damage::length_once_in(rng, 40, saved.len());
+    saved.resize(right, 0);
+    Call::Resume { mark: call, saved }
+}
+
+/// The words of a collection, after the turns of this call.
+pub fn begun(call: &Mark) -> Vec<u32> {
+    let mut saved = vec![0; call.places().all()];
+    let (mut marks, mut work, mut tallies) = (vec![0; call.marks], vec![0; call.work], vec![0; call.tallies]);
+    reference::begin(call.call(), &mut marks, &mut work, &mut tallies, &mut saved).expect("an accepted call");
+    saved
+}
+
+/// Another setting, another start or another graph of the same size.
+fn another(rng: &mut Rng, call: &mut Mark) {
+    let (n, m) = (call.marks, call.targets.len());
+    match rng.below(4) {
+        0 => call.batch = setting(rng),
+        1 => call.cutoff = setting(rng),
+        2 => {
+            let index = rng.below(n) as u32;
+            call.starts = starts(rng, index, n);
+        }
+        _ if m > 0 => call.targets[rng.below(m)] = rng.below(n) as u32,
+        _ => {}
+    }
+}
+
+/// A marker's call without a fault.
+fn accepted(rng: &mut Rng) -> Mark {
     let store = small_store(rng);
     let (offsets, targets) = store.lists();
     let workers = rng.pick(&[1, 2, 3, 4, 8, 15, 16]);
@@ -119,11 +223,6 @@ fn mark(rng: &mut Rng) -> Mark {
         targets,
     };
     call.schedule = schedule(rng, &call);
-    if rng.once_in(3) {
-        for _ in 0..rng.pick(&[1, 1, 1, 2, 3]) {
-            damage::mark(rng, &mut call);
-        }
-    }
     call
 }
 

@@ -1,7 +1,7 @@
 //! What is asked of every case: both sides agree, and what the specification demands holds of the answer.
 
 use crate::case::{Call, Case, Mark};
-use crate::sides::{after, place, After, Proved, Reference, Side, Tuned, Typed, Untouched};
+use crate::sides::{after, after_parts, place, After, Proved, Reference, Side, Tuned, Typed, Untouched};
 use kullneyra::Marked;
 use reference::Tally;
 use std::collections::BTreeSet;
@@ -15,7 +15,26 @@ pub fn judge(case: &Case) -> Result<After, String> {
     }
     same(case, &Tuned, &wanted).map_err(|what| format!("tuned Rust against reference: {what}"))?;
     demands(case, &got)?;
+    if let (Call::Begin { mark, cuts, .. }, 0) = (&case.call, got.number) {
+        for (name, side) in [("library", &Proved as &dyn Side), ("reference", &Reference)] {
+            same_in_parts(case, side, &mark.parts(cuts), &got).map_err(|what| format!("{name} in parts: {what}"))?;
+            same_as_marked(case, side, mark, &got).map_err(|what| format!("{name}, begin against mark: {what}"))?;
+        }
+    }
     Ok(got)
+}
+
+/// Calls in a row leave what one call leaves.
+fn same_in_parts(case: &Case, side: &dyn Side, parts: &[Mark], whole: &After) -> Result<(), String> {
+    difference(&after_parts(case, side, parts), whole).map_or(Ok(()), Err)
+}
+
+/// What is begun is marked as `mark` does it, beside the saved words.
+fn same_as_marked(case: &Case, side: &dyn Side, mark: &Mark, begun: &After) -> Result<(), String> {
+    let marked = after(&Case { call: Call::Mark(mark.clone()), ..case.clone() }, side);
+    let mut unsaved = begun.clone();
+    unsaved.buffers.retain(|(name, _)| *name != "saved");
+    difference(&unsaved, &marked).map_or(Ok(()), Err)
 }
 
 /// What a side answers and leaves, if it is what is wanted.
@@ -47,8 +66,25 @@ pub fn demands(case: &Case, got: &After) -> Result<(), String> {
         return Err(format!("a buffer is changed beside refusal {}", got.number));
     }
     match &case.call {
-        Call::Mark(call) if got.number == 0 => run_demands(call, got),
+        Call::Mark(call) | Call::Begin { mark: call, .. } if got.number == 0 => run_demands(call, got),
+        Call::Resume { mark, .. } if got.number == 0 => resumed_demands(mark, got),
         _ => Ok(()),
+    }
+}
+
+/// What holds of a collection that was taken up, whoever wrote its words.
+fn resumed_demands(call: &Mark, got: &After) -> Result<(), String> {
+    let (marks, result) = (got.lent(0), got.marked());
+    let (found, _) = reached(&call.offsets, &call.targets, &call.starts);
+    let all_marked = marks.iter().zip(&found).all(|(&mark, &found)| mark != 0 || !found);
+    if result.finished && !all_marked {
+        return Err("finished, and an object that lives is not marked".into());
+    }
+    // The bounds of demand 3 may be left behind where the words were written by hand.
+    let saved: Vec<u32> = got.lent(3).into_iter().map(|word| word as u32).collect();
+    match reference::unsound(call.call(), &saved).into_iter().find(|number| ![20, 21].contains(number)) {
+        Some(number) => Err(format!("condition {number} does not hold of what is saved")),
+        None => Ok(()),
     }
 }
 
@@ -135,7 +171,8 @@ fn tallies_add_up(call: &Mark, marked: Marked, all: &[Tally]) -> bool {
 
 /// What demands 2 and 3 say of every accepted run.
 fn run_demands(call: &Mark, got: &After) -> Result<(), String> {
-    let (marks, work, tallies, result) = (got.lent(0), got.lent(1), reference::tallies(&got.lent(2)), got.lent(3));
+    let (marks, work, tallies) = (got.lent(0), got.lent(1), reference::tallies(&got.lent(2)));
+    let result = got.lent(got.buffers.len() - 1);
     let (found, leaving) = reached(&call.offsets, &call.targets, &call.starts);
     let Marked { finished, live, followed, handed, moved, carrying, .. } = got.marked();
     let most = leaving as u64;

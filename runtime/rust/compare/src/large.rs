@@ -7,7 +7,7 @@ use crate::store;
 use reference::{Tally, LARGEST_SIZE, MOST_LEASES, MOST_OBJECTS, MOST_REFERENCES, STARTS};
 
 /// How many there are: the first numbers of every run.
-pub const LARGE: u64 = 24;
+pub const LARGE: u64 = 29;
 
 /// The large case of this number.
 pub fn large(rng: &mut Rng, number: u64) -> Case {
@@ -15,7 +15,9 @@ pub fn large(rng: &mut Rng, number: u64) -> Case {
         0..=6 => large_read(rng, number),
         7 => large_sweep(rng, MOST_OBJECTS),
         8 => large_sweep(rng, MOST_OBJECTS + 1),
-        _ => Call::Mark(large_mark(rng, number - 9)),
+        9..=23 => Call::Mark(large_mark(rng, number - 9)),
+        24 | 25 => large_begin(rng, number - 24),
+        _ => large_resume(rng, number - 26),
     };
     Case { result: call.result_words(), fill: rng.word(), call }
 }
@@ -50,6 +52,28 @@ fn large_read(rng: &mut Rng, number: u64) -> Call {
 fn large_sweep(rng: &mut Rng, n: usize) -> Call {
     let marks = (0..n).map(|_| rng.pick(&[0, 0, 1])).collect();
     Call::Sweep { marks, sizes: vec![LARGEST_SIZE; n], list: n }
+}
+
+/// A large collection in parts, of which one has no turns.
+fn large_begin(rng: &mut Rng, number: u64) -> Call {
+    let mark = large_mark(rng, number);
+    let turns = mark.schedule.len() / 2;
+    Call::Begin { saved: mark.places().all(), cuts: vec![turns / 5, turns / 2, turns / 2], mark }
+}
+
+/// One that is taken up in its middle: as it was saved, with a word behind the last run, or with a run carried twice.
+fn large_resume(rng: &mut Rng, number: u64) -> Call {
+    let mut mark = large_mark(rng, 2);
+    let mut parts = mark.parts(&[mark.schedule.len() / 8]);
+    let mut saved = draw::begun(&parts[0]);
+    let places = mark.places();
+    match number {
+        1 => saved[places.all() - 1] = 1,
+        2 => saved.copy_within(places.stretch(1)..places.stretch(1) + 2, places.stretch(0)),
+        _ => {}
+    }
+    mark = parts.pop().expect("two parts");
+    Call::Resume { mark, saved }
 }
 
 /// Shape, n, m, W, D, K and turns of each large marker's call.

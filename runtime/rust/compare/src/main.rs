@@ -15,6 +15,7 @@ mod large;
 mod program;
 mod rng;
 mod sides;
+mod states;
 mod store;
 mod tally;
 #[cfg(test)]

@@ -4,7 +4,7 @@ use crate::case::{Call, Case, Mark};
 use kullneyra::{raw, Marked, Refusal, Schedule, Settings};
 use reference::Outcome;
 
-/// The five calls with slices and result words, as the C header has them.
+/// The calls with slices and result words, as the C header has them.
 pub trait Side {
     fn header(&self, bytes: &[u8], result: &mut [u32]) -> u32;
     fn read(
@@ -19,6 +19,18 @@ pub trait Side {
     fn references(&self, offsets: &[u32], targets: &[u32], object: u32, result: &mut [u64]) -> u32;
     fn mark(&self, call: &Mark, marks: &mut [u8], work: &mut [u32], tallies: &mut [u64], result: &mut [u64]) -> u32;
     fn sweep(&self, marks: &[u8], sizes: &[u64], list: &mut [u32], result: &mut [u64]) -> u32;
+    fn saved_words(&self, objects: u32, workers: u32, result: &mut [u64]) -> u32;
+    fn begin(&self, call: &Mark, lent: &mut Buffers<'_>) -> u32;
+    fn resume(&self, call: &Mark, lent: &mut Buffers<'_>) -> u32;
+}
+
+/// What is lent to the calls that save.
+pub struct Buffers<'a> {
+    pub marks: &'a mut [u8],
+    pub work: &'a mut [u32],
+    pub tallies: &'a mut [u64],
+    pub saved: &'a mut [u32],
+    pub result: &'a mut [u64],
 }
 
 /// The proved library by its C functions.
@@ -52,6 +64,22 @@ impl Side for Proved {
 
     fn sweep(&self, marks: &[u8], sizes: &[u64], list: &mut [u32], result: &mut [u64]) -> u32 {
         raw::sweep(marks, sizes, list, result)
+    }
+
+    fn saved_words(&self, objects: u32, workers: u32, result: &mut [u64]) -> u32 {
+        raw::saved_words(objects, workers, result)
+    }
+
+    fn begin(&self, call: &Mark, lent: &mut Buffers<'_>) -> u32 {
+        let Mark { offsets, targets, starts, workers, batch, cutoff, schedule, .. } = call;
+        let Buffers { marks, work, tallies, saved, result } = lent;
+        raw::begin(offsets, targets, starts, *workers, *batch, *cutoff, schedule, marks, work, tallies, saved, result)
+    }
+
+    fn resume(&self, call: &Mark, lent: &mut Buffers<'_>) -> u32 {
+        let Mark { offsets, targets, starts, workers, batch, cutoff, schedule, .. } = call;
+        let Buffers { marks, work, tallies, saved, result } = lent;
+        raw::resume(offsets, targets, starts, *workers, *batch, *cutoff, schedule, marks, work, tallies, saved, result)
     }
 }
 
@@ -108,6 +136,26 @@ impl Side for Typed {
     fn sweep(&self, marks: &[u8], sizes: &[u64], list: &mut [u32], result: &mut [u64]) -> u32 {
         written(kullneyra::sweep(marks, sizes, list).map(|s| [s.count, s.freed]), result, Refusal::number)
     }
+
+    fn saved_words(&self, objects: u32, workers: u32, result: &mut [u64]) -> u32 {
+        written(kullneyra::saved_length(objects, workers).map(|words| [words]), result, Refusal::number)
+    }
+
+    fn begin(&self, c: &Mark, lent: &mut Buffers<'_>) -> u32 {
+        let settings = Settings { workers: c.workers, batch: c.batch, cutoff: c.cutoff };
+        let (schedule, starts) = (Schedule::from_bytes(&c.schedule), &c.starts);
+        let Buffers { marks, work, tallies, saved, result } = lent;
+        let answer = kullneyra::begin(&c.offsets, &c.targets, starts, settings, schedule, marks, work, tallies, saved);
+        written(answer.map(Marked::words), result, Refusal::number)
+    }
+
+    fn resume(&self, c: &Mark, lent: &mut Buffers<'_>) -> u32 {
+        let settings = Settings { workers: c.workers, batch: c.batch, cutoff: c.cutoff };
+        let (schedule, starts) = (Schedule::from_bytes(&c.schedule), &c.starts);
+        let Buffers { marks, work, tallies, saved, result } = lent;
+        let answer = kullneyra::resume(&c.offsets, &c.targets, starts, settings, schedule, marks, work, tallies, saved);
+        written(answer.map(Marked::words), result, Refusal::number)
+    }
 }
 
 /// The specification in plain Rust; the result buffer's length is looked at first, as the C header says.
@@ -156,6 +204,21 @@ impl Side for Reference {
         let answer = reference::sweep(marks, sizes, list);
         written(answer.map(|s| [u64::from(s.count), s.freed]), result, u32::from)
     }
+
+    fn saved_words(&self, objects: u32, workers: u32, result: &mut [u64]) -> u32 {
+        if result.len() != 1 {
+            return WRONG_LENGTH;
+        }
+        written(reference::saved_words(objects, workers).map(|words| [words]), result, u32::from)
+    }
+
+    fn begin(&self, call: &Mark, lent: &mut Buffers<'_>) -> u32 {
+        saved_by(reference::begin, call, lent)
+    }
+
+    fn resume(&self, call: &Mark, lent: &mut Buffers<'_>) -> u32 {
+        saved_by(reference::resume, call, lent)
+    }
 }
 
 /// What the proved calls are measured against; where there is no tuned call, the plain one.
@@ -189,11 +252,32 @@ impl Side for Tuned {
     fn sweep(&self, marks: &[u8], sizes: &[u64], list: &mut [u32], result: &mut [u64]) -> u32 {
         Reference.sweep(marks, sizes, list, result)
     }
+
+    fn saved_words(&self, objects: u32, workers: u32, result: &mut [u64]) -> u32 {
+        Reference.saved_words(objects, workers, result)
+    }
+
+    fn begin(&self, call: &Mark, lent: &mut Buffers<'_>) -> u32 {
+        Reference.begin(call, lent)
+    }
+
+    fn resume(&self, call: &Mark, lent: &mut Buffers<'_>) -> u32 {
+        Reference.resume(call, lent)
+    }
 }
 
 /// The reader and the marker in plain Rust.
 type Reader = fn(&[u8], &mut [u32], &mut [u32], &mut [u64], &mut [u32]) -> Result<reference::Contents, u8>;
 type Marker = fn(reference::Call<'_>, &mut [u8], &mut [u32], &mut [u64]) -> Result<Outcome, u8>;
+type Saver = fn(reference::Call<'_>, &mut [u8], &mut [u32], &mut [u64], &mut [u32]) -> Result<Outcome, u8>;
+
+fn saved_by(saver: Saver, call: &Mark, lent: &mut Buffers<'_>) -> u32 {
+    let Buffers { marks, work, tallies, saved, result } = lent;
+    if result.len() != Outcome::WORDS {
+        return WRONG_LENGTH;
+    }
+    written(saver(call.call(), marks, work, tallies, saved).map(Outcome::words), result, u32::from)
+}
 
 fn read_by(
     reader: Reader,
@@ -248,6 +332,18 @@ impl Side for Untouched {
     fn sweep(&self, _: &[u8], _: &[u64], _: &mut [u32], _: &mut [u64]) -> u32 {
         0
     }
+
+    fn saved_words(&self, _: u32, _: u32, _: &mut [u64]) -> u32 {
+        0
+    }
+
+    fn begin(&self, _: &Mark, _: &mut Buffers<'_>) -> u32 {
+        0
+    }
+
+    fn resume(&self, _: &Mark, _: &mut Buffers<'_>) -> u32 {
+        0
+    }
 }
 
 /// Elements on either side of a lent buffer that no call may touch.
@@ -269,6 +365,13 @@ where
         };
         let all = (0..length + 2 * GUARD).map(|i| T::try_from(element(i) & mask).ok().expect("masked"));
         Lent(all.collect())
+    }
+
+    /// One that holds these elements.
+    fn holding(all: &[T], fill: u64, mask: u64) -> Self {
+        let mut lent = Lent::new(all.len(), fill, mask);
+        lent.part().copy_from_slice(all);
+        lent
     }
 
     fn part(&mut self) -> &mut [T] {
@@ -371,6 +474,19 @@ pub fn after(case: &Case, side: &dyn Side) -> After {
             After { number, buffers: vec![("result", Whole::Longs(result.0))] }
         }
         Call::Mark(mark) => after_marking(case, side, mark),
+        Call::SavedWords { objects, workers } => {
+            let mut result = longs(case.result, case.fill(0));
+            let number = side.saved_words(*objects, *workers, result.part());
+            After { number, buffers: vec![("result", Whole::Longs(result.0))] }
+        }
+        Call::Begin { mark, saved, .. } => {
+            let mut saved = words(*saved, case.fill(4));
+            after_saving(case, mark, &mut saved, |lent| side.begin(mark, lent))
+        }
+        Call::Resume { mark, saved } => {
+            let mut saved = Lent::holding(saved, case.fill(4), 0xffff_ffff);
+            after_saving(case, mark, &mut saved, |lent| side.resume(mark, lent))
+        }
         Call::Sweep { marks, sizes, list } => {
             let (mut list, mut result) = (words(*list, case.fill(1)), longs(case.result, case.fill(0)));
             let number = side.sweep(marks, sizes, list.part(), result.part());
@@ -406,4 +522,38 @@ fn after_marking(case: &Case, side: &dyn Side, mark: &Mark) -> After {
         ("result", Whole::Longs(result.0)),
     ];
     After { number, buffers }
+}
+
+fn after_saving(case: &Case, mark: &Mark, saved: &mut Lent<u32>, call: impl FnOnce(&mut Buffers<'_>) -> u32) -> After {
+    let (mut marks, mut work) = (bytes(mark.marks, case.fill(1)), words(mark.work, case.fill(2)));
+    let (mut tallies, mut result) = (longs(mark.tallies, case.fill(3)), longs(case.result, case.fill(0)));
+    let number = call(&mut Buffers {
+        marks: marks.part(),
+        work: work.part(),
+        tallies: tallies.part(),
+        saved: saved.part(),
+        result: result.part(),
+    });
+    let buffers = vec![
+        ("marks", Whole::Bytes(marks.0)),
+        ("work", Whole::Words(work.0)),
+        ("tallies", Whole::Longs(tallies.0)),
+        ("saved", Whole::Words(saved.0.clone())),
+        ("result", Whole::Longs(result.0)),
+    ];
+    After { number, buffers }
+}
+
+/// The same collection begun with the first of these parts and taken up with the others. Only the saved words go from
+/// one call to the next.
+pub fn after_parts(case: &Case, side: &dyn Side, parts: &[Mark]) -> After {
+    let mut saved = words(parts[0].places().all(), case.fill(4));
+    let mut after = after_saving(case, &parts[0], &mut saved, |lent| side.begin(&parts[0], lent));
+    for part in &parts[1..] {
+        if after.number != 0 {
+            return after;
+        }
+        after = after_saving(case, part, &mut saved, |lent| side.resume(part, lent));
+    }
+    after
 }

@@ -7,10 +7,14 @@ use std::fmt;
 #[derive(Default)]
 pub struct Tally {
     /// By call, then by answer.
-    answers: [[u64; 14]; 5],
+    answers: [[u64; 15]; Call::CALLS],
     finished: u64,
     handed: u64,
     refused: u64,
+    /// Parts of collections that were made in parts, too.
+    parts: u64,
+    /// How often each condition of SPECIFICATION 8.2 failed; at 0, words that hold no state.
+    unsound: [u64; 26],
 }
 
 impl Tally {
@@ -22,6 +26,15 @@ impl Tally {
             self.finished += u64::from(marked.finished);
             self.handed += u64::from(marked.handed > 0);
             self.refused += u64::from(marked.refused > 0);
+        }
+        match &case.call {
+            Call::Begin { cuts, .. } if after.number == 0 => self.parts += cuts.len() as u64 + 1,
+            Call::Resume { mark, saved } if after.number == 14 => {
+                reference::unsound(mark.call(), saved)
+                    .into_iter()
+                    .for_each(|number| self.unsound[number as usize] += 1);
+            }
+            _ => {}
         }
     }
 
@@ -36,7 +49,13 @@ impl Tally {
                 return Err(format!("no case of {name} was answered {answer}"));
             }
         }
-        Ok(())
+        if cases < 100_000 {
+            return Ok(());
+        }
+        match (0..self.unsound.len()).find(|number| ![5, 18].contains(number) && self.unsound[*number] == 0) {
+            Some(number) => Err(format!("no saved words failed condition {number}")),
+            None => Ok(()),
+        }
     }
 }
 
@@ -50,6 +69,12 @@ impl fmt::Display for Tally {
             writeln!(f)?;
         }
         let Tally { finished, handed, refused, .. } = self;
-        writeln!(f, "  of the marker's: {finished} finished, {handed} with hand-overs, {refused} with refused asks")
+        writeln!(f, "  of the marker's: {finished} finished, {handed} with hand-overs, {refused} with refused asks")?;
+        writeln!(f, "  collections begun were also made in {} parts", self.parts)?;
+        write!(f, "  saved words by the condition that they fail:")?;
+        for (number, count) in self.unsound.iter().enumerate().filter(|(_, &count)| count > 0) {
+            write!(f, " {number}: {count}")?;
+        }
+        writeln!(f)
     }
 }

@@ -3,7 +3,7 @@
 use crate::case::{Call, Mark};
 use crate::judge::{demands, same};
 use crate::large::LARGE;
-use crate::sides::{after, Reference, Side};
+use crate::sides::{after, Buffers, Reference, Side};
 use crate::{case_of, SEED};
 
 /// The reference with one fault.
@@ -28,6 +28,19 @@ enum Fault {
     LongResultTaken,
     /// Sizes are checked before lengths.
     ChecksExchanged,
+    /// A word too few is told.
+    SavedWordsShort,
+    /// The since of a worker that is not busy is not saved.
+    SinceForgotten,
+    /// The saved words are touched before they are found unsound.
+    SavedClearedBesideRefusal,
+    /// The count of refusals begins anew when a collection is taken up.
+    RefusedRestarted,
+    /// 14 before 9.
+    UnsoundBeforeSchedule,
+    /// Whatever was saved is taken up without moved's bound, or without that of the sinces.
+    MovedNotLooked,
+    SinceNotLooked,
 }
 
 impl Side for Fault {
@@ -95,6 +108,48 @@ impl Side for Fault {
             _ => number,
         }
     }
+
+    fn saved_words(&self, objects: u32, workers: u32, result: &mut [u64]) -> u32 {
+        let number = Reference.saved_words(objects, workers, result);
+        if *self == Fault::SavedWordsShort && number == 0 {
+            result[0] -= 1;
+        }
+        number
+    }
+
+    fn begin(&self, call: &Mark, lent: &mut Buffers<'_>) -> u32 {
+        let number = Reference.begin(call, lent);
+        if *self == Fault::SinceForgotten && number == 0 {
+            let places = call.places();
+            for worker in (0..places.workers).map(|b| places.worker(b)) {
+                if lent.saved[worker] < 5 {
+                    lent.saved[worker + 2] = 0;
+                }
+            }
+        }
+        number
+    }
+
+    fn resume(&self, call: &Mark, lent: &mut Buffers<'_>) -> u32 {
+        let refused = lent.saved.get(7).copied().unwrap_or(0);
+        let before = lent.saved.to_vec();
+        let number = Reference.resume(call, lent);
+        match self {
+            Fault::RefusedRestarted if number == 0 => {
+                lent.saved[7] -= refused;
+                lent.result[4] -= u64::from(refused);
+                number
+            }
+            Fault::SavedClearedBesideRefusal if number == 14 => {
+                lent.saved.fill(0);
+                number
+            }
+            Fault::UnsoundBeforeSchedule if number == 9 && !reference::unsound(call.call(), &before).is_empty() => 14,
+            Fault::MovedNotLooked if number == 14 && reference::unsound(call.call(), &before) == [20] => 0,
+            Fault::SinceNotLooked if number == 14 && reference::unsound(call.call(), &before) == [22] => 0,
+            _ => number,
+        }
+    }
 }
 
 /// The first small case in which the faulty side differs.
@@ -117,6 +172,13 @@ fn faults_are_found() {
     assert!(found(Fault::PastTheEnd).is_some());
     assert!(found(Fault::LongResultTaken).is_some());
     assert!(found(Fault::ChecksExchanged).is_some());
+    assert!(found(Fault::SavedWordsShort).is_some());
+    assert!(found(Fault::SinceForgotten).is_some());
+    assert!(found(Fault::SavedClearedBesideRefusal).is_some());
+    assert!(found(Fault::RefusedRestarted).is_some());
+    assert!(found(Fault::UnsoundBeforeSchedule).is_some());
+    assert!(found(Fault::MovedNotLooked).is_some());
+    assert!(found(Fault::SinceNotLooked).is_some());
 }
 
 #[test]

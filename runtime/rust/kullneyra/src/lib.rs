@@ -54,6 +54,43 @@
 //! assert_eq!((dead.count, dead.freed, list), (1, 200, [1, 0]));
 //! # Ok::<(), kullneyra::Refusal>(())
 //! ```
+//!
+//! # Stop and go on
+//!
+//! [`begin`] marks as [`mark`] does and saves the collection; [`resume`] takes it up, in the same process or, from
+//! words that were kept in a file, in another. However the turns are parted, the collection ends as one call ends it.
+//!
+//! ```
+//! use kullneyra::{begin, mark, resume, saved_words, tally_words, work_words};
+//! use kullneyra::{Refusal, Schedule, Settings, Turn};
+//!
+//! // Three objects, 0→1 and 1→2, one worker.
+//! let (offsets, targets, starts) = ([0, 1, 2, 2], [1, 2], [0]);
+//! let settings = Settings { workers: 1, batch: 1, cutoff: 1 };
+//! let turns = [Turn { worker: 0, asked: 0 }; 8];
+//! let (mut marks, mut work, mut words) = ([0; 3], [0; work_words(3, 1)], [0; tally_words(1)]);
+//! let whole = mark(&offsets, &targets, &starts, settings, Schedule::new(&turns), &mut marks, &mut work, &mut words)?;
+//!
+//! let mut saved = [0; saved_words(3, 1)];
+//! let (first, later) = turns.split_at(5);
+//! let first = Schedule::new(first);
+//! let stopped =
+//!     begin(&offsets, &targets, &starts, settings, first, &mut marks, &mut work, &mut words, &mut saved)?;
+//! assert!(!stopped.finished);
+//!
+//! // An hour later. Only the saved words were kept.
+//! (marks, work, words) = ([7; 3], [7; work_words(3, 1)], [7; tally_words(1)]);
+//! let later = Schedule::new(later);
+//! let done =
+//!     resume(&offsets, &targets, &starts, settings, later, &mut marks, &mut work, &mut words, &mut saved)?;
+//! assert_eq!((done, marks), (whole, [1, 1, 1]));
+//!
+//! // Words of another collection are refused, and left as they are.
+//! let none = Schedule::new(&[]);
+//! let other = resume(&offsets, &targets, &[0, 1], settings, none, &mut marks, &mut work, &mut words, &mut saved);
+//! assert_eq!(other, Err(Refusal::Saved));
+//! # Ok::<(), kullneyra::Refusal>(())
+//! ```
 #![no_std]
 #![deny(missing_docs)]
 
@@ -100,12 +137,14 @@ pub enum Refusal {
     Graph,
     /// 13: no start, or more than [`MOST_LEASES`] leases.
     Starts,
+    /// 14: saved words that hold no sound collection of this graph, these starts and these settings.
+    Saved,
     /// A number that this crate has no name for: the library is newer than the crate.
     Other(u32),
 }
 
 /// The refusals that have a name.
-const NAMED: [Refusal; 11] = [
+const NAMED: [Refusal; 12] = [
     Refusal::Short,
     Refusal::Kind,
     Refusal::Place,
@@ -117,6 +156,7 @@ const NAMED: [Refusal; 11] = [
     Refusal::Schedule,
     Refusal::Graph,
     Refusal::Starts,
+    Refusal::Saved,
 ];
 
 impl Refusal {
@@ -138,6 +178,7 @@ impl Refusal {
             Refusal::Schedule => (9, "half an entry at the schedule's end, or one for a worker that is not there"),
             Refusal::Graph => (10, "offsets and targets that are no graph"),
             Refusal::Starts => (13, "no start, or too many leases"),
+            Refusal::Saved => (14, "saved words that hold no sound collection"),
             Refusal::Other(number) => (number, "a number newer than this crate"),
         }
     }
@@ -370,6 +411,11 @@ pub const fn tally_words(workers: usize) -> usize {
     workers * Tally::WORDS
 }
 
+/// How many words a collection of n objects by so many workers is saved in.
+pub const fn saved_words(objects: usize, workers: usize) -> usize {
+    13 + 12 * workers + objects + work_words(objects, workers)
+}
+
 /// Reads only the catalogue's header record.
 pub fn header(catalogue: &[u8]) -> Result<Header, Refusal> {
     let mut result = [0; 3];
@@ -428,6 +474,71 @@ pub fn mark(
     Ok(Marked::from_words(result))
 }
 
+/// How many words a saved collection of n objects with so many workers takes, by the library; [`saved_words`] is the same
+/// number for an array's length.
+///
+/// ```
+/// use kullneyra::{saved_length, saved_words, Refusal};
+///
+/// assert_eq!(saved_length(6, 2), Ok(saved_words(6, 2) as u64));
+/// assert_eq!(saved_length(6, 17), Err(Refusal::Setting));
+/// ```
+pub fn saved_length(objects: u32, workers: u32) -> Result<u64, Refusal> {
+    let mut result = [0];
+    answer(raw::saved_words(objects, workers, &mut result))?;
+    Ok(result[0])
+}
+
+/// As [`mark`], and saves the collection in [`saved_words`] words, which may hold anything before. Whoever wants to go on
+/// later keeps these words and nothing else of the run: marks and tallies are in them.
+#[allow(clippy::too_many_arguments)]
+pub fn begin(
+    offsets: &[u32],
+    targets: &[u32],
+    starts: &[u32],
+    settings: Settings,
+    schedule: Schedule<'_>,
+    marks: &mut [u8],
+    work: &mut [u32],
+    tallies: &mut [u64],
+    saved: &mut [u32],
+) -> Result<Marked, Refusal> {
+    let Settings { workers, batch, cutoff } = settings;
+    let mut result = [0; Marked::WORDS];
+    let turns = schedule.0;
+    let number =
+        raw::begin(offsets, targets, starts, workers, batch, cutoff, turns, marks, work, tallies, saved, &mut result);
+    answer(number)?;
+    Ok(Marked::from_words(result))
+}
+
+/// Takes a saved collection up with more turns, and saves it again. The graph, the starts and the settings are those that
+/// it was begun with; marks, work and tallies may hold anything before.
+///
+/// A collection begun afresh ends as one call with all the turns ends it, counts and tallies included. Words that hold no
+/// sound collection are [`Refusal::Saved`]. Whoever wrote them, a collection that is finished has marked every object that
+/// lives.
+#[allow(clippy::too_many_arguments)]
+pub fn resume(
+    offsets: &[u32],
+    targets: &[u32],
+    starts: &[u32],
+    settings: Settings,
+    schedule: Schedule<'_>,
+    marks: &mut [u8],
+    work: &mut [u32],
+    tallies: &mut [u64],
+    saved: &mut [u32],
+) -> Result<Marked, Refusal> {
+    let Settings { workers, batch, cutoff } = settings;
+    let mut result = [0; Marked::WORDS];
+    let turns = schedule.0;
+    let number =
+        raw::resume(offsets, targets, starts, workers, batch, cutoff, turns, marks, work, tallies, saved, &mut result);
+    answer(number)?;
+    Ok(Marked::from_words(result))
+}
+
 /// Lists the objects whose mark is 0, upwards, then zeros, in a list of n words.
 pub fn sweep(marks: &[u8], sizes: &[u64], list: &mut [u32]) -> Result<Swept, Refusal> {
     let mut result = [0; 2];
@@ -444,7 +555,7 @@ mod tests {
 
     #[test]
     fn numbers_are_places_in_the_table() {
-        for number in (1..=10).chain([13]) {
+        for number in (1..=10).chain([13, 14]) {
             let refusal = Refusal::of(number);
             assert!(!matches!(refusal, Refusal::Other(_)));
             assert_eq!(refusal.number(), number);
@@ -475,6 +586,12 @@ mod tests {
         let none = Schedule::new(&[]);
         let marked = mark(&[0, 0], &[], &[0], settings, none, &mut [0], &mut [], &mut []).unwrap_or_default();
         assert_eq!(marked.words(), [0; Marked::WORDS]);
+        let marked = begin(&[0, 0], &[], &[0], settings, none, &mut [0], &mut [], &mut [], &mut []).unwrap_or_default();
+        assert_eq!(marked.words(), [0; Marked::WORDS]);
+        let marked =
+            resume(&[0, 0], &[], &[0], settings, none, &mut [0], &mut [], &mut [], &mut []).unwrap_or_default();
+        assert_eq!(marked.words(), [0; Marked::WORDS]);
+        assert_eq!(saved_length(0, 0).unwrap_or_default(), 0);
         assert_eq!(Tally::default().words(), [0; Tally::WORDS]);
         assert_eq!(sweep(&[], &[], &mut []).unwrap_or_default(), Swept { count: 0, freed: 0 });
     }
@@ -508,6 +625,40 @@ mod tests {
         assert_eq!(alone(STARTS, 1, 1).map(|marked| marked.live), Ok(1));
         assert_eq!(alone(STARTS + 1, 1, 1), Err(Refusal::Starts));
         assert_eq!(alone(0, 1, 1), Err(Refusal::Starts));
+    }
+
+    #[test]
+    fn saved_lengths_are_the_library_s() {
+        for (objects, workers) in [(1, 1), (1, 16), (6, 2), (MOST_OBJECTS, 1), (MOST_OBJECTS, 16)] {
+            assert_eq!(saved_length(objects as u32, workers as u32), Ok(saved_words(objects, workers) as u64));
+        }
+        assert_eq!(saved_length(1, 0), Err(Refusal::Setting));
+        assert_eq!(saved_length(0, MOST_WORKERS + 1), Err(Refusal::Setting));
+        assert_eq!(saved_length(0, 1), Err(Refusal::Count));
+        assert_eq!(saved_length(MOST_OBJECTS as u32 + 1, 1), Err(Refusal::Count));
+    }
+
+    /// An object without references: begun without a turn, taken up with one; one word more or less, and all zeros.
+    #[test]
+    fn saved_words_are_exact() {
+        const WORDS: usize = saved_words(1, 1);
+        let settings = Settings { workers: 1, batch: 1, cutoff: 1 };
+        let (mut marks, mut work, mut words, mut saved) = ([7], [7; 6], [7; 4], [7; WORDS + 1]);
+        let (none, one) = (Schedule::from_bytes(&[]), Schedule::from_bytes(&[0, 0]));
+        for length in [0, WORDS - 1, WORDS + 1] {
+            let saved = &mut saved[..length];
+            let begun = begin(&[0, 0], &[], &[0], settings, none, &mut marks, &mut work, &mut words, saved);
+            let taken = resume(&[0, 0], &[], &[0], settings, none, &mut marks, &mut work, &mut words, saved);
+            assert_eq!((begun, taken), (Err(Refusal::Buffer), Err(Refusal::Buffer)));
+        }
+        let saved = &mut saved[..WORDS];
+        let mut zeros = [0; WORDS];
+        let empty = resume(&[0, 0], &[], &[0], settings, none, &mut marks, &mut work, &mut words, &mut zeros);
+        assert_eq!((empty, marks, work, words, zeros), (Err(Refusal::Saved), [7], [7; 6], [7; 4], [0; WORDS]));
+        let begun = begin(&[0, 0], &[], &[0], settings, none, &mut marks, &mut work, &mut words, saved);
+        assert_eq!(begun.map(|marked| (marked.finished, marked.live)), Ok((false, 1)));
+        let taken = resume(&[0, 0], &[], &[0], settings, one, &mut marks, &mut work, &mut words, saved);
+        assert_eq!(taken.map(|marked| (marked.finished, marked.moved)), Ok((true, 1)));
     }
 
     #[test]

@@ -1,4 +1,4 @@
-//! The five proved functions that the C header declares: the answer is 0 or a refusal's number, and result
+//! The proved functions that the C header declares: the answer is 0 or a refusal's number, and result
 //! words go to a lent buffer. Its length is looked at before all else (another one is 7), and beside a
 //! refusal the words are left as they are. Most callers want the functions of the crate itself.
 
@@ -47,6 +47,53 @@ mod c {
             work_len: usize,
             tallies: *mut u64,
             tallies_len: usize,
+            result: *mut u64,
+            result_len: usize,
+        ) -> u32;
+        pub fn kullneyra_saved_words(objects: u32, workers: u32, result: *mut u64, result_len: usize) -> u32;
+        pub fn kullneyra_begin(
+            offsets: *const u32,
+            offsets_len: usize,
+            targets: *const u32,
+            targets_len: usize,
+            starts: *const u32,
+            starts_len: usize,
+            workers: u32,
+            batch: u32,
+            cutoff: u32,
+            schedule: *const u8,
+            schedule_len: usize,
+            marks: *mut u8,
+            marks_len: usize,
+            work: *mut u32,
+            work_len: usize,
+            tallies: *mut u64,
+            tallies_len: usize,
+            saved: *mut u32,
+            saved_len: usize,
+            result: *mut u64,
+            result_len: usize,
+        ) -> u32;
+        pub fn kullneyra_resume(
+            offsets: *const u32,
+            offsets_len: usize,
+            targets: *const u32,
+            targets_len: usize,
+            starts: *const u32,
+            starts_len: usize,
+            workers: u32,
+            batch: u32,
+            cutoff: u32,
+            schedule: *const u8,
+            schedule_len: usize,
+            marks: *mut u8,
+            marks_len: usize,
+            work: *mut u32,
+            work_len: usize,
+            tallies: *mut u64,
+            tallies_len: usize,
+            saved: *mut u32,
+            saved_len: usize,
             result: *mut u64,
             result_len: usize,
         ) -> u32;
@@ -151,6 +198,100 @@ pub fn mark(
             work.len(),
             tallies.as_mut_ptr(),
             tallies.len(),
+            result.as_mut_ptr(),
+            result.len(),
+        )
+    }
+}
+
+/// How many words a saved collection takes. One result word.
+pub fn saved_words(objects: u32, workers: u32, result: &mut [u64]) -> u32 {
+    // SAFETY: as in `header`.
+    unsafe { c::kullneyra_saved_words(objects, workers, result.as_mut_ptr(), result.len()) }
+}
+
+/// As [`mark`], and saves the collection.
+#[allow(clippy::too_many_arguments)]
+pub fn begin(
+    offsets: &[u32],
+    targets: &[u32],
+    starts: &[u32],
+    workers: u32,
+    batch: u32,
+    cutoff: u32,
+    schedule: &[u8],
+    marks: &mut [u8],
+    work: &mut [u32],
+    tallies: &mut [u64],
+    saved: &mut [u32],
+    result: &mut [u64],
+) -> u32 {
+    // SAFETY: as in `header`.
+    unsafe {
+        c::kullneyra_begin(
+            offsets.as_ptr(),
+            offsets.len(),
+            targets.as_ptr(),
+            targets.len(),
+            starts.as_ptr(),
+            starts.len(),
+            workers,
+            batch,
+            cutoff,
+            schedule.as_ptr(),
+            schedule.len(),
+            marks.as_mut_ptr(),
+            marks.len(),
+            work.as_mut_ptr(),
+            work.len(),
+            tallies.as_mut_ptr(),
+            tallies.len(),
+            saved.as_mut_ptr(),
+            saved.len(),
+            result.as_mut_ptr(),
+            result.len(),
+        )
+    }
+}
+
+/// Takes a saved collection up, and saves it again. Result words as of [`mark`].
+#[allow(clippy::too_many_arguments)]
+pub fn resume(
+    offsets: &[u32],
+    targets: &[u32],
+    starts: &[u32],
+    workers: u32,
+    batch: u32,
+    cutoff: u32,
+    schedule: &[u8],
+    marks: &mut [u8],
+    work: &mut [u32],
+    tallies: &mut [u64],
+    saved: &mut [u32],
+    result: &mut [u64],
+) -> u32 {
+    // SAFETY: as in `header`.
+    unsafe {
+        c::kullneyra_resume(
+            offsets.as_ptr(),
+            offsets.len(),
+            targets.as_ptr(),
+            targets.len(),
+            starts.as_ptr(),
+            starts.len(),
+            workers,
+            batch,
+            cutoff,
+            schedule.as_ptr(),
+            schedule.len(),
+            marks.as_mut_ptr(),
+            marks.len(),
+            work.as_mut_ptr(),
+            work.len(),
+            tallies.as_mut_ptr(),
+            tallies.len(),
+            saved.as_mut_ptr(),
+            saved.len(),
             result.as_mut_ptr(),
             result.len(),
         )

@@ -6,11 +6,13 @@
 mod catalogue;
 mod machine;
 mod report;
+mod saved;
 mod sweep;
 
 pub use catalogue::{header, part, read, references, Contents, Header};
 pub use machine::{depth_first, mark, tallies, Call, Outcome, Tally};
 pub use report::report;
+pub use saved::{begin, resume, saved_words, unsound, Places, FORM};
 pub use sweep::{sweep, Swept};
 
 pub const MOST_OBJECTS: usize = 65_536;

@@ -67,10 +67,10 @@ pub fn tallies(words: &[u64]) -> Vec<Tally> {
 }
 
 /// References first..end, not yet followed.
-type Run = (u32, u32);
+pub(crate) type Run = (u32, u32);
 
-#[derive(Clone, Copy, PartialEq, Eq)]
-enum Status {
+#[derive(Clone, Copy, Debug, PartialEq, Eq)]
+pub(crate) enum Status {
     Idle,
     /// Asked another worker, no reply yet.
     Asking,
@@ -81,34 +81,105 @@ enum Status {
     Ended,
 }
 
-struct Worker {
-    status: Status,
-    cell: Option<u8>,
-    since: u32,
-    batch: u32,
-    claim: bool,
+#[derive(Debug, PartialEq, Eq)]
+pub(crate) struct Worker {
+    pub status: Status,
+    pub cell: Option<u8>,
+    /// An idle worker's is what it was when it last carried something.
+    pub since: u32,
+    pub batch: u32,
+    pub claim: bool,
     /// In reverse: the last one is followed first.
-    runs: Vec<Run>,
-    carried: u32,
-    tally: Tally,
+    pub runs: Vec<Run>,
+    pub carried: u32,
+    pub tally: Tally,
 }
 
-struct Machine<'a> {
-    offsets: &'a [u32],
-    targets: &'a [u32],
-    batch: u32,
-    cutoff: u32,
-    marks: &'a mut [u8],
-    workers: Vec<Worker>,
-    followed: u64,
-    handed: u64,
-    refused: u64,
-    moved: u64,
+impl Worker {
+    /// A worker that carries nothing.
+    fn idle() -> Self {
+        Worker {
+            status: Status::Idle,
+            cell: None,
+            since: 0,
+            batch: 0,
+            claim: false,
+            runs: Vec::new(),
+            carried: 0,
+            tally: Tally::default(),
+        }
+    }
 }
 
-impl Machine<'_> {
+pub(crate) struct Machine<'a> {
+    pub offsets: &'a [u32],
+    pub targets: &'a [u32],
+    pub batch: u32,
+    pub cutoff: u32,
+    pub marks: &'a mut [u8],
+    pub workers: Vec<Worker>,
+    pub followed: u64,
+    pub handed: u64,
+    pub refused: u64,
+    pub moved: u64,
+}
+
+impl<'a> Machine<'a> {
+    /// The state before the first turn.
+    pub fn start(call: Call<'a>, marks: &'a mut [u8]) -> Self {
+        let Call { offsets, targets, starts, workers, batch, cutoff, .. } = call;
+        marks.fill(0);
+        let mut all: Vec<Worker> = (0..workers).map(|_| Worker::idle()).collect();
+        let first = &mut all[0];
+        for v in starts.iter().map(|&start| start as usize) {
+            let (from, to) = (offsets[v], offsets[v + 1]);
+            if marks[v] == 0 && from < to {
+                first.status = Status::Busy;
+                first.runs.insert(0, (from, to));
+                first.carried += to - from;
+            }
+            marks[v] = 1;
+        }
+        Machine { offsets, targets, batch, cutoff, marks, workers: all, followed: 0, handed: 0, refused: 0, moved: 0 }
+    }
+
+    /// The turns of a schedule.
+    pub fn run(&mut self, schedule: &[u8]) {
+        for entry in schedule.chunks_exact(2) {
+            if self.turn(entry[0] as usize, entry[1] as usize) {
+                self.moved += 1;
+            }
+        }
+    }
+
+    /// Writes out the stretches and the tallies; what is answered.
+    pub fn leave(&self, work: &mut [u32], tallies: &mut [u64]) -> Outcome {
+        let stretch = 2 * self.marks.len() + 4;
+        work.fill(0);
+        for (b, one) in self.workers.iter().enumerate() {
+            for (i, &(first, end)) in one.runs.iter().enumerate() {
+                work[b * stretch + 2 * i] = first;
+                work[b * stretch + 2 * i + 1] = end;
+            }
+            tallies[Tally::WORDS * b..Tally::WORDS * (b + 1)].copy_from_slice(&one.tally.words());
+        }
+        self.outcome()
+    }
+
+    pub fn outcome(&self) -> Outcome {
+        Outcome {
+            finished: self.workers.iter().all(|one| one.status == Status::Ended),
+            live: self.marks.iter().filter(|&&mark| mark != 0).count() as u64,
+            followed: self.followed,
+            handed: self.handed,
+            refused: self.refused,
+            moved: self.moved,
+            carrying: self.carrying(),
+        }
+    }
+
     /// How many workers carry references: counted over them each time.
-    fn carrying(&self) -> u64 {
+    pub fn carrying(&self) -> u64 {
         self.workers.iter().filter(|one| one.carried > 0).count() as u64
     }
 
@@ -190,6 +261,7 @@ impl Machine<'_> {
         let other = &mut self.workers[asker];
         other.runs = given;
         other.carried = handed;
+        other.since = 0;
         other.status = Status::Given;
         self.handed += 1;
     }
@@ -251,8 +323,9 @@ fn is_graph(offsets: &[u32], targets: &[u32]) -> bool {
         && targets.iter().all(|&target| (target as usize) < n)
 }
 
-/// The marker's call.
-pub fn mark(call: Call<'_>, marks: &mut [u8], work: &mut [u32], tallies: &mut [u64]) -> Result<Outcome, u8> {
+/// The number of the first fault of a marker's call with so many marks, work words and words of tallies, where
+/// `saved` is false if there are saved words and another number of them than there must be.
+pub(crate) fn check(call: Call<'_>, marks: usize, work: usize, tallies: usize, saved: bool) -> Result<(), u8> {
     let Call { offsets, targets, starts, workers, batch, cutoff, schedule } = call;
     if !(1..=16).contains(&workers) || !(1..=65_535).contains(&batch) || !(1..=65_535).contains(&cutoff) {
         return Err(8);
@@ -261,9 +334,8 @@ pub fn mark(call: Call<'_>, marks: &mut [u8], work: &mut [u32], tallies: &mut [u
     if offsets.len() < 2 || n > MOST_OBJECTS || targets.len() > MOST_REFERENCES {
         return Err(4);
     }
-    let stretch = 2 * n + 4;
-    let lengths = [(marks.len(), n), (work.len(), workers as usize * stretch), (tallies.len(), 4 * workers as usize)];
-    if lengths.iter().any(|(length, right)| length != right) {
+    let lengths = [(marks, n), (work, workers as usize * (2 * n + 4)), (tallies, 4 * workers as usize)];
+    if lengths.iter().any(|(length, right)| length != right) || !saved {
         return Err(7);
     }
     if !is_graph(offsets, targets) {
@@ -278,55 +350,15 @@ pub fn mark(call: Call<'_>, marks: &mut [u8], work: &mut [u32], tallies: &mut [u
     if !schedule.len().is_multiple_of(2) || schedule.chunks(2).any(|entry| entry[0] as u32 >= workers) {
         return Err(9);
     }
+    Ok(())
+}
 
-    marks.fill(0);
-    let mut all: Vec<Worker> = (0..workers)
-        .map(|_| Worker {
-            status: Status::Idle,
-            cell: None,
-            since: 0,
-            batch: 0,
-            claim: false,
-            runs: Vec::new(),
-            carried: 0,
-            tally: Tally::default(),
-        })
-        .collect();
-    let first = &mut all[0];
-    for v in starts.iter().map(|&start| start as usize) {
-        let (from, to) = (offsets[v], offsets[v + 1]);
-        if marks[v] == 0 && from < to {
-            first.status = Status::Busy;
-            first.runs.insert(0, (from, to));
-            first.carried += to - from;
-        }
-        marks[v] = 1;
-    }
-    let mut machine =
-        Machine { offsets, targets, batch, cutoff, marks, workers: all, followed: 0, handed: 0, refused: 0, moved: 0 };
-    for entry in schedule.chunks_exact(2) {
-        if machine.turn(entry[0] as usize, entry[1] as usize) {
-            machine.moved += 1;
-        }
-    }
-
-    work.fill(0);
-    for (b, one) in machine.workers.iter().enumerate() {
-        for (i, &(first, end)) in one.runs.iter().enumerate() {
-            work[b * stretch + 2 * i] = first;
-            work[b * stretch + 2 * i + 1] = end;
-        }
-        tallies[Tally::WORDS * b..Tally::WORDS * (b + 1)].copy_from_slice(&one.tally.words());
-    }
-    Ok(Outcome {
-        finished: machine.workers.iter().all(|one| one.status == Status::Ended),
-        live: machine.marks.iter().filter(|&&mark| mark != 0).count() as u64,
-        followed: machine.followed,
-        handed: machine.handed,
-        refused: machine.refused,
-        moved: machine.moved,
-        carrying: machine.carrying(),
-    })
+/// The marker's call.
+pub fn mark(call: Call<'_>, marks: &mut [u8], work: &mut [u32], tallies: &mut [u64]) -> Result<Outcome, u8> {
+    check(call, marks.len(), work.len(), tallies.len(), true)?;
+    let mut machine = Machine::start(call, marks);
+    machine.run(call.schedule);
+    Ok(machine.leave(work, tallies))
 }
 
 /// The floor of the benchmark: a plain depth-first marking, with no workers and no turns.

@@ -9,6 +9,7 @@ use std::error::Error;
 #[derive(Debug, PartialEq, Eq)]
 pub enum Advice {
     FetchAgain,
+    BeginAnew,
     MendCaller,
     Update,
 }
@@ -20,6 +21,7 @@ pub fn advice(refusal: Refusal) -> Advice {
             Advice::FetchAgain
         }
         Refusal::Starts => Advice::FetchAgain,
+        Refusal::Saved => Advice::BeginAnew,
         Refusal::Buffer | Refusal::Setting | Refusal::Schedule | Refusal::Graph => Advice::MendCaller,
         Refusal::Other(_) => Advice::Update,
         _ => Advice::Update,
