@@ -1,0 +1,130 @@
+-- The rounds of a hand, one behind the other; and the checks of the call in their order.
+use mathlib.Core.Path.{_≡_, ap, sym, _∙_}
+use mathlib.Core.Bool.{Bool, true, false}
+use mathlib.Core.List.{List, append-nil}
+use Prim.Native.Nat.{ℕ, suc, _+_, _*_, _^_, _≤_, _<_}
+use native.Mathlib.Nat.{suc-mul, zero-mul, mul-le-mul-right}
+use native.Mathlib.Numerals.{add-one}
+use native.Mathlib.Omega.{arith}
+use lib.Dec.{ltb, eqb}
+use lib.ListN.{length, getD, take}
+use lib.Seq.{take-length, drop-length}
+use borrow.Author.Tests.{lt-ltb, le-ltb, lt-leb, le-leb, ltb-false}
+use Rattle.laws.specs.Blocks.{laid}
+use Rattle.refusal.specs.declared.Verdict.{Verdict}
+use Rattle.refusal.specs.Number.{numberOf}
+use Rattle.refusal.proofs.None.{or-none}
+use Rattle.graph.specs.Graph.{allBelow}
+use Rattle.machine.specs.Limits.{most-workers}
+use Rattle.machine.specs.Call.{outside}
+use Rattle.text.specs.Text.{Put}
+use Rattle.text.proofs.Written.{nothing, same-long}
+use Rattle.cards.specs.Deck.{card-workers, deck-size}
+use Rattle.cards.specs.Hand.{roundOf, turnsOf, bytesOf, fault, lengthFault, lengthOf, Deals}
+use Rattle.cards.specs.Rounding.{Roomy, Rounded, Dealing}
+use Rattle.cards.proofs.Lengths.{known-at}
+use Rattle.cards.proofs.Rows.{laid-next}
+use Rattle.cards.proofs.Stretches.{rounds-of}
+
+-- ---- the loop
+
+-- the first i cards' turns stand at the beginning
+pub record At (W : ℕ) (cards before schedule : List ℕ) (at i : ℕ) : Type 0 where
+  pub low : i ≤ length cards
+  pub place : at ≡ i * (2 * W)
+  pub put : Put before 0 (turnsOf W (take i cards)) schedule at
+
+module _ {W : ℕ} {cards before : List ℕ} where
+  pub at-start : At W cards before before 0 0
+  unfolding turnsOf laid
+  at-start = record { low = omega arith; place = sym (zero-mul (2 * W)); put = nothing (omega arith) }
+
+  module _ {all : List ℕ} (d : Dealing all cards W (length before)) {schedule : List ℕ} {at i : ℕ} (a : At W cards before schedule at i) where
+    pub at-ready : i < length cards → Roomy all W (getD cards i 0) at (length schedule)
+    at-ready h =
+        record {
+          all = d .whole;
+          some = d .some;
+          few = d .few;
+          known = known-at cards (d .known) i;
+          room = omega (arith, a .place, suc-mul i (2 * W), d .exact, same-long (a .put), mul-le-mul-right (2 * W) h);
+        }
+
+    pub at-next : i < length cards → {after : List ℕ} {end : ℕ} → Rounded W (getD cards i 0) at schedule after end
+        → At W cards before after end (i + 1)
+    unfolding turnsOf
+    at-next h r =
+        rw add-one
+        (record {
+          low = omega arith;
+          place = omega (arith, a .place, r .ends, suc-mul i (2 * W));
+          put = laid-next (roundOf W) cards i h (a .put) (r .put);
+        })
+
+    pub at-end : length cards ≤ i → schedule ≡ turnsOf W cards
+    at-end h =
+        let n : i ≡ length cards = omega (arith, a .low) in
+        let e : at ≡ length before = omega (arith, a .place, d .exact, ap (λ (k : ℕ). k * (2 * W)) n) in
+        a .put .holds ∙ rw (e, n, take-length, drop-length) (append-nil (turnsOf W cards))
+
+-- ---- the checks
+
+-- what a test answered, of what it is promised to be
+pub so : {r x t : Bool} → r ≡ x → r ≡ t → x ≡ t
+so e h = sym e ∙ h
+
+-- W is at least 1 where check 8 finds nothing
+pub some-worker : (W : ℕ) → outside most-workers W ≡ false → 1 ≤ W
+some-worker W e = ltb-false W 1 (or-none (ltb W 1) (ltb most-workers W) e .0)
+
+module _ (W : ℕ) (cards : List ℕ) (n : ℕ) where
+  pub finds-8 : outside most-workers W ≡ true → fault W cards n ≡ 8
+  unfolding fault
+  finds-8 h = rw h
+
+  pub finds-width : outside most-workers W ≡ false → card-workers < W → fault W cards n ≡ 15
+  unfolding fault
+  finds-width h g = rw (h, lt-ltb card-workers W g)
+
+  pub finds-card : outside most-workers W ≡ false → W ≤ card-workers → allBelow deck-size cards ≡ false → fault W cards n ≡ 15
+  unfolding fault
+  finds-card h g k = rw (h, le-ltb card-workers W g, k)
+
+  pub finds-7 : outside most-workers W ≡ false → W ≤ card-workers → allBelow deck-size cards ≡ true → eqb n (bytesOf W (length cards)) ≡ false
+      → fault W cards n ≡ 7
+  unfolding fault
+  finds-7 h g k e = rw (h, le-ltb card-workers W g, k, e)
+
+  pub finds-none : outside most-workers W ≡ false → W ≤ card-workers → allBelow deck-size cards ≡ true → eqb n (bytesOf W (length cards)) ≡ true
+      → fault W cards n ≡ 0
+  unfolding fault
+  finds-none h g k e = rw (h, le-ltb card-workers W g, k, e)
+
+-- beside a refusal the schedule is as it was
+pub refused : (W : ℕ) (cards before : List ℕ) (k : ℕ) {v : Verdict} → numberOf v ≡ suc k → fault W cards (length before) ≡ suc k → Deals W cards before v before
+refused W cards before k n e =
+    record { number-is = n ∙ sym e; schedule-is = rw e; brings = λ z. absurd (omega arith) }
+
+pub dealt-all : (W : ℕ) (cards before : List ℕ) {v : Verdict} {after : List ℕ} → numberOf v ≡ 0 → fault W cards (length before) ≡ 0 → 1 ≤ W
+    → W ≤ card-workers → allBelow deck-size cards ≡ true → after ≡ turnsOf W cards → Deals W cards before v after
+dealt-all W cards before n e some few known w =
+    record { number-is = n ∙ sym e; schedule-is = rw e w; brings = λ z. rw w (rounds-of W cards some few known) }
+
+-- ---- the length
+
+module _ (W k : ℕ) where
+  pub length-8 : outside most-workers W ≡ true → lengthOf W k ≡ record { number = 8; bytes = 0 }
+  unfolding lengthFault
+  length-8 h = rw h
+
+  pub length-15 : outside most-workers W ≡ false → card-workers < W → lengthOf W k ≡ record { number = 15; bytes = 0 }
+  unfolding lengthFault
+  length-15 h g = rw (h, lt-ltb card-workers W g)
+
+  pub length-7 : outside most-workers W ≡ false → W ≤ card-workers → 2 ^ 64 ≤ bytesOf W k → lengthOf W k ≡ record { number = 7; bytes = 0 }
+  unfolding lengthFault
+  length-7 h g b = rw (h, le-ltb card-workers W g, le-leb (2 ^ 64) (bytesOf W k) b)
+
+  pub length-is : outside most-workers W ≡ false → W ≤ card-workers → bytesOf W k < 2 ^ 64 → lengthOf W k ≡ record { number = 0; bytes = bytesOf W k }
+  unfolding lengthFault
+  length-is h g b = rw (h, le-ltb card-workers W g, lt-leb (2 ^ 64) (bytesOf W k) b)

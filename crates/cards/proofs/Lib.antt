@@ -1,0 +1,9 @@
+pub mod Ascending
+pub mod Circle
+pub mod Dealing
+pub mod Deck
+pub mod Lengths
+pub mod Orders
+pub mod Printing
+pub mod Rows
+pub mod Stretches

@@ -1,0 +1,5 @@
+pub mod Deck
+pub mod Drawings
+pub mod Hand
+pub mod Rounding
+pub mod Text

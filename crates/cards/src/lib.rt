@@ -1,0 +1,55 @@
+// Cards: the constant deck, its text, and the schedule of a hand.
+pub mod hand;
+pub mod print;
+pub mod table;
+
+use refusal::Refusal;
+use refusal::Verdict;
+use table::CARD_WORKERS;
+use table::DECK_SIZE;
+ghost use mathlib.Core.Path.{_≡_};
+ghost use Rattle.cards.specs.Hand.{lengthRow, lengthOf, Deals};
+
+// How long the schedule of a hand is, or the refusal.
+pub enum Length {
+    Bytes(usize),
+    Refused(Refusal),
+}
+
+// How many bytes the schedule of so many cards has.
+pub fn schedule_length(cards: usize, workers: u32) -> Length
+    ensures { λ r. ⌜ lengthRow r ≡ lengthOf workers cards ⌝ }
+{
+    if hand::workers_outside(workers) {
+        return Length::Refused(Refusal::Setting);
+    }
+    if CARD_WORKERS < workers {
+        return Length::Refused(Refusal::Cards);
+    }
+    let round = 2 * workers as usize;
+    if usize::MAX / round < cards {
+        return Length::Refused(Refusal::Buffer);
+    }
+    Length::Bytes(cards * round)
+}
+
+// The schedule of a hand for W workers, in a lent schedule of exactly its length.
+pub fn deal(cards: &[u32], workers: u32, schedule: &mut [u8]) -> Verdict
+    ensures { λ v. ⌜ Deals workers (now (cards .entry)) (now (schedule .entry)) v (now (schedule .exit)) ⌝ }
+{
+    if hand::workers_outside(workers) {
+        return Verdict::Faulty(Refusal::Setting);
+    }
+    if CARD_WORKERS < workers {
+        return Verdict::Faulty(Refusal::Cards);
+    }
+    if !graph::is_below(DECK_SIZE, cards) {
+        return Verdict::Faulty(Refusal::Cards);
+    }
+    if !hand::is_schedule_of(schedule.len(), cards.len(), workers) {
+        return Verdict::Faulty(Refusal::Buffer);
+    }
+    let deck = table::all();
+    hand::put_rounds(&deck, cards, workers, schedule);
+    Verdict::Fine
+}
