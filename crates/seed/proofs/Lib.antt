@@ -1,0 +1,3 @@
+pub mod Checks
+pub mod Draws
+pub mod Words

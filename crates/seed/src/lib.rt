@@ -1,0 +1,125 @@
+// Turns from a seed: two words of 32 bits, moved on at each draw, the card that they give, and the
+// schedule of so many draws.
+use cards::hand;
+use cards::table;
+use cards::table::CARD_WORKERS;
+use refusal::Refusal;
+ghost use mathlib.Core.Path.{_≡_};
+ghost use lib.ListN.{length};
+ghost use Rattle.cards.specs.Hand.{turnsOf};
+ghost use Rattle.seed.specs.Draw.{xorshifted, next, cardOf, drawnBy, drawn};
+ghost use Rattle.seed.specs.Deal.{afterDraws, handOf, Drawing, Deals};
+
+// The two words. They are where the caller keeps them.
+pub struct Seed {
+    pub first: u32,
+    pub second: u32,
+}
+
+// What a draw answers.
+pub enum Drawn {
+    Card(u32),
+    Refused(Refusal),
+}
+
+// What the schedule of a seed answers: the seed as the draws leave it, or the refusal, beside which
+// the seed is as it was.
+pub enum Dealt {
+    Moved(Seed),
+    Refused(Refusal),
+}
+
+// Marsaglia's xorshift on 32 bits.
+fn xorshift(x: u32) -> u32
+    ensures { λ r. ⌜ r ≡ xorshifted x ⌝ }
+{
+    let a = x ^ (x << 13);
+    let b = a ^ (a >> 17);
+    b ^ (b << 5)
+}
+
+// The seed after a draw. One whose first word is 0 stays as it is.
+pub fn step(seed: Seed) -> Seed
+    ensures { λ r. ⌜ r ≡ next seed ⌝ }
+{
+    let first = seed.first;
+    let second = seed.second;
+    if first == 0 {
+        return seed;
+    }
+    Seed {
+        first: xorshift(first),
+        second: std::num::wrapping_add_u32(second, 362437),
+    }
+}
+
+// The card that moved words give: the remainder of their sum.
+fn card(seed: Seed) -> u32
+    ensures { λ r. ⌜ r ≡ cardOf seed ⌝ }
+{
+    let first = seed.first;
+    let second = seed.second;
+    std::num::wrapping_add_u32(first, second) % 720
+}
+
+// What moved words answer.
+pub fn card_of(seed: Seed) -> Drawn
+    ensures { λ r. ⌜ r ≡ drawnBy (seed .first) seed ⌝ }
+{
+    let first = seed.first;
+    if first == 0 {
+        return Drawn::Refused(Refusal::Seed);
+    }
+    Drawn::Card(card(seed))
+}
+
+// Moves the seed on where the caller keeps it, and answers the card. A first word of 0 is refused.
+pub fn draw(seed: &mut Seed) -> Drawn
+    ensures { λ r. ⌜ (now (seed .exit) ≡ next (now (seed .entry))) × (r ≡ drawn (now (seed .entry))) ⌝ }
+{
+    let moved = step(*seed);
+    *seed = moved;
+    card_of(moved)
+}
+
+// Draws so many cards and writes their rounds one behind the other; answers the seed that is left.
+fn put_draws(
+    deck: &[u32; 720],
+    seed: Seed,
+    rounds: usize,
+    workers: u32,
+    schedule: &mut [u8],
+) -> Seed
+    requires { ⌜ Drawing (now deck) rounds workers (length (now schedule)) ⌝ }
+    ensures { λ r. ⌜ r ≡ afterDraws rounds seed ⌝ }
+    ensures { λ r. ⌜ now (schedule .exit) ≡ turnsOf workers (handOf rounds seed) ⌝ }
+{
+    let mut left = seed;
+    let mut at: usize = 0;
+    for i in 0..rounds {
+        left = step(left);
+        at = hand::put_round(deck, card(left), workers, schedule, at);
+    }
+    left
+}
+
+// The schedule of so many draws for W workers, in a lent schedule of exactly its length.
+pub fn deal(seed: Seed, rounds: usize, workers: u32, schedule: &mut [u8]) -> Dealt
+    ensures { λ r. ⌜ Deals seed rounds workers (now (schedule .entry)) r (now (schedule .exit)) ⌝ }
+{
+    let first = seed.first;
+    if hand::workers_outside(workers) {
+        return Dealt::Refused(Refusal::Setting);
+    }
+    if first == 0 {
+        return Dealt::Refused(Refusal::Seed);
+    }
+    if CARD_WORKERS < workers {
+        return Dealt::Refused(Refusal::Cards);
+    }
+    if !hand::is_schedule_of(schedule.len(), rounds, workers) {
+        return Dealt::Refused(Refusal::Buffer);
+    }
+    let deck = table::all();
+    Dealt::Moved(put_draws(&deck, seed, rounds, workers, schedule))
+}
