@@ -17,6 +17,10 @@ A case is lines of words. '#' begins a comment, blank lines are skipped.
     cutoff K
     turn BOX ASKED        a turn of box BOX that names box ASKED
     turns ASKED: BOX ...  several turns that all name box ASKED
+    cards CARD ...        a round of turns for each card, 0 to 719, for up to six boxes: behind the line
+                          with their number. Those below it have a turn each, in the card's order, and
+                          each names the next, the last the first
+    seed A B rounds N     the rounds of N cards drawn from the seed of these two words
 
 Numbers are decimal, and have only to fit their fields: a case may break the rules of the store on
 purpose, to see which number the program refuses it with.
@@ -26,6 +30,7 @@ import argparse
 import struct
 import sys
 from dataclasses import dataclass, field
+from itertools import permutations
 from pathlib import Path
 from typing import Iterator, Optional
 
@@ -38,6 +43,13 @@ SETTINGS = {"boxes": 0xFF, "batch": 0xFFFF, "cutoff": 0xFFFF}
 SETTINGS_FORMAT = struct.Struct("<BHH")
 
 BYTE, WORD, LONG = 0xFF, 0xFFFFFFFF, 0xFFFFFFFFFFFFFFFF
+
+# The cards: every order of six boxes, ascending.
+CARD_BOXES = 6
+DECK = list(permutations(range(CARD_BOXES)))
+
+# What the second word of a seed grows by at each draw.
+SEED_STEP = 362_437
 
 
 class Fault(Exception):
@@ -70,6 +82,24 @@ def pair(words: list[str], limit: int, where: str) -> tuple[int, int]:
     return number(one, limit, where), number(other, limit, where)
 
 
+def dealt(boxes: Optional[int], card: int, where: str) -> list[tuple[int, int]]:
+    """The turns of one card."""
+    if boxes is None or not 1 <= boxes <= CARD_BOXES:
+        raise Fault(f"{where}: cards are for 1 to {CARD_BOXES} boxes, whose number stands before them")
+    order = [box for box in DECK[card] if box < boxes]
+    return list(zip(order, order[1:] + order[:1]))
+
+
+def drawn(first: int, second: int, rounds: int) -> Iterator[int]:
+    """The cards that so many draws give."""
+    for _ in range(rounds):
+        first ^= first << 13 & WORD
+        first ^= first >> 17
+        first ^= first << 5 & WORD
+        second = second + SEED_STEP & WORD
+        yield (first + second & WORD) % len(DECK)
+
+
 def parse(text: str) -> Case:
     """The case that the text tells."""
     case = Case()
@@ -94,6 +124,15 @@ def parse(text: str) -> Case:
         elif name == "turns" and len(rest) >= 2 and rest[1] == ":":
             asked = number(rest[0], BYTE, where)
             case.turns.extend((number(word, BYTE, where), asked) for word in rest[2:])
+        elif name == "cards" and rest:
+            for word in rest:
+                case.turns += dealt(case.settings.get("boxes"), number(word, len(DECK) - 1, where), where)
+        elif name == "seed" and len(rest) == 4 and rest[2] == "rounds":
+            first, second = pair(rest[:2], WORD, where)
+            if first == 0:
+                raise Fault(f"{where}: the first word of a seed is not 0")
+            for card in drawn(first, second, number(rest[3], WORD, where)):
+                case.turns += dealt(case.settings.get("boxes"), card, where)
         else:
             raise Fault(f"{where}: cannot be read here: {line.strip()}")
     if case.index is None:

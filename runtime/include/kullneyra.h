@@ -45,6 +45,8 @@ extern "C" {
 #define KULLNEYRA_FILE 12    /* only printed by the program: a file that cannot be read */
 #define KULLNEYRA_NO_STARTS 13 /* no start, or more leases than KULLNEYRA_MOST_LEASES */
 #define KULLNEYRA_UNSOUND 14 /* saved words that hold no sound collection of this graph, these starts and settings */
+#define KULLNEYRA_CARDS 15   /* a card that is not in the deck, or more workers than KULLNEYRA_CARD_WORKERS */
+#define KULLNEYRA_NO_SEED 16 /* a seed whose first word is 0 */
 
 /* Limits. Objects, starts, workers, batch and cutoff are 1 at least; references and sizes may be 0. */
 #define KULLNEYRA_MOST_OBJECTS 65536
@@ -53,6 +55,8 @@ extern "C" {
 #define KULLNEYRA_MOST_LEASES 256
 #define KULLNEYRA_MOST_WORKERS 16
 #define KULLNEYRA_MOST_SETTING 65535 /* batch and cutoff */
+#define KULLNEYRA_DECK 720       /* cards, numbered from 0 */
+#define KULLNEYRA_CARD_WORKERS 6 /* the most workers that cards deal turns to */
 
 /* Exact lengths of the lent buffers, in elements, for n objects, m references and w workers. */
 #define KULLNEYRA_OFFSETS(n) ((size_t)(n) + 1)
@@ -118,6 +122,22 @@ struct kullneyra_swept {
     uint64_t freed; /* the sum of their sizes */
 };
 
+/* schedule_length: how long the schedule of a hand is. */
+struct kullneyra_length {
+    uint64_t bytes;
+};
+
+/* draw, deal_seed: the two words of a seed, which the caller keeps and the draws move. The first is not 0. */
+struct kullneyra_seed {
+    uint32_t first;
+    uint32_t second;
+};
+
+/* draw: the card. */
+struct kullneyra_drawn {
+    uint32_t card;
+};
+
 /* Exact lengths of the result words. */
 #define KULLNEYRA_HEADER_WORDS (sizeof(struct kullneyra_head) / sizeof(uint32_t))
 #define KULLNEYRA_READ_WORDS (sizeof(struct kullneyra_store) / sizeof(uint32_t))
@@ -125,6 +145,9 @@ struct kullneyra_swept {
 #define KULLNEYRA_MARK_WORDS (sizeof(struct kullneyra_marked) / sizeof(uint64_t)) /* begin and resume too */
 #define KULLNEYRA_SAVED_WORDS 1
 #define KULLNEYRA_SWEEP_WORDS (sizeof(struct kullneyra_swept) / sizeof(uint64_t))
+#define KULLNEYRA_LENGTH_WORDS (sizeof(struct kullneyra_length) / sizeof(uint64_t))
+#define KULLNEYRA_SEED_WORDS (sizeof(struct kullneyra_seed) / sizeof(uint32_t))
+#define KULLNEYRA_DRAW_WORDS (sizeof(struct kullneyra_drawn) / sizeof(uint32_t))
 
 /* Reads only the catalogue's header record. */
 uint32_t kullneyra_header(const uint8_t *bytes, size_t bytes_len, uint32_t *result, size_t result_len);
@@ -178,6 +201,26 @@ uint32_t kullneyra_resume(const uint32_t *offsets, size_t offsets_len, const uin
 /* Lists the objects whose mark is 0, upwards, then zeros; answers how many they are and what their sizes add up to. */
 uint32_t kullneyra_sweep(const uint8_t *marks, size_t marks_len, const uint64_t *sizes, size_t sizes_len,
                          uint32_t *list, size_t list_len, uint64_t *result, size_t result_len);
+
+/* How many bytes the schedule of so many cards has: two for each worker, for each card. KULLNEYRA_BUFFER where no buffer
+ * is so long. */
+uint32_t kullneyra_schedule_length(size_t cards, uint32_t workers, uint64_t *result, size_t result_len);
+
+/* The schedule of a hand of cards, for the marker's call with so many workers: each card is a round in which every
+ * worker has a turn, in the card's order, and asks the one after it, the last the first. The schedule is exactly as
+ * long as kullneyra_schedule_length says. Beside the number there is no answer. */
+uint32_t kullneyra_deal(const uint32_t *cards, size_t cards_len, uint32_t workers, uint8_t *schedule,
+                        size_t schedule_len);
+
+/* Draws a card: moves the two words of the seed on and answers the card of the moved words. A seed of another length is
+ * KULLNEYRA_BUFFER, before the result words are looked at. Beside a fault the seed is as it was. */
+uint32_t kullneyra_draw(uint32_t *seed, size_t seed_len, uint32_t *result, size_t result_len);
+
+/* The schedule of so many draws, which is that of their cards; leaves the seed as those draws do. The schedule is as long
+ * as that of so many cards. A seed of another length is KULLNEYRA_BUFFER, before anything else. Beside a fault seed and
+ * schedule are as they were. Beside the number there is no answer. */
+uint32_t kullneyra_deal_seed(uint32_t *seed, size_t seed_len, size_t rounds, uint32_t workers, uint8_t *schedule,
+                             size_t schedule_len);
 
 /* The same calls with a struct for the answer, which is written in every case: what the call answers
  * where the number is 0, and zeros beside a fault. */
@@ -274,6 +317,32 @@ static inline uint32_t kullneyra_sweep_into(const uint8_t *marks, size_t marks_l
     const uint32_t number =
         kullneyra_sweep(marks, marks_len, sizes, sizes_len, list, list_len, words, KULLNEYRA_SWEEP_WORDS);
     memcpy(answer, words, sizeof *answer);
+    return number;
+}
+
+static inline uint32_t kullneyra_schedule_length_into(size_t cards, uint32_t workers, struct kullneyra_length *answer) {
+    uint64_t words[KULLNEYRA_LENGTH_WORDS] = {0};
+    const uint32_t number = kullneyra_schedule_length(cards, workers, words, KULLNEYRA_LENGTH_WORDS);
+    memcpy(answer, words, sizeof *answer);
+    return number;
+}
+
+static inline uint32_t kullneyra_draw_into(struct kullneyra_seed *seed, struct kullneyra_drawn *answer) {
+    uint32_t state[KULLNEYRA_SEED_WORDS], words[KULLNEYRA_DRAW_WORDS] = {0};
+    memcpy(state, seed, sizeof *seed);
+    const uint32_t number = kullneyra_draw(state, KULLNEYRA_SEED_WORDS, words, KULLNEYRA_DRAW_WORDS);
+    memcpy(seed, state, sizeof *seed);
+    memcpy(answer, words, sizeof *answer);
+    return number;
+}
+
+static inline uint32_t kullneyra_deal_seed_into(struct kullneyra_seed *seed, size_t rounds, uint32_t workers,
+                                                uint8_t *schedule, size_t schedule_len) {
+    uint32_t state[KULLNEYRA_SEED_WORDS];
+    memcpy(state, seed, sizeof *seed);
+    const uint32_t number =
+        kullneyra_deal_seed(state, KULLNEYRA_SEED_WORDS, rounds, workers, schedule, schedule_len);
+    memcpy(seed, state, sizeof *seed);
     return number;
 }
 

@@ -24,6 +24,10 @@ CALLS = (
     "resume::begin",
     "resume::go_on",
     "report::answer",
+    "cards::schedule_length",
+    "cards::deal",
+    "seed::draw",
+    "seed::deal",
 )
 EXPORTS = Path("crates/kullneyra/src/lib.rt")
 HEADER = Path("runtime/include/kullneyra.h")

@@ -11,7 +11,20 @@ from contracts import CALLS, EXPORTS, HEADER, PROMISES, TOP
 ASKING = "\n    requires { ⌜ record { n = 1 } ≡ record { n = 1 } ⌝ }"
 FUNCTIONS = tuple(
     f"kullneyra_{name}"
-    for name in ("header", "mark", "read", "references", "sweep", "saved_words", "begin", "resume")
+    for name in (
+        "header",
+        "mark",
+        "read",
+        "references",
+        "sweep",
+        "saved_words",
+        "begin",
+        "resume",
+        "schedule_length",
+        "deal",
+        "draw",
+        "deal_seed",
+    )
 )
 
 

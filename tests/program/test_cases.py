@@ -268,6 +268,16 @@ IN_PROGRESS = [
 ]
 
 
+CARDS = case.load_text(TOP / "samples" / "cards.txt")
+DEALT = [
+    (
+        "turns dealt from cards",
+        CARDS,
+        told("finished", 4, 5, 1, 2, 22, 0, boxes=[(3, 2, 0, 1), NOTHING, (2, 1, 0, 0)], dead=[(4, 500), (5, 600)]),
+    ),
+]
+
+
 class Cases(test_program.Folder):
     def put(self, name, data):
         (self.folder / name).unlink(missing_ok=True)
@@ -307,6 +317,9 @@ class Cases(test_program.Folder):
 
     def test_download_in_progress(self):
         self.check([(name, case.store_bytes(one), case.order_bytes(one), text) for name, one, text in IN_PROGRESS])
+
+    def test_dealt(self):
+        self.check([(name, case.store_bytes(one), case.order_bytes(one), text) for name, one, text in DEALT])
 
     def test_large(self):
         self.check(LARGE)

@@ -64,6 +64,11 @@ int main(void) {
     struct kullneyra_marked marked;
     struct kullneyra_tally tally;
     struct kullneyra_swept swept;
+    struct kullneyra_length length;
+    static const uint32_t hand[3] = {0, KULLNEYRA_DECK - 1, KULLNEYRA_DECK};
+    uint8_t dealt[9];
+    struct kullneyra_seed seed = {1, 0}, none = {0, 7};
+    struct kullneyra_drawn drawn;
 
     expect("names of counts", KULLNEYRA_MARK_WORDS - 1, count_names);
     expect("words of a tally", KULLNEYRA_TALLIES(1), sizeof tally / sizeof(uint64_t));
@@ -201,5 +206,42 @@ int main(void) {
     expect("sweep, count", 1, swept.count);
     expect("sweep, freed", 200, swept.freed);
     expect("sweep, list", 1, list[0]);
+
+    REFUSED("schedule length, no workers", KULLNEYRA_SETTING, kullneyra_schedule_length_into(2, 0, &length), length);
+    REFUSED("schedule length, seven workers", KULLNEYRA_CARDS,
+            kullneyra_schedule_length_into(2, KULLNEYRA_CARD_WORKERS + 1, &length), length);
+    REFUSED("schedule length, too long", KULLNEYRA_BUFFER, kullneyra_schedule_length_into(SIZE_MAX, 1, &length), length);
+    ACCEPTED("schedule length", kullneyra_schedule_length_into(2, 2, &length), length);
+    expect("schedule length, bytes", 8, length.bytes);
+    memset(dealt, 0x5a, sizeof dealt);
+    expect("deal, no workers", KULLNEYRA_SETTING, kullneyra_deal(hand, 2, 0, dealt, 8));
+    expect("deal, card 720", KULLNEYRA_CARDS, kullneyra_deal(hand, 3, 1, dealt, 6));
+    expect("deal, long schedule", KULLNEYRA_BUFFER, kullneyra_deal(hand, 2, 2, dealt, 9));
+    expect("deal, unchanged", 0x5a, dealt[0]);
+    expect("deal", KULLNEYRA_OK, kullneyra_deal(hand, 2, 2, dealt, 8));
+    expect("deal, first card", 0x01 << 16 | 0x01 << 8, (uint64_t)dealt[1] << 16 | (uint64_t)dealt[2] << 8 | dealt[3]);
+    expect("deal, last card", 0x01 << 24 | 0x01, (uint64_t)dealt[4] << 24 | (uint64_t)dealt[5] << 16 | dealt[7]);
+    expect("deal, behind it", 0x5a, dealt[8]);
+
+    REFUSED("draw, first word 0", KULLNEYRA_NO_SEED, kullneyra_draw_into(&none, &drawn), drawn);
+    expect("draw, unchanged", 7, none.second);
+    ACCEPTED("draw", kullneyra_draw_into(&seed, &drawn), drawn);
+    expect("draw, card", 646, drawn.card);
+    expect("draw, first word", 270369, seed.first);
+    expect("draw, second word", 362437, seed.second);
+    memset(dealt, 0x5a, sizeof dealt);
+    expect("deal of a seed, no workers", KULLNEYRA_SETTING, kullneyra_deal_seed_into(&none, 2, 0, dealt, 8));
+    expect("deal of a seed, first word 0", KULLNEYRA_NO_SEED, kullneyra_deal_seed_into(&none, 2, 7, dealt, 8));
+    expect("deal of a seed, seven workers", KULLNEYRA_CARDS, kullneyra_deal_seed_into(&seed, 2, 7, dealt, 8));
+    expect("deal of a seed, long schedule", KULLNEYRA_BUFFER, kullneyra_deal_seed_into(&seed, 2, 2, dealt, 9));
+    expect("deal of a seed, unchanged", 270369, seed.first);
+    expect("deal of a seed, bytes unchanged", 0x5a, dealt[0]);
+    /* Cards 603 and 612: 501342 and 503124. */
+    expect("deal of a seed", KULLNEYRA_OK, kullneyra_deal_seed_into(&seed, 2, 2, dealt, 8));
+    expect("deal of a seed, first round", 0, dealt[0]);
+    expect("deal of a seed, whom its worker asks", 1, dealt[1]);
+    expect("deal of a seed, second round", 0, dealt[4]);
+    expect("deal of a seed, first word", 2647435461u, seed.first);
+    expect("deal of a seed, behind it", 0x5a, dealt[8]);
     return failed;
 }

@@ -55,6 +55,31 @@ class Cases(unittest.TestCase):
             self.assertEqual(back, made)
             self.assertEqual(case.parse(case.show(made)), made)
 
+    def test_cards(self):
+        head = "index 0\nobject 1\nbatch 1\ncutoff 1\n"
+        made = case.parse(head + "boxes 3\ncards 0 120\nturn 2 2\ncards 719\n")
+        self.assertEqual(made.turns, [(0, 1), (1, 2), (2, 0), (1, 0), (0, 2), (2, 1), (2, 2), (2, 1), (1, 0), (0, 2)])
+        self.assertEqual(case.parse(head + "boxes 1\ncards 5\n").turns, [(0, 0)])
+        self.assertEqual(len(case.parse(head + "boxes 6\ncards 5\n").turns), 6)
+        for lines in ("cards 0\nboxes 2", "boxes 2\ncards", "boxes 2\ncards 720", "boxes 0\ncards 0", "boxes 7\ncards 0"):
+            with self.assertRaises(case.Fault):
+                case.parse(head + lines + "\n")
+
+    def test_seed(self):
+        self.assertEqual(list(case.drawn(1, 0, 5)), [646, 603, 612, 243, 538])
+        self.assertEqual(list(case.drawn(2463534242, 0, 5)), [152, 660, 671, 130, 394])
+        self.assertEqual(list(case.drawn(2**32 - 1, 2**32 - 1, 5)), [99, 600, 257, 541, 489])
+        head = "index 0\nobject 1\nbatch 1\ncutoff 1\nboxes 4\n"
+        self.assertEqual(case.parse(head + "seed 1 0 rounds 3\n"), case.parse(head + "cards 646 603 612\n"))
+        self.assertEqual(case.parse(head + "seed 1 0 rounds 0\n").turns, [])
+        for line in ("seed 0 1 rounds 1", "seed 1 rounds 1", "seed 1 0 rounds", "seed 1 0 1", "seed 4294967296 0 rounds 1"):
+            with self.assertRaises(case.Fault):
+                case.parse(head + line + "\n")
+
+    def test_deck(self):
+        printed = (TOP / "crates" / "deck" / "stdout").read_text()
+        self.assertEqual(printed, "".join("".join(map(str, card)) + "\n" for card in case.DECK))
+
     def test_owners(self):
         sample = case.load_text(SAMPLE)
         shown = case.show(sample, bytes([1, 1, 1, 2, 0, 0]))

@@ -1,2 +1,3 @@
 pub mod Results
 pub mod Saving
+pub mod Seeds

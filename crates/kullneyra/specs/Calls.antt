@@ -4,10 +4,11 @@ use mathlib.Core.Path.{_≡_}
 use Prim.Native.Nat.{ℕ, zero, suc}
 use mathlib.Core.Bool.{Bool, true, false}
 use mathlib.Core.List.{List, [], _∷_}
-use lib.ListN.{length}
+use lib.ListN.{length, getD}
 use lib.Dec.{eqb}
 use Rattle.laws.specs.Choice.{pick}
 use Rattle.graph.specs.Graph.{graph, objects, partStart, partLength}
+use Rattle.cards.specs.Hand.{lengthOf, turnsOf}
 use Rattle.catalogue.specs.Answer.{Row, ReadRow, headerRow, taken, readRow, offsetsAfter, targetsAfter, sizesAfter, startsAfter}
 use Rattle.catalogue.specs.Reading.{Reading, refused}
 use Rattle.machine.specs.declared.Counts.{Counts}
@@ -19,6 +20,12 @@ use Rattle.sweep.specs.Sweep.{sweeping, listAfter}
 use Rattle.saved.specs.Layout.{savedWords}
 use Rattle.saved.specs.Calls.{beginFault, resumeFault, resumed, rowFor, bufferFor}
 use Rattle.resume.specs.Answer.{lengthFor}
+use Rattle.refusal.specs.Number.{number}
+use Rattle.seed.specs.declared.Seed.{Seed}
+use Rattle.seed.specs.declared.Drawn.{Drawn}
+use Rattle.seed.specs.declared.Drawn.the-variants.{Card, Refused}
+use Rattle.seed.specs.Draw.{next, drawn}
+use Rattle.seed.specs.Deal.{afterDraws, handOf, fault}
 
 -- 7 where the result words are not as many as the call has results, else what the call answers
 abbrev pub answerIn : ℕ → List ℕ → ℕ → ℕ
@@ -130,3 +137,45 @@ BeginsIn c marks work tallies w result =
 abbrev pub ResumesIn : Call → List ℕ → List ℕ → List ℕ → List ℕ → List ℕ → List ℕ → List ℕ → List ℕ → List ℕ → List ℕ → ℕ → Type 0
 ResumesIn c marks work tallies w result =
     SavesIn c (resumeFault c (length marks) (length work) (length tallies) w) (resumed c w) marks work tallies w result
+
+-- ---- schedule_length: bytes
+
+abbrev pub scheduleAnswer : ℕ → ℕ → List ℕ → ℕ
+scheduleAnswer W k result = answerIn 1 result (lengthOf W k .number)
+
+abbrev pub scheduleWords : ℕ → ℕ → List ℕ
+scheduleWords W k = lengthOf W k .bytes ∷ []
+
+-- ---- draw: the card; deal_seed: no results. The seed is two lent words.
+
+abbrev pub seedOf : List ℕ → Seed
+seedOf words = record { first = getD words 0 0; second = getD words 1 0 }
+
+abbrev pub seedWords : Seed → List ℕ
+seedWords s = s .first ∷ s .second ∷ []
+
+-- 0 and the card, or the number of the refusal and 0
+abbrev pub drawNumber : Drawn → ℕ
+drawNumber (Card c) = 0
+drawNumber (Refused r) = number r
+
+abbrev pub drawCard : Drawn → ℕ
+drawCard (Card c) = c
+drawCard (Refused r) = 0
+
+-- 7 where the seed is not two words, or the result words are not one
+abbrev pub drawAnswer : List ℕ → List ℕ → ℕ
+drawAnswer seed result = pick (eqb (length seed) 2) (answerIn 1 result (drawNumber (drawn (seedOf seed)))) 7
+
+pub record DrawsIn (seed result seed′ result′ : List ℕ) (answer : ℕ) : Type 0 where
+  pub answers : answer ≡ drawAnswer seed result
+  pub moves : seed′ ≡ wordsFor (drawAnswer seed result) (seedWords (next (seedOf seed))) seed
+  pub fills-result : result′ ≡ wordsFor (drawAnswer seed result) (drawCard (drawn (seedOf seed)) ∷ []) result
+
+abbrev pub dealAnswer : List ℕ → ℕ → ℕ → ℕ → ℕ
+dealAnswer seed k W long = pick (eqb (length seed) 2) (fault (seedOf seed) k W long) 7
+
+pub record DealsIn (seed : List ℕ) (k W : ℕ) (schedule seed′ schedule′ : List ℕ) (answer : ℕ) : Type 0 where
+  pub answers : answer ≡ dealAnswer seed k W (length schedule)
+  pub moves : seed′ ≡ wordsFor (dealAnswer seed k W (length schedule)) (seedWords (afterDraws k (seedOf seed))) seed
+  pub fills-schedule : schedule′ ≡ wordsFor (dealAnswer seed k W (length schedule)) (turnsOf W (handOf k (seedOf seed))) schedule

@@ -6,15 +6,19 @@ use machine::COUNTS;
 use machine::Counts;
 use marker::Marked;
 use resume::Length;
+use seed::Dealt;
+use seed::Drawn;
+use seed::Seed;
 use sweep::Swept;
 ghost use mathlib.Core.Path.{_≡_};
 ghost use mathlib.Core.List.{[], _∷_};
 ghost use Prim.Native.Nat.{_≤_};
 ghost use lib.ListN.{length};
 ghost use lib.Seq.{sets};
+ghost use Rattle.cards.specs.Hand.{fault, scheduleFor, turnsOf};
 ghost use Rattle.catalogue.specs.Answer.{row, foundRow, headerRow};
 ghost use Rattle.marker.specs.Answer.{callOf, row as markRow};
-ghost use Rattle.kullneyra.specs.Calls.{ReadsIn, headerAnswer, headerWords, readWords, wordsFor, partAnswer, partWords, sweepAnswer, sweepWords, sweepList, mark-words, resultWords, markWords, MarksIn, lengthAnswer, lengthWords, BeginsIn, ResumesIn};
+ghost use Rattle.kullneyra.specs.Calls.{ReadsIn, headerAnswer, headerWords, readWords, wordsFor, partAnswer, partWords, sweepAnswer, sweepWords, sweepList, mark-words, resultWords, markWords, MarksIn, lengthAnswer, lengthWords, BeginsIn, ResumesIn, scheduleAnswer, scheduleWords, seedWords, DrawsIn, DealsIn};
 
 // Result words of the marker: finished, and the counts.
 const MARK_WORDS: usize = 1 + COUNTS;
@@ -297,4 +301,91 @@ pub extern "C" fn kullneyra_resume(
         saved,
     );
     give_marked(answer, result)
+}
+
+// How many bytes the schedule of so many cards has; result words: bytes.
+#[no_mangle]
+pub extern "C" fn kullneyra_schedule_length(cards: usize, workers: u32, result: &mut [u64]) -> u32
+    ensures { λ r. ⌜ r ≡ scheduleAnswer workers cards (now (result .entry)) ⌝ }
+    ensures { λ r. ⌜ now (result .exit) ≡ wordsFor (scheduleAnswer workers cards (now (result .entry))) (scheduleWords workers cards) (now (result .entry)) ⌝ }
+{
+    if result.len() != 1 {
+        return 7;
+    }
+    match cards::schedule_length(cards, workers) {
+        cards::Length::Bytes(bytes) => {
+            result[0] = bytes as u64;
+            0
+        }
+        cards::Length::Refused(refusal) => refusal::number_of(refusal) as u32,
+    }
+}
+
+// The schedule of a hand of cards; there are no result words.
+#[no_mangle]
+pub extern "C" fn kullneyra_deal(cards: &[u32], workers: u32, schedule: &mut [u8]) -> u32
+    ensures { λ r. ⌜ r ≡ fault workers (now (cards .entry)) (length (now (schedule .entry))) ⌝ }
+    ensures { λ r. ⌜ now (schedule .exit) ≡ scheduleFor (fault workers (now (cards .entry)) (length (now (schedule .entry)))) (turnsOf workers (now (cards .entry))) (now (schedule .entry)) ⌝ }
+{
+    refusal::verdict_number(cards::deal(cards, workers, schedule)) as u32
+}
+
+// The two words of a seed.
+fn put_seed(seed: Seed, words: &mut [u32])
+    requires { ⌜ length (now words) ≡ 2 ⌝ }
+    ensures { λ _. ⌜ now (words .exit) ≡ seedWords seed ⌝ }
+{
+    words[0] = seed.first;
+    words[1] = seed.second;
+}
+
+// A draw, which moves the two words of the seed; result words: the card.
+#[no_mangle]
+pub extern "C" fn kullneyra_draw(seed: &mut [u32], result: &mut [u32]) -> u32
+    ensures { λ r. ⌜ DrawsIn (now (seed .entry)) (now (result .entry)) (now (seed .exit)) (now (result .exit)) r ⌝ }
+{
+    if seed.len() != 2 {
+        return 7;
+    }
+    if result.len() != 1 {
+        return 7;
+    }
+    let moved = seed::step(Seed {
+        first: seed[0],
+        second: seed[1],
+    });
+    match seed::card_of(moved) {
+        Drawn::Card(card) => {
+            put_seed(moved, seed);
+            result[0] = card;
+            0
+        }
+        Drawn::Refused(refusal) => refusal::number_of(refusal) as u32,
+    }
+}
+
+// The schedule of so many draws, which move the two words of the seed; there are no result words.
+#[no_mangle]
+pub extern "C" fn kullneyra_deal_seed(
+    seed: &mut [u32],
+    rounds: usize,
+    workers: u32,
+    schedule: &mut [u8],
+) -> u32
+    ensures { λ r. ⌜ DealsIn (now (seed .entry)) rounds workers (now (schedule .entry)) (now (seed .exit)) (now (schedule .exit)) r ⌝ }
+{
+    if seed.len() != 2 {
+        return 7;
+    }
+    let words = Seed {
+        first: seed[0],
+        second: seed[1],
+    };
+    match seed::deal(words, rounds, workers, schedule) {
+        Dealt::Moved(moved) => {
+            put_seed(moved, seed);
+            0
+        }
+        Dealt::Refused(refusal) => refusal::number_of(refusal) as u32,
+    }
 }

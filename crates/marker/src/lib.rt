@@ -46,7 +46,7 @@ pub fn refusal_of(marked: Marked) -> u8
 }
 
 // A number that is not 1 to the largest.
-fn out_of_range(x: usize, most: usize) -> bool
+pub fn out_of_range(x: usize, most: usize) -> bool
     ensures { λ r. ⌜ r ≡ outside most x ⌝ }
 {
     if x < 1 {

@@ -32,6 +32,10 @@ pub enum Refusal {
     Starts,
     // 14: saved words that hold no sound collection.
     Saved,
+    // 15: a card that is not in the deck, or more workers than a card has.
+    Cards,
+    // 16: a seed whose first word is 0.
+    Seed,
 }
 
 // What a check finds.
@@ -59,6 +63,8 @@ pub fn number_of(r: Refusal) -> u8
         Refusal::File => 12,
         Refusal::Starts => 13,
         Refusal::Saved => 14,
+        Refusal::Cards => 15,
+        Refusal::Seed => 16,
     }
 }
 

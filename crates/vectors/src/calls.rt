@@ -3,6 +3,7 @@ ghost use Prim.Native.Nat.{_≤_};
 ghost use Rattle.io.specs.Counts.{Counts};
 use crate::scan;
 use crate::show;
+use seed::Seed;
 
 fn least(a: usize, b: usize) -> usize
     ensures { λ r. ⌜ (r ≤ a) × (r ≤ b) ⌝ }
@@ -333,6 +334,46 @@ fn sweep_into(marks: &[u8], sizes: &[u64], list: &mut [u32]) {
     show::words(list);
 }
 
+fn cards(cells: &[u64], places: &[usize; 512]) {
+    let mut cards = [0u32; 64];
+    let mut workers = [0u32; 1];
+    let mut schedule = [0u8; 512];
+    let c = copy_words(cells, places, 0, &mut cards);
+    copy_words(cells, places, 1, &mut workers);
+    let s = copy_bytes(cells, places, 2, &mut schedule);
+    cards_into(&cards[..c], workers[0], &mut schedule[..s]);
+}
+
+fn cards_into(cards: &[u32], workers: u32, schedule: &mut [u8]) {
+    show::schedule_length(cards::schedule_length(cards.len(), workers));
+    io::write_all(1, b" |");
+    show::verdict(cards::deal(cards, workers, schedule));
+    show::bytes(schedule);
+}
+
+fn draw(cells: &[u64], places: &[usize; 512]) {
+    let mut words = [0u32; 2];
+    let mut setting = [0u32; 2];
+    let mut schedule = [0u8; 512];
+    copy_words(cells, places, 0, &mut words);
+    copy_words(cells, places, 1, &mut setting);
+    let s = copy_bytes(cells, places, 2, &mut schedule);
+    let seed = Seed {
+        first: words[0],
+        second: words[1],
+    };
+    draw_into(seed, setting[0], setting[1], &mut schedule[..s]);
+}
+
+fn draw_into(seed: Seed, rounds: u32, workers: u32, schedule: &mut [u8]) {
+    let moved = seed::step(seed);
+    show::drawn(seed::card_of(moved));
+    show::seed(moved);
+    io::write_all(1, b" |");
+    show::dealt(seed::deal(seed, rounds as usize, workers, schedule));
+    show::bytes(schedule);
+}
+
 // The call of a kind, and the line that answers it.
 pub fn call(kind: u8, text: &[u8], cells: &[u64], places: &[usize; 512]) {
     let rest = scan::behind(text, b':');
@@ -344,6 +385,8 @@ pub fn call(kind: u8, text: &[u8], cells: &[u64], places: &[usize; 512]) {
         b'w' => saved_length(cells, places),
         b'b' => save(kind, cells, places),
         b'g' => save(kind, cells, places),
+        b'c' => cards(cells, places),
+        b'd' => draw(cells, places),
         _ => sweep(cells, places),
     }
     io::write_all(1, b"\n");

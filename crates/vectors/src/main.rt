@@ -8,6 +8,8 @@
 //     begin NAME: OFFSETS | TARGETS | STARTS | W D K | SCHEDULE | MARKS | WORK | TALLIES | SAVED
 //     go on NAME: the same, with what is saved
 //     sweep NAME: MARKS | SIZES | LIST
+//     cards NAME: CARDS | W | SCHEDULE                 the length of so many cards' turns, then the turns
+//     draw NAME: SEED | ROUNDS W | SCHEDULE            one draw, then the turns of so many draws
 //
 // and a line that begins with no small letter is a comment. A list is words with a space between
 // them: 12 is a number, 12:4 its four lowest bytes, the lowest first, S the numbers under a letter,

@@ -6,7 +6,11 @@ use machine::COUNTS;
 use machine::Counts;
 use marker::Marked;
 use refusal::Refusal;
+use refusal::Verdict;
 use resume::Length;
+use seed::Dealt;
+use seed::Drawn;
+use seed::Seed;
 use sweep::Swept;
 
 fn number(n: u64) {
@@ -87,6 +91,48 @@ pub fn length(l: Length) {
     }
 }
 
+pub fn schedule_length(l: cards::Length) {
+    match l {
+        cards::Length::Bytes(bytes) => number(bytes as u64),
+        cards::Length::Refused(r) => refused(r),
+    }
+}
+
+pub fn verdict(v: Verdict) {
+    match v {
+        Verdict::Fine => {
+            io::write_all(1, b" dealt");
+        }
+        Verdict::Faulty(r) => refused(r),
+    }
+}
+
+pub fn seed(s: Seed) {
+    number(s.first as u64);
+    number(s.second as u64);
+}
+
+pub fn drawn(d: Drawn) {
+    match d {
+        Drawn::Card(card) => {
+            io::write_all(1, b" card");
+            number(card as u64);
+        }
+        Drawn::Refused(r) => refused(r),
+    }
+    io::write_all(1, b" |");
+}
+
+pub fn dealt(d: Dealt) {
+    match d {
+        Dealt::Moved(s) => {
+            io::write_all(1, b" moved");
+            seed(s);
+        }
+        Dealt::Refused(r) => refused(r),
+    }
+}
+
 // A number that was shown so many times in a row.
 struct Run {
     n: u64,
@@ -147,7 +193,7 @@ fn list(bytes: &[u8], words: &[u32], longs: &[u64], count: usize) {
     finish(run);
 }
 
-fn bytes(numbers: &[u8]) {
+pub fn bytes(numbers: &[u8]) {
     list(numbers, &[], &[], numbers.len());
 }
 

@@ -51,7 +51,7 @@ pub struct Times {
 }
 
 impl Times {
-    fn of<const N: usize>(medians: &Medians<N>) -> Self {
+    pub fn of<const N: usize>(medians: &Medians<N>) -> Self {
         let tuned = medians.over.get(2).copied();
         Times { proved: medians.times[0], reference: medians.times[1], ratio: medians.over[1], tuned }
     }

@@ -1,4 +1,4 @@
-//! Measures reader, marker, sweep and stopping: the proved library and the specification in plain Rust, interleaved on the
+//! Measures reader, marker, sweep, stopping and the schedule of a hand: the proved library and the specification in plain Rust, interleaved on the
 //! same input; for the marker also a tuned machine in safe Rust, and a plain depth-first marking as the floor.
 //!
 //! ```text
@@ -8,6 +8,7 @@
 
 mod calls;
 mod graphs;
+mod hands;
 mod measure;
 mod plot;
 mod table;
@@ -74,7 +75,8 @@ fn main() -> io::Result<()> {
     let graphs = graphs::all();
     let read = call_rows(&graphs, Graph::m, |graph| calls::read(graph, repetitions));
     let sweep = call_rows(&graphs, Graph::n, |graph| calls::sweep(graph, repetitions));
-    eprintln!("bench: read and swept");
+    let deal = hands::deal_rows(repetitions);
+    eprintln!("bench: read, swept and dealt");
     let marks = mark_rows(&graphs, repetitions);
     let stops = stop_rows(&graphs, repetitions);
     let growth = growth_rows(repetitions);
@@ -86,6 +88,7 @@ fn main() -> io::Result<()> {
         table::calls("Reader", "reference", &read),
         table::marks(&marks),
         table::calls("Sweep", "object", &sweep),
+        table::calls("Schedule of a hand and of a seed", "turn", &deal),
         table::stops(&stops),
         table::growth(&growth),
         table::goals(&marks),

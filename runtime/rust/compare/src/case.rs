@@ -41,6 +41,24 @@ pub enum Call {
         mark: Mark,
         saved: Vec<u32>,
     },
+    Length {
+        cards: usize,
+        workers: u32,
+    },
+    Deal {
+        cards: Vec<u32>,
+        workers: u32,
+        schedule: usize,
+    },
+    Draw {
+        seed: Vec<u32>,
+    },
+    DealSeed {
+        seed: Vec<u32>,
+        rounds: usize,
+        workers: u32,
+        schedule: usize,
+    },
 }
 
 #[derive(Clone, Debug, PartialEq, Eq)]
@@ -98,15 +116,31 @@ impl Case {
     }
 
     /// Whether the call can be made by the functions with Rust's own types.
-    pub fn has_right_result(&self) -> bool {
-        self.result == self.call.result_words()
+    pub fn is_typed(&self) -> bool {
+        let whole = match &self.call {
+            Call::Draw { seed } | Call::DealSeed { seed, .. } => seed.len() == 2,
+            _ => true,
+        };
+        whole && self.result == self.call.result_words()
     }
 }
 
 impl Call {
-    pub const CALLS: usize = 8;
-    pub const NAMES: [&'static str; Self::CALLS] =
-        ["header", "read", "references", "mark", "sweep", "saved words", "begin", "resume"];
+    pub const CALLS: usize = 12;
+    pub const NAMES: [&'static str; Self::CALLS] = [
+        "header",
+        "read",
+        "references",
+        "mark",
+        "sweep",
+        "saved words",
+        "begin",
+        "resume",
+        "length",
+        "deal",
+        "draw",
+        "deal seed",
+    ];
 
     pub fn place(&self) -> usize {
         match self {
@@ -118,13 +152,17 @@ impl Call {
             Call::SavedWords { .. } => 5,
             Call::Begin { .. } => 6,
             Call::Resume { .. } => 7,
+            Call::Length { .. } => 8,
+            Call::Deal { .. } => 9,
+            Call::Draw { .. } => 10,
+            Call::DealSeed { .. } => 11,
         }
     }
 
-    /// The right length of the result buffer.
+    /// The right length of the result buffer; 0 for a call that has none.
     pub fn result_words(&self) -> usize {
         const MARKED: usize = reference::Outcome::WORDS;
-        [3, 4, 2, MARKED, 2, 1, MARKED, MARKED][self.place()]
+        [3, 4, 2, MARKED, 2, 1, MARKED, MARKED, 1, 0, 1, 0][self.place()]
     }
 
     /// The answers that the specification has for this call.
@@ -138,6 +176,10 @@ impl Call {
             &[0, 4, 7, 8],
             &[0, 4, 5, 7, 8, 9, 10, 13],
             &[0, 4, 5, 7, 8, 9, 10, 13, 14],
+            &[0, 7, 8, 15],
+            &[0, 7, 8, 15],
+            &[0, 7, 16],
+            &[0, 7, 8, 15, 16],
         ];
         ANSWERS[place]
     }
@@ -225,6 +267,16 @@ impl fmt::Display for Case {
             Call::Resume { mark, saved } => {
                 write!(f, "{mark}")?;
                 list(f, "saved", saved)?;
+            }
+            Call::Length { cards, workers } => writeln!(f, "  W {workers}, {cards} cards")?,
+            Call::Deal { cards, workers, schedule } => {
+                list(f, "cards", cards)?;
+                writeln!(f, "  W {workers}, length: schedule {schedule}")?;
+            }
+            Call::Draw { seed } => list(f, "seed", seed)?,
+            Call::DealSeed { seed, rounds, workers, schedule } => {
+                list(f, "seed", seed)?;
+                writeln!(f, "  rounds {rounds}, W {workers}, length: schedule {schedule}")?;
             }
         }
         writeln!(f, "  length: result {}", self.result)

@@ -10,7 +10,7 @@ use reference::{Tally, LARGEST_SIZE, MOST_LEASES, STARTS};
 
 /// A small case.
 pub fn small(rng: &mut Rng) -> Case {
-    let call = match rng.below(32) {
+    let call = match rng.below(36) {
         0 | 1 => Call::Header { bytes: catalogue(rng).0 },
         2..=8 => read(rng),
         9 | 10 => references(rng),
@@ -18,10 +18,73 @@ pub fn small(rng: &mut Rng) -> Case {
         18 | 19 => sweep(rng),
         20 => saved_words(rng),
         21..=24 => begin(rng),
-        _ => resume(rng),
+        25..=31 => resume(rng),
+        32 => length(rng),
+        33 => deal(rng),
+        34 => Call::Draw { seed: seed(rng) },
+        _ => deal_seed(rng),
     };
-    let result = damage::length_once_in(rng, 30, call.result_words());
+    let result = match call.result_words() {
+        0 => 0,
+        words => damage::length_once_in(rng, 30, words),
+    };
     Case { result, fill: rng.word(), call }
+}
+
+/// W for cards, now and then out of range or more than a card has.
+fn card_workers(rng: &mut Rng) -> u32 {
+    let any = rng.word() as u32;
+    match rng.below(4) {
+        0 => rng.pick(&[0, 7, 8, 16, 17, u32::MAX, any]),
+        _ => rng.between(1, 6) as u32,
+    }
+}
+
+fn length(rng: &mut Rng) -> Call {
+    let workers = card_workers(rng);
+    let most = usize::MAX / (2 * (workers as usize).clamp(1, 6));
+    let any = rng.word() as usize;
+    let few = rng.below(1_000);
+    Call::Length { cards: rng.pick(&[few, 0, most - 1, most, most + 1, usize::MAX, any]), workers }
+}
+
+/// A seed: any two words, some at the edges, some with a first word of 0, and now and then not two.
+fn seed(rng: &mut Rng) -> Vec<u32> {
+    let any = [rng.word() as u32, rng.word() as u32];
+    let first = rng.pick(&[any[0], any[0], any[0], 0, 1, 1 << 31, u32::MAX]);
+    let second = rng.pick(&[any[1], any[1], 0, u32::MAX, u32::MAX - 362_436]);
+    match rng.below(20) {
+        0 => vec![first; rng.pick(&[0, 1, 3])],
+        _ => vec![first, second],
+    }
+}
+
+fn deal_seed(rng: &mut Rng) -> Call {
+    let workers = card_workers(rng);
+    let most = rng.pick(&[1, 3, 40]);
+    let rounds = rng.below(most + 1);
+    let schedule = damage::length_once_in(rng, 6, 2 * (workers as usize).min(40) * rounds);
+    // More rounds than any buffer holds, too.
+    let rounds = rng.pick(&[rounds, rounds, rounds, rounds, rounds, rounds, usize::MAX, usize::MAX / 2 + 1 + rounds]);
+    Call::DealSeed { seed: seed(rng), rounds, workers, schedule }
+}
+
+/// Cards of the deck, so many.
+fn cards(rng: &mut Rng, count: usize) -> Vec<u32> {
+    (0..count).map(|_| rng.below(reference::DECK as usize) as u32).collect()
+}
+
+fn deal(rng: &mut Rng) -> Call {
+    let workers = card_workers(rng);
+    let most = rng.pick(&[1, 3, 40]);
+    let count = rng.below(most + 1);
+    let mut cards = cards(rng, count);
+    if rng.once_in(6) && !cards.is_empty() {
+        let at = rng.below(cards.len());
+        cards[at] = rng.pick(&[719, 720, 721, u32::MAX, 1_000]);
+    }
+    let schedule = damage::length_once_in(rng, 6, 2 * (workers as usize).min(40) * cards.len());
+    Call::Deal { cards, workers, schedule }
 }
 
 fn small_store(rng: &mut Rng) -> Store {
@@ -262,6 +325,12 @@ fn schedule(rng: &mut Rng, call: &Mark) -> Vec<u8> {
             workers * (7 * leaving + workers)
         }
     };
+    if workers <= 6 && rng.once_in(4) {
+        let hand = cards(rng, turns / workers);
+        let mut schedule = vec![0; 2 * workers * hand.len()];
+        reference::deal(&hand, call.workers, &mut schedule).expect("a hand");
+        return schedule;
+    }
     let (order, naming) = (rng.below(6), rng.below(6));
     let mut schedule = Vec::with_capacity(2 * turns);
     for worker in workers_in_turn(rng, order, workers, turns) {

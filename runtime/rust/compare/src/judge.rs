@@ -10,7 +10,7 @@ use std::collections::BTreeSet;
 pub fn judge(case: &Case) -> Result<After, String> {
     let wanted = after(case, &Reference);
     let got = same(case, &Proved, &wanted).map_err(|what| format!("library against reference: {what}"))?;
-    if case.has_right_result() {
+    if case.is_typed() {
         same(case, &Typed, &wanted).map_err(|what| format!("library by its Rust types against reference: {what}"))?;
     }
     same(case, &Tuned, &wanted).map_err(|what| format!("tuned Rust against reference: {what}"))?;
@@ -68,6 +68,23 @@ pub fn demands(case: &Case, got: &After) -> Result<(), String> {
     match &case.call {
         Call::Mark(call) | Call::Begin { mark: call, .. } if got.number == 0 => run_demands(call, got),
         Call::Resume { mark, .. } if got.number == 0 => resumed_demands(mark, got),
+        Call::Deal { cards, workers, .. } if got.number == 0 => {
+            let schedule: Vec<u8> = got.lent(0).iter().map(|&byte| byte as u8).collect();
+            match stretches(&schedule, *workers) == cards.len() as u64 {
+                true => Ok(()),
+                false => Err("does not hold: each card is a stretch".into()),
+            }
+        }
+        Call::Draw { .. } if got.number == 0 && got.lent(0)[0] == 0 => {
+            Err("does not hold: a first word other than 0 never becomes 0".into())
+        }
+        Call::DealSeed { rounds, workers, .. } if got.number == 0 => {
+            let schedule: Vec<u8> = got.lent(1).iter().map(|&byte| byte as u8).collect();
+            match stretches(&schedule, *workers) == *rounds as u64 {
+                true => Ok(()),
+                false => Err("does not hold: each draw is a stretch".into()),
+            }
+        }
         _ => Ok(()),
     }
 }

@@ -22,6 +22,10 @@ pub trait Side {
     fn saved_words(&self, objects: u32, workers: u32, result: &mut [u64]) -> u32;
     fn begin(&self, call: &Mark, lent: &mut Buffers<'_>) -> u32;
     fn resume(&self, call: &Mark, lent: &mut Buffers<'_>) -> u32;
+    fn schedule_length(&self, cards: usize, workers: u32, result: &mut [u64]) -> u32;
+    fn deal(&self, cards: &[u32], workers: u32, schedule: &mut [u8]) -> u32;
+    fn draw(&self, seed: &mut [u32], result: &mut [u32]) -> u32;
+    fn deal_seed(&self, seed: &mut [u32], rounds: usize, workers: u32, schedule: &mut [u8]) -> u32;
 }
 
 /// What is lent to the calls that save.
@@ -80,6 +84,22 @@ impl Side for Proved {
         let Mark { offsets, targets, starts, workers, batch, cutoff, schedule, .. } = call;
         let Buffers { marks, work, tallies, saved, result } = lent;
         raw::resume(offsets, targets, starts, *workers, *batch, *cutoff, schedule, marks, work, tallies, saved, result)
+    }
+
+    fn schedule_length(&self, cards: usize, workers: u32, result: &mut [u64]) -> u32 {
+        raw::schedule_length(cards, workers, result)
+    }
+
+    fn deal(&self, cards: &[u32], workers: u32, schedule: &mut [u8]) -> u32 {
+        raw::deal(cards, workers, schedule)
+    }
+
+    fn draw(&self, seed: &mut [u32], result: &mut [u32]) -> u32 {
+        raw::draw(seed, result)
+    }
+
+    fn deal_seed(&self, seed: &mut [u32], rounds: usize, workers: u32, schedule: &mut [u8]) -> u32 {
+        raw::deal_seed(seed, rounds, workers, schedule)
     }
 }
 
@@ -156,6 +176,28 @@ impl Side for Typed {
         let answer = kullneyra::resume(&c.offsets, &c.targets, starts, settings, schedule, marks, work, tallies, saved);
         written(answer.map(Marked::words), result, Refusal::number)
     }
+
+    fn schedule_length(&self, cards: usize, workers: u32, result: &mut [u64]) -> u32 {
+        written(kullneyra::schedule_length(cards, workers).map(|bytes| [bytes]), result, Refusal::number)
+    }
+
+    fn deal(&self, cards: &[u32], workers: u32, schedule: &mut [u8]) -> u32 {
+        kullneyra::deal(cards, workers, schedule).map_or_else(Refusal::number, |()| 0)
+    }
+
+    fn draw(&self, seed: &mut [u32], result: &mut [u32]) -> u32 {
+        let mut words = kullneyra::Seed { first: seed[0], second: seed[1] };
+        let answer = words.draw();
+        seed.copy_from_slice(&[words.first, words.second]);
+        written(answer.map(|card| [card]), result, Refusal::number)
+    }
+
+    fn deal_seed(&self, seed: &mut [u32], rounds: usize, workers: u32, schedule: &mut [u8]) -> u32 {
+        let mut words = kullneyra::Seed { first: seed[0], second: seed[1] };
+        let answer = words.deal(rounds, workers, schedule);
+        seed.copy_from_slice(&[words.first, words.second]);
+        answer.map_or_else(Refusal::number, |()| 0)
+    }
 }
 
 /// The specification in plain Rust; the result buffer's length is looked at first, as the C header says.
@@ -219,6 +261,40 @@ impl Side for Reference {
     fn resume(&self, call: &Mark, lent: &mut Buffers<'_>) -> u32 {
         saved_by(reference::resume, call, lent)
     }
+
+    fn schedule_length(&self, cards: usize, workers: u32, result: &mut [u64]) -> u32 {
+        if result.len() != 1 {
+            return WRONG_LENGTH;
+        }
+        written(reference::schedule_length(cards as u64, workers).map(|bytes| [bytes]), result, u32::from)
+    }
+
+    fn deal(&self, cards: &[u32], workers: u32, schedule: &mut [u8]) -> u32 {
+        reference::deal(cards, workers, schedule).map_or_else(u32::from, |()| 0)
+    }
+
+    fn draw(&self, seed: &mut [u32], result: &mut [u32]) -> u32 {
+        let &mut [first, second] = seed else {
+            return WRONG_LENGTH;
+        };
+        if result.len() != 1 {
+            return WRONG_LENGTH;
+        }
+        let mut words = reference::Seed { first, second };
+        let answer = reference::draw(&mut words);
+        seed.copy_from_slice(&[words.first, words.second]);
+        written(answer.map(|card| [card]), result, u32::from)
+    }
+
+    fn deal_seed(&self, seed: &mut [u32], rounds: usize, workers: u32, schedule: &mut [u8]) -> u32 {
+        let &mut [first, second] = seed else {
+            return WRONG_LENGTH;
+        };
+        let mut words = reference::Seed { first, second };
+        let answer = reference::deal_seed(&mut words, rounds, workers, schedule);
+        seed.copy_from_slice(&[words.first, words.second]);
+        answer.map_or_else(u32::from, |()| 0)
+    }
 }
 
 /// What the proved calls are measured against; where there is no tuned call, the plain one.
@@ -263,6 +339,22 @@ impl Side for Tuned {
 
     fn resume(&self, call: &Mark, lent: &mut Buffers<'_>) -> u32 {
         Reference.resume(call, lent)
+    }
+
+    fn schedule_length(&self, cards: usize, workers: u32, result: &mut [u64]) -> u32 {
+        Reference.schedule_length(cards, workers, result)
+    }
+
+    fn deal(&self, cards: &[u32], workers: u32, schedule: &mut [u8]) -> u32 {
+        Reference.deal(cards, workers, schedule)
+    }
+
+    fn draw(&self, seed: &mut [u32], result: &mut [u32]) -> u32 {
+        Reference.draw(seed, result)
+    }
+
+    fn deal_seed(&self, seed: &mut [u32], rounds: usize, workers: u32, schedule: &mut [u8]) -> u32 {
+        Reference.deal_seed(seed, rounds, workers, schedule)
     }
 }
 
@@ -344,6 +436,22 @@ impl Side for Untouched {
     fn resume(&self, _: &Mark, _: &mut Buffers<'_>) -> u32 {
         0
     }
+
+    fn schedule_length(&self, _: usize, _: u32, _: &mut [u64]) -> u32 {
+        0
+    }
+
+    fn deal(&self, _: &[u32], _: u32, _: &mut [u8]) -> u32 {
+        0
+    }
+
+    fn draw(&self, _: &mut [u32], _: &mut [u32]) -> u32 {
+        0
+    }
+
+    fn deal_seed(&self, _: &mut [u32], _: usize, _: u32, _: &mut [u8]) -> u32 {
+        0
+    }
 }
 
 /// Elements on either side of a lent buffer that no call may touch.
@@ -367,10 +475,10 @@ where
         Lent(all.collect())
     }
 
-    /// One that holds these elements.
-    fn holding(all: &[T], fill: u64, mask: u64) -> Self {
-        let mut lent = Lent::new(all.len(), fill, mask);
-        lent.part().copy_from_slice(all);
+    /// A buffer that the call reads, too: these elements between their guards.
+    fn holding(elements: &[T], fill: u64, mask: u64) -> Self {
+        let mut lent = Lent::new(elements.len(), fill, mask);
+        lent.part().copy_from_slice(elements);
         lent
     }
 
@@ -491,6 +599,28 @@ pub fn after(case: &Case, side: &dyn Side) -> After {
             let (mut list, mut result) = (words(*list, case.fill(1)), longs(case.result, case.fill(0)));
             let number = side.sweep(marks, sizes, list.part(), result.part());
             After { number, buffers: vec![("list", Whole::Words(list.0)), ("result", Whole::Longs(result.0))] }
+        }
+        Call::Length { cards, workers } => {
+            let mut result = longs(case.result, case.fill(0));
+            let number = side.schedule_length(*cards, *workers, result.part());
+            After { number, buffers: vec![("result", Whole::Longs(result.0))] }
+        }
+        Call::Deal { cards, workers, schedule } => {
+            let mut schedule = bytes(*schedule, case.fill(1));
+            let number = side.deal(cards, *workers, schedule.part());
+            After { number, buffers: vec![("schedule", Whole::Bytes(schedule.0))] }
+        }
+        Call::Draw { seed } => {
+            let mut result = words(case.result, case.fill(0));
+            let mut seed = Lent::holding(seed, case.fill(1), 0xffff_ffff);
+            let number = side.draw(seed.part(), result.part());
+            After { number, buffers: vec![("seed", Whole::Words(seed.0)), ("result", Whole::Words(result.0))] }
+        }
+        Call::DealSeed { seed, rounds, workers, schedule } => {
+            let mut seed = Lent::holding(seed, case.fill(1), 0xffff_ffff);
+            let mut schedule = bytes(*schedule, case.fill(2));
+            let number = side.deal_seed(seed.part(), *rounds, *workers, schedule.part());
+            After { number, buffers: vec![("seed", Whole::Words(seed.0)), ("schedule", Whole::Bytes(schedule.0))] }
         }
     }
 }

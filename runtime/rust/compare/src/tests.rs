@@ -41,6 +41,12 @@ enum Fault {
     /// Whatever was saved is taken up without moved's bound, or without that of the sinces.
     MovedNotLooked,
     SinceNotLooked,
+    /// The last worker of a round asks itself.
+    LastAsksItself,
+    /// A refused draw moves the second word.
+    RefusedSeedMoved,
+    /// The seed is moved by one draw too few.
+    SeedOneDrawBehind,
 }
 
 impl Side for Fault {
@@ -150,11 +156,43 @@ impl Side for Fault {
             _ => number,
         }
     }
+
+    fn schedule_length(&self, cards: usize, workers: u32, result: &mut [u64]) -> u32 {
+        Reference.schedule_length(cards, workers, result)
+    }
+
+    fn deal(&self, cards: &[u32], workers: u32, schedule: &mut [u8]) -> u32 {
+        let number = Reference.deal(cards, workers, schedule);
+        if *self == Fault::LastAsksItself && number == 0 {
+            schedule
+                .chunks_exact_mut(2 * workers as usize)
+                .for_each(|round| round[round.len() - 1] = round[round.len() - 2]);
+        }
+        number
+    }
+
+    fn draw(&self, seed: &mut [u32], result: &mut [u32]) -> u32 {
+        let number = Reference.draw(seed, result);
+        if *self == Fault::RefusedSeedMoved && number == 16 {
+            seed[1] = seed[1].wrapping_add(362_437);
+        }
+        number
+    }
+
+    fn deal_seed(&self, seed: &mut [u32], rounds: usize, workers: u32, schedule: &mut [u8]) -> u32 {
+        let before = seed.to_vec();
+        let number = Reference.deal_seed(seed, rounds, workers, schedule);
+        if *self == Fault::SeedOneDrawBehind && number == 0 && rounds > 0 {
+            seed.copy_from_slice(&before);
+            (1..rounds).for_each(|_| assert_eq!(Reference.draw(seed, &mut [0]), 0));
+        }
+        number
+    }
 }
 
 /// The first small case in which the faulty side differs.
 fn found(fault: Fault) -> Option<u64> {
-    (LARGE..LARGE + 3_000).find(|&number| {
+    (LARGE..LARGE + 10_000).find(|&number| {
         let case = case_of(SEED, number);
         same(&case, &fault, &after(&case, &Reference)).is_err()
     })
@@ -179,6 +217,9 @@ fn faults_are_found() {
     assert!(found(Fault::UnsoundBeforeSchedule).is_some());
     assert!(found(Fault::MovedNotLooked).is_some());
     assert!(found(Fault::SinceNotLooked).is_some());
+    assert!(found(Fault::LastAsksItself).is_some());
+    assert!(found(Fault::RefusedSeedMoved).is_some());
+    assert!(found(Fault::SeedOneDrawBehind).is_some());
 }
 
 #[test]
@@ -186,6 +227,19 @@ fn a_case_depends_on_its_seed_and_number_alone() {
     assert_eq!(case_of(7, 1_234), case_of(7, 1_234));
     assert_ne!(case_of(7, 1_234), case_of(8, 1_234));
     assert_ne!(case_of(7, 1_234), case_of(7, 1_235));
+}
+
+/// A million draws of the library and of the reference.
+#[test]
+fn a_million_draws() {
+    for (first, second) in [(1, 0), (2_463_534_242, 123_456_789)] {
+        let (mut seed, mut wanted) = (kullneyra::Seed { first, second }, reference::Seed { first, second });
+        for _ in 0..500_000 {
+            assert_eq!(seed.draw().ok(), reference::draw(&mut wanted).ok());
+            assert_eq!((seed.first, seed.second), (wanted.first, wanted.second));
+            assert_ne!(seed.first, 0);
+        }
+    }
 }
 
 /// Demands that are broken on purpose: one mark, work word or tally of a good answer changed.

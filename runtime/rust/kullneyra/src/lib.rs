@@ -110,6 +110,10 @@ pub const STARTS: usize = MOST_LEASES + 1;
 pub const MOST_WORKERS: u32 = 16;
 /// The largest batch and the largest cutoff of a marking.
 pub const MOST_SETTING: u32 = 65_535;
+/// How many cards the deck has; they are numbered from 0.
+pub const DECK: u32 = 720;
+/// The most workers that cards deal turns to.
+pub const CARD_WORKERS: u32 = 6;
 
 /// Why a call is refused: the table of the specification, section 2.
 #[derive(Clone, Copy, Debug, PartialEq, Eq, Hash)]
@@ -139,12 +143,16 @@ pub enum Refusal {
     Starts,
     /// 14: saved words that hold no sound collection of this graph, these starts and these settings.
     Saved,
+    /// 15: a card that is not in the deck, or more than [`CARD_WORKERS`] workers.
+    Cards,
+    /// 16: a seed whose first word is 0.
+    Seed,
     /// A number that this crate has no name for: the library is newer than the crate.
     Other(u32),
 }
 
 /// The refusals that have a name.
-const NAMED: [Refusal; 12] = [
+const NAMED: [Refusal; 14] = [
     Refusal::Short,
     Refusal::Kind,
     Refusal::Place,
@@ -157,6 +165,8 @@ const NAMED: [Refusal; 12] = [
     Refusal::Graph,
     Refusal::Starts,
     Refusal::Saved,
+    Refusal::Cards,
+    Refusal::Seed,
 ];
 
 impl Refusal {
@@ -179,6 +189,8 @@ impl Refusal {
             Refusal::Graph => (10, "offsets and targets that are no graph"),
             Refusal::Starts => (13, "no start, or too many leases"),
             Refusal::Saved => (14, "saved words that hold no sound collection"),
+            Refusal::Cards => (15, "a card that is not in the deck, or more workers than a card has"),
+            Refusal::Seed => (16, "the first word of a seed is 0"),
             Refusal::Other(number) => (number, "a number newer than this crate"),
         }
     }
@@ -547,6 +559,72 @@ pub fn sweep(marks: &[u8], sizes: &[u64], list: &mut [u32]) -> Result<Swept, Ref
     Ok(Swept { count, freed })
 }
 
+/// How many bytes the schedule of so many cards has: two for each worker, for each card.
+pub fn schedule_length(cards: usize, workers: u32) -> Result<u64, Refusal> {
+    let mut result = [0];
+    answer(raw::schedule_length(cards, workers, &mut result))?;
+    Ok(result[0])
+}
+
+/// Writes the schedule of a hand of cards into a buffer of exactly [`schedule_length`] bytes. Each card is a round in which
+/// every worker has a turn, in the card's order, and asks the one after it, the last the first.
+///
+/// ```
+/// use kullneyra::deal;
+///
+/// // Card 0 is 012345 and card 719 is 543210; with two workers the others are skipped.
+/// let mut schedule = [0; 8];
+/// deal(&[0, 719], 2, &mut schedule)?;
+/// assert_eq!(schedule, [0, 1, 1, 0, 1, 0, 0, 1]);
+/// # Ok::<(), kullneyra::Refusal>(())
+/// ```
+pub fn deal(cards: &[u32], workers: u32, schedule: &mut [u8]) -> Result<(), Refusal> {
+    answer(raw::deal(cards, workers, schedule))
+}
+
+/// Two words from which cards are drawn; each draw moves them on. The first is not 0, and never becomes 0.
+///
+/// ```
+/// use kullneyra::{deal, Seed};
+///
+/// let mut seed = Seed { first: 1, second: 0 };
+/// let mut again = seed;
+/// assert_eq!([seed.draw()?, seed.draw()?], [646, 603]);
+///
+/// // The schedule of two draws is that of the two cards, and it leaves the seed as the draws do.
+/// let (mut drawn, mut written) = ([0; 12], [0; 12]);
+/// again.deal(2, 3, &mut drawn)?;
+/// deal(&[646, 603], 3, &mut written)?;
+/// assert_eq!((drawn, again), (written, seed));
+/// # Ok::<(), kullneyra::Refusal>(())
+/// ```
+#[derive(Clone, Copy, Debug, PartialEq, Eq, Hash)]
+pub struct Seed {
+    /// Moved by a xorshift of 32 bits.
+    pub first: u32,
+    /// Grows by 362,437 at each draw.
+    pub second: u32,
+}
+
+impl Seed {
+    /// Draws a card. A seed that is refused is not moved.
+    pub fn draw(&mut self) -> Result<u32, Refusal> {
+        let (mut words, mut result) = ([self.first, self.second], [0]);
+        answer(raw::draw(&mut words, &mut result))?;
+        [self.first, self.second] = words;
+        Ok(result[0])
+    }
+
+    /// Writes the schedule of so many draws into a buffer of exactly the [`schedule_length`] of so many cards. Beside a
+    /// refusal the seed is not moved.
+    pub fn deal(&mut self, rounds: usize, workers: u32, schedule: &mut [u8]) -> Result<(), Refusal> {
+        let mut words = [self.first, self.second];
+        answer(raw::deal_seed(&mut words, rounds, workers, schedule))?;
+        [self.first, self.second] = words;
+        Ok(())
+    }
+}
+
 #[cfg(test)]
 mod tests {
     use super::*;
@@ -555,7 +633,7 @@ mod tests {
 
     #[test]
     fn numbers_are_places_in_the_table() {
-        for number in (1..=10).chain([13, 14]) {
+        for number in (1..=10).chain([13, 14, 15, 16]) {
             let refusal = Refusal::of(number);
             assert!(!matches!(refusal, Refusal::Other(_)));
             assert_eq!(refusal.number(), number);
@@ -659,6 +737,48 @@ mod tests {
         assert_eq!(begun.map(|marked| (marked.finished, marked.live)), Ok((false, 1)));
         let taken = resume(&[0, 0], &[], &[0], settings, one, &mut marks, &mut work, &mut words, saved);
         assert_eq!(taken.map(|marked| (marked.finished, marked.moved)), Ok((true, 1)));
+    }
+
+    #[test]
+    fn cards_to_the_last() {
+        let mut schedule = [9; 12];
+        assert_eq!(deal(&[DECK - 1], CARD_WORKERS, &mut schedule), Ok(()));
+        assert_eq!(schedule, [5, 4, 4, 3, 3, 2, 2, 1, 1, 0, 0, 5]);
+        let before = schedule;
+        assert_eq!(deal(&[DECK], CARD_WORKERS, &mut schedule), Err(Refusal::Cards));
+        assert_eq!(deal(&[0], CARD_WORKERS + 1, &mut schedule), Err(Refusal::Cards));
+        assert_eq!(deal(&[DECK], 0, &mut schedule), Err(Refusal::Setting));
+        assert_eq!(deal(&[0, 0], CARD_WORKERS, &mut schedule), Err(Refusal::Buffer));
+        assert_eq!(schedule, before);
+        assert_eq!(schedule_length(1, CARD_WORKERS), Ok(12));
+        assert_eq!(schedule_length(0, 1), Ok(0));
+        assert_eq!(schedule_length(1, CARD_WORKERS + 1), Err(Refusal::Cards));
+        assert_eq!(schedule_length(1, MOST_WORKERS + 1), Err(Refusal::Setting));
+        let most = usize::MAX / 12;
+        assert_eq!(schedule_length(most, CARD_WORKERS), Ok(12 * most as u64));
+        assert_eq!(schedule_length(most + 1, CARD_WORKERS), Err(Refusal::Buffer));
+    }
+
+    #[test]
+    fn draws_of_known_seeds() {
+        for (first, second, cards) in [
+            (1, 0, [646, 603, 612, 243, 538]),
+            (2_463_534_242, 0, [152, 660, 671, 130, 394]),
+            (u32::MAX, u32::MAX, [99, 600, 257, 541, 489]),
+        ] {
+            let mut seed = Seed { first, second };
+            assert_eq!([0; 5].map(|_| seed.draw()), cards.map(Ok));
+        }
+        let mut none = Seed { first: 0, second: 5 };
+        assert_eq!(none.draw(), Err(Refusal::Seed));
+        let mut schedule = [9; 4];
+        assert_eq!(none.deal(2, 0, &mut schedule), Err(Refusal::Setting));
+        assert_eq!(none.deal(2, 7, &mut schedule), Err(Refusal::Seed));
+        assert_eq!(none, Seed { first: 0, second: 5 });
+        let mut one = Seed { first: 1, second: 5 };
+        assert_eq!(one.deal(2, 7, &mut schedule), Err(Refusal::Cards));
+        assert_eq!(one.deal(1, 1, &mut schedule), Err(Refusal::Buffer));
+        assert_eq!((one, schedule), (Seed { first: 1, second: 5 }, [9; 4]));
     }
 
     #[test]

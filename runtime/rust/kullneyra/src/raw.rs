@@ -107,6 +107,23 @@ mod c {
             result: *mut u64,
             result_len: usize,
         ) -> u32;
+        pub fn kullneyra_schedule_length(cards: usize, workers: u32, result: *mut u64, result_len: usize) -> u32;
+        pub fn kullneyra_deal(
+            cards: *const u32,
+            cards_len: usize,
+            workers: u32,
+            schedule: *mut u8,
+            schedule_len: usize,
+        ) -> u32;
+        pub fn kullneyra_draw(seed: *mut u32, seed_len: usize, result: *mut u32, result_len: usize) -> u32;
+        pub fn kullneyra_deal_seed(
+            seed: *mut u32,
+            seed_len: usize,
+            rounds: usize,
+            workers: u32,
+            schedule: *mut u8,
+            schedule_len: usize,
+        ) -> u32;
     }
 }
 
@@ -312,5 +329,31 @@ pub fn sweep(marks: &[u8], sizes: &[u64], list: &mut [u32], result: &mut [u64]) 
             result.as_mut_ptr(),
             result.len(),
         )
+    }
+}
+
+/// How many bytes the schedule of so many cards has. Result words: bytes.
+pub fn schedule_length(cards: usize, workers: u32, result: &mut [u64]) -> u32 {
+    // SAFETY: as in `header`.
+    unsafe { c::kullneyra_schedule_length(cards, workers, result.as_mut_ptr(), result.len()) }
+}
+
+/// The schedule of a hand of cards. There are no result words.
+pub fn deal(cards: &[u32], workers: u32, schedule: &mut [u8]) -> u32 {
+    // SAFETY: as in `header`.
+    unsafe { c::kullneyra_deal(cards.as_ptr(), cards.len(), workers, schedule.as_mut_ptr(), schedule.len()) }
+}
+
+/// A draw, which moves the two words of the seed. Result words: the card.
+pub fn draw(seed: &mut [u32], result: &mut [u32]) -> u32 {
+    // SAFETY: as in `header`.
+    unsafe { c::kullneyra_draw(seed.as_mut_ptr(), seed.len(), result.as_mut_ptr(), result.len()) }
+}
+
+/// The schedule of so many draws, which move the two words of the seed. There are no result words.
+pub fn deal_seed(seed: &mut [u32], rounds: usize, workers: u32, schedule: &mut [u8]) -> u32 {
+    // SAFETY: as in `header`.
+    unsafe {
+        c::kullneyra_deal_seed(seed.as_mut_ptr(), seed.len(), rounds, workers, schedule.as_mut_ptr(), schedule.len())
     }
 }

@@ -3,16 +3,20 @@
 //!
 //! Every call answers `Err(number)` with the specification's number and leaves the lent buffers alone.
 
+mod cards;
 mod catalogue;
 mod machine;
 mod report;
 mod saved;
+mod seed;
 mod sweep;
 
+pub use cards::{deal, deck, schedule_length, CARD_WORKERS, DECK};
 pub use catalogue::{header, part, read, references, Contents, Header};
 pub use machine::{depth_first, mark, tallies, Call, Outcome, Tally};
 pub use report::report;
 pub use saved::{begin, resume, saved_words, unsound, Places, FORM};
+pub use seed::{deal_seed, draw, Seed};
 pub use sweep::{sweep, Swept};
 
 pub const MOST_OBJECTS: usize = 65_536;
