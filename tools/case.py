@@ -1,8 +1,9 @@
 #!/usr/bin/env python3
-"""A case written by hand, to and from the two files that the program reads.
+"""A case written by hand, to and from the files that the programs read.
 
-    case.py make CASE.txt FOLDER    writes FOLDER/store.cat and FOLDER/order.run
-    case.py show FOLDER             prints the case that the two files hold
+    case.py make CASE.txt FOLDER    writes FOLDER/store.cat and FOLDER/order.run; FOLDER/collection.saved
+                                    too if the case tells of a stopped collection
+    case.py show FOLDER             prints the case that these files hold
     case.py show FOLDER --marks M   the same, with who claimed each object: M holds the marks that a
                                     marking of the case left, a byte for each object
 
@@ -21,6 +22,19 @@ A case is lines of words. '#' begins a comment, blank lines are skipped.
                           with their number. Those below it have a turn each, in the card's order, and
                           each names the next, the last the first
     seed A B rounds N     the rounds of N cards drawn from the seed of these two words
+
+A stopped collection, which the program pause takes up, stands behind all of that. What is not told is 0.
+
+    saved TURNS           the first so many turns of the order were made; once, before the other lines
+    form F                the number of the form, where it is not 1
+    count NAME N          NAME is live, followed, handed, refused, moved or carrying
+    box BOX STATUS cell ASKER since S batch N
+                          STATUS is idle, asking, denied, ended, given, poll, look, claim or another
+                          number; ASKER is '-' if the cell is empty
+    tally BOX followed F won W lost L handed H
+    mark OBJECT MARK
+    run BOX FIRST END     the references FIRST to END - 1; a box's runs in stored order, the run that
+                          is followed first last
 
 Numbers are decimal, and have only to fit their fields: a case may break the rules of the store on
 purpose, to see which number the program refuses it with.
@@ -44,6 +58,13 @@ SETTINGS_FORMAT = struct.Struct("<BHH")
 
 BYTE, WORD, LONG = 0xFF, 0xFFFFFFFF, 0xFFFFFFFFFFFFFFFF
 
+# The saved words of a stopped collection: the counts and statuses in their order, and the numbers of a tally.
+SAVED_NAME = "collection.saved"
+FORM = 1
+COUNTS = ("live", "followed", "handed", "refused", "moved", "carrying")
+STATUSES = ("idle", "asking", "denied", "ended", "given", "poll", "look", "claim")
+TALLY = ("followed", "won", "lost", "handed")
+
 # The cards: every order of six boxes, ascending.
 CARD_BOXES = 6
 DECK = list(permutations(range(CARD_BOXES)))
@@ -57,6 +78,19 @@ class Fault(Exception):
 
 
 @dataclass
+class Saved:
+    """A stopped collection, of which no word need be right. A box is its status, cell, since and batch as they are saved."""
+
+    made: int
+    form: int = FORM
+    counts: dict[str, int] = field(default_factory=dict)
+    boxes: dict[int, list[int]] = field(default_factory=dict)
+    tallies: dict[int, list[int]] = field(default_factory=dict)
+    marks: dict[int, int] = field(default_factory=dict)
+    runs: dict[int, list[tuple[int, int]]] = field(default_factory=dict)
+
+
+@dataclass
 class Case:
     """A store and an order; pairs are (from, to) and (box, asked)."""
 
@@ -66,6 +100,7 @@ class Case:
     leases: list[int] = field(default_factory=list)
     settings: dict[str, int] = field(default_factory=dict)
     turns: list[tuple[int, int]] = field(default_factory=list)
+    saved: Optional[Saved] = None
 
 
 def number(word: str, limit: int, where: str) -> int:
@@ -98,6 +133,43 @@ def drawn(first: int, second: int, rounds: int) -> Iterator[int]:
         first ^= first << 5 & WORD
         second = second + SEED_STEP & WORD
         yield (first + second & WORD) % len(DECK)
+
+
+def named(words: list[str], names: tuple[str, ...]) -> Optional[list[str]]:
+    """The words behind these names, if the words are each name and one word behind it."""
+    return words[1::2] if tuple(words[::2]) == names and len(words) == 2 * len(names) else None
+
+
+def told(table: dict, at: int, value) -> bool:
+    """Takes the value in, unless there is one for this number."""
+    fresh = at not in table
+    table.setdefault(at, value)
+    return fresh
+
+
+def parse_saved(saved: Saved, name: str, rest: list[str], where: str) -> bool:
+    """Takes one line of a stopped collection in; false if it is none, or tells what was told before."""
+    if name == "form" and len(rest) == 1 and saved.form == FORM:
+        saved.form = number(rest[0], WORD, where)
+        return True
+    if name == "count" and len(rest) == 2 and rest[0] in COUNTS and rest[0] not in saved.counts:
+        saved.counts[rest[0]] = number(rest[1], LONG, where)
+        return True
+    if name == "mark" and len(rest) == 2:
+        at, mark = pair(rest, WORD, where)
+        return told(saved.marks, at, mark)
+    if name == "run" and len(rest) == 3:
+        saved.runs.setdefault(number(rest[0], BYTE, where), []).append(pair(rest[1:], WORD, where))
+        return True
+    if name == "tally" and (words := named(rest[1:], TALLY)):
+        box = number(rest[0], BYTE, where)
+        return told(saved.tallies, box, [number(word, LONG, where) for word in words])
+    if name == "box" and len(rest) > 1 and (words := named(rest[2:], ("cell", "since", "batch"))):
+        box, status = number(rest[0], BYTE, where), rest[1]
+        code = STATUSES.index(status) if status in STATUSES else number(status, WORD, where)
+        cell = 0 if words[0] == "-" else number(words[0], WORD - 1, where) + 1
+        return told(saved.boxes, box, [code, cell, number(words[1], WORD, where), number(words[2], WORD, where)])
+    return False
 
 
 def parse(text: str) -> Case:
@@ -133,6 +205,10 @@ def parse(text: str) -> Case:
                 raise Fault(f"{where}: the first word of a seed is not 0")
             for card in drawn(first, second, number(rest[3], WORD, where)):
                 case.turns += dealt(case.settings.get("boxes"), card, where)
+        elif name == "saved" and len(rest) == 1 and case.saved is None:
+            case.saved = Saved(number(rest[0], WORD, where))
+        elif case.saved is not None and parse_saved(case.saved, name, rest, where):
+            pass
         else:
             raise Fault(f"{where}: cannot be read here: {line.strip()}")
     if case.index is None:
@@ -160,6 +236,58 @@ def order_bytes(case: Case) -> bytes:
     """order.run"""
     head = SETTINGS_FORMAT.pack(*(case.settings[name] for name in SETTINGS))
     return head + bytes(byte for turn in case.turns for byte in turn)
+
+
+def stretch_pairs(case: Case) -> int:
+    """How many pairs of words each box has for its runs."""
+    return len(case.sizes) + 2
+
+
+def saved_bytes(case: Case) -> bytes:
+    """collection.saved"""
+    saved, boxes, objects = case.saved, case.settings["boxes"], len(case.sizes)
+    for told, most in ((saved.boxes, boxes), (saved.tallies, boxes), (saved.runs, boxes), (saved.marks, objects)):
+        if any(at >= most for at in told):
+            raise Fault(f"the stopped collection tells of {max(told)}, where there are {most}")
+    parts = [struct.pack("<II", saved.made, saved.form)]
+    parts.append(struct.pack("<6Q", *(saved.counts.get(name, 0) for name in COUNTS)))
+    parts += [struct.pack("<4I", *saved.boxes.get(box, [0] * 4)) for box in range(boxes)]
+    parts += [struct.pack("<4Q", *saved.tallies.get(box, [0] * 4)) for box in range(boxes)]
+    parts.append(struct.pack(f"<{objects}I", *(saved.marks.get(v, 0) for v in range(objects))))
+    for box in range(boxes):
+        runs = saved.runs.get(box, [])
+        if len(runs) > stretch_pairs(case):
+            raise Fault(f"box {box} has room for {stretch_pairs(case)} runs, not for {len(runs)}")
+        parts += [struct.pack("<II", *run) for run in runs]
+        parts.append(bytes(8 * (stretch_pairs(case) - len(runs))))
+    return b"".join(parts)
+
+
+def read_saved(case: Case, data: bytes) -> Saved:
+    """The stopped collection of this case that the file holds; zeros are not told."""
+    boxes, objects, pairs = case.settings["boxes"], len(case.sizes), stretch_pairs(case)
+    # A pair of words for each place of a run; no native sizes, so nothing is padded.
+    layout = struct.Struct(f"<2I6Q{4 * boxes}I{4 * boxes}Q{objects}I{2 * pairs * boxes}I")
+    if len(data) != layout.size:
+        raise Fault(f"collection.saved: {len(data)} bytes, where this store and these boxes have {layout.size}")
+    words = iter(layout.unpack(data))
+
+    def take(count: int) -> list[int]:
+        return [next(words) for _ in range(count)]
+
+    saved = Saved(*take(2))
+    saved.counts = {name: count for name, count in zip(COUNTS, take(6)) if count}
+    saved.boxes = {box: state for box in range(boxes) if any(state := take(4))}
+    saved.tallies = {box: tally for box in range(boxes) if any(tally := take(4))}
+    saved.marks = {v: mark for v, mark in enumerate(take(objects)) if mark}
+    for box in range(boxes):
+        stretch = take(2 * pairs)
+        runs = list(zip(stretch[::2], stretch[1::2]))
+        while runs and runs[-1] == (0, 0):
+            runs.pop()
+        if runs:
+            saved.runs[box] = runs
+    return saved
 
 
 def records(data: bytes) -> Iterator[tuple[int, bytes]]:
@@ -228,7 +356,21 @@ def show(case: Case, marks: Optional[bytes] = None) -> str:
     lines += [f"lease {lease}" for lease in case.leases]
     lines += [f"{name} {case.settings[name]}" for name in SETTINGS]
     lines += [f"turn {box} {asked}" for box, asked in case.turns]
+    lines += show_saved(case.saved) if case.saved else []
     return "\n".join(lines) + "\n"
+
+
+def show_saved(saved: Saved) -> list[str]:
+    """The lines of a stopped collection."""
+    lines = [f"saved {saved.made}"] + ([f"form {saved.form}"] if saved.form != FORM else [])
+    lines += [f"count {name} {count}" for name, count in saved.counts.items()]
+    for box, (code, cell, since, batch) in saved.boxes.items():
+        status = STATUSES[code] if code < len(STATUSES) else code
+        lines.append(f"box {box} {status} cell {cell - 1 if cell else '-'} since {since} batch {batch}")
+    for box, tally in saved.tallies.items():
+        lines.append(" ".join([f"tally {box}", *(f"{name} {count}" for name, count in zip(TALLY, tally))]))
+    lines += [f"mark {v} {mark}" for v, mark in saved.marks.items()]
+    return lines + [f"run {box} {first} {end}" for box, runs in saved.runs.items() for first, end in runs]
 
 
 def load_text(path: Path) -> Case:
@@ -237,15 +379,21 @@ def load_text(path: Path) -> Case:
 
 
 def save(case: Case, folder: Path) -> None:
-    """Writes the two files; the folder is made if it is not there."""
+    """Writes the files; the folder is made if it is not there."""
+    files = {"store.cat": store_bytes(case), "order.run": order_bytes(case)}
+    if case.saved:
+        files[SAVED_NAME] = saved_bytes(case)
     folder.mkdir(parents=True, exist_ok=True)
-    (folder / "store.cat").write_bytes(store_bytes(case))
-    (folder / "order.run").write_bytes(order_bytes(case))
+    for name, data in files.items():
+        (folder / name).write_bytes(data)
 
 
 def load(folder: Path) -> Case:
-    """The case in the two files of a folder."""
-    return read((folder / "store.cat").read_bytes(), (folder / "order.run").read_bytes())
+    """The case in the files of a folder."""
+    case = read((folder / "store.cat").read_bytes(), (folder / "order.run").read_bytes())
+    if (folder / SAVED_NAME).exists():
+        case.saved = read_saved(case, (folder / SAVED_NAME).read_bytes())
+    return case
 
 
 class Parser(argparse.ArgumentParser):
@@ -259,10 +407,10 @@ class Parser(argparse.ArgumentParser):
 def arguments(words: list[str]) -> argparse.Namespace:
     parser = Parser(prog="case.py", description=__doc__, formatter_class=argparse.RawDescriptionHelpFormatter)
     commands = parser.add_subparsers(dest="command", metavar="make | show", required=True)
-    make = commands.add_parser("make", help="writes store.cat and order.run")
+    make = commands.add_parser("make", help="writes store.cat and order.run, and collection.saved")
     make.add_argument("case", type=Path, metavar="CASE.txt")
     make.add_argument("folder", type=Path, metavar="FOLDER")
-    shown = commands.add_parser("show", help="prints the case that the two files hold")
+    shown = commands.add_parser("show", help="prints the case that the files hold")
     shown.add_argument("folder", type=Path, metavar="FOLDER")
     shown.add_argument("--marks", type=Path, metavar="M", help="the marks that a marking of the case left")
     return parser.parse_args(words)

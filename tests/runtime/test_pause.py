@@ -3,12 +3,16 @@
 import random
 import struct
 import subprocess
+import sys
 import tempfile
 import time
 import unittest
 from pathlib import Path
 
 TOP = Path(__file__).resolve().parents[2]
+sys.path.insert(0, str(TOP / "tools"))
+import case  # noqa: E402
+
 PROGRAMS = {"pause": TOP / "target/cargo/release/pause", "collect": TOP / "target/bin/collect"}
 SAVED = "collection.saved"
 SEED = 6
@@ -94,6 +98,17 @@ class Pause(unittest.TestCase):
         (self.folder / "store.cat").write_bytes(catalogue(self.rng, 60, 150))
         self.assertEqual(self.run_program("pause"), "refusal 14\n")
         self.assertEqual(self.saved(), kept)
+
+    def test_as_text(self):
+        """A stopped collection told as text is the same file, and can be written by hand."""
+        self.run_program("pause", "500")
+        kept = self.saved()
+        told = case.parse(case.show(case.load(self.folder)))
+        case.save(told, self.folder)
+        self.assertEqual(self.saved(), kept)
+        told.saved.counts["live"] += 1
+        case.save(told, self.folder)
+        self.assertEqual(self.run_program("pause"), "refusal 14\n")
 
     def test_file_that_cannot_be_read(self):
         (self.folder / SAVED).mkdir()

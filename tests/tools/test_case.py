@@ -1,6 +1,7 @@
 """Tests of tools/case.py: both ways, and what it refuses."""
 
 import random
+import struct
 import subprocess
 import sys
 import tempfile
@@ -15,6 +16,7 @@ SAMPLE = TOP / "samples" / "a.txt"
 
 
 def some_case(rng):
+    references = rng.randrange(6)
     return case.Case(
         index=rng.randrange(10),
         sizes=[rng.randrange(2**64) for _ in range(rng.randrange(6))],
@@ -22,6 +24,21 @@ def some_case(rng):
         leases=[rng.randrange(2**32) for _ in range(rng.randrange(4))],
         settings={"boxes": rng.randrange(256), "batch": rng.randrange(65536), "cutoff": rng.randrange(65536)},
         turns=[(rng.randrange(256), rng.randrange(256)) for _ in range(rng.randrange(6))],
+    )
+
+
+def some_saved(rng, boxes, objects):
+    """A stopped collection with any words, told as `read_saved` tells it: without zeros."""
+    some = lambda count: [k for k in range(count) if rng.random() < 0.5]
+    above = lambda most: rng.randrange(1, most)
+    return case.Saved(
+        made=rng.randrange(2**32),
+        form=rng.choice([1, 1, 0, 2**32 - 1]),
+        counts={name: above(2**64) for name in case.COUNTS if rng.random() < 0.5},
+        boxes={box: [rng.randrange(10), rng.randrange(2**32), rng.randrange(9), above(9)] for box in some(boxes)},
+        tallies={box: [rng.randrange(2**64), 0, rng.randrange(9), above(9)] for box in some(boxes)},
+        marks={v: above(2**32) for v in some(objects)},
+        runs={box: [(0, 0)] * rng.randrange(2) + [(rng.randrange(2**32), above(9))] for box in some(boxes)},
     )
 
 
@@ -54,6 +71,66 @@ class Cases(unittest.TestCase):
             back = case.read(case.store_bytes(made), case.order_bytes(made))
             self.assertEqual(back, made)
             self.assertEqual(case.parse(case.show(made)), made)
+
+    def test_saved_there_and_back(self):
+        rng = random.Random(6)
+        for _ in range(300):
+            made = some_case(rng)
+            made.settings["boxes"] = rng.randrange(5)
+            made.saved = some_saved(rng, made.settings["boxes"], len(made.sizes))
+            data = case.saved_bytes(made)
+            self.assertEqual(case.read_saved(made, data), made.saved)
+            self.assertEqual(case.parse(case.show(made)), made)
+            for damaged in (data[:-1], data + b"\0", b""):
+                with self.assertRaises(case.Fault):
+                    case.read_saved(made, damaged)
+
+    def test_saved_words(self):
+        """Case B: what the first five turns of the sample leave, word by word."""
+        lines = """
+            saved 5
+            count live 2
+            count followed 1
+            count handed 1
+            count moved 5
+            count carrying 2
+            box 0 look cell - since 0 batch 1
+            box 1 given cell - since 0 batch 0
+            tally 0 followed 1 won 1 lost 0 handed 1
+            mark 0 1
+            mark 1 1
+            run 0 1 2
+            run 1 2 3
+        """
+        sample = case.parse(SAMPLE.read_text() + lines)
+        words = [5, 1, 2, 0, 1, 0, 1, 0, 0, 0, 5, 0, 2, 0, 6, 0, 0, 1, 4, 0, 0, 0, 1, 0, 1, 0, 0, 0, 1, 0] + [0] * 8
+        words += [1, 1, 0, 0, 0, 0, 1, 2] + [0] * 14 + [2, 3] + [0] * 14
+        self.assertEqual(case.saved_bytes(sample), struct.pack(f"<{len(words)}I", *words))
+        self.assertEqual(case.show_saved(sample.saved), [line.strip() for line in lines.strip().splitlines()])
+
+    def test_saved_refused(self):
+        head = SAMPLE.read_text() + "saved 0\n"
+        unread = """
+            saved 0
+            count dead 1
+            box 0 idle
+            box 0 busy cell - since 0 batch 0
+            box 0 idle cell - since 0
+            box 0 idle cell 4294967295 since 0 batch 0
+            tally 0 followed 1 won 1 lost 1
+            run 0 1
+            run 256 0 1
+        """
+        twice = ("count live 1\n" * 2, "mark 0 1\n" * 2, "box 1 idle cell - since 0 batch 0\n" * 2)
+        for line in (*unread.strip().splitlines(), *twice):
+            with self.assertRaises(case.Fault, msg=line):
+                case.parse(head + line + "\n")
+        with self.assertRaises(case.Fault):
+            case.parse(SAMPLE.read_text() + "mark 0 1\n")
+        beyond = ("box 2 idle cell - since 0 batch 0", "tally 2 followed 0 won 0 lost 0 handed 0", "run 2 0 1", "mark 6 1")
+        for line in (*beyond, "run 0 0 1\n" * 9):
+            with self.assertRaises(case.Fault, msg=line):
+                case.saved_bytes(case.parse(head + line + "\n"))
 
     def test_cards(self):
         head = "index 0\nobject 1\nbatch 1\ncutoff 1\n"

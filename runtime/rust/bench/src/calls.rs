@@ -187,18 +187,23 @@ pub fn mark(graph: &Graph, settings: Settings, repetitions: usize) -> Marking {
     Marking { medians, turns: turns.len() / 2, followed: outcome.followed, handed: outcome.handed }
 }
 
-/// A collection that is stopped and taken up: its times, in nanoseconds.
+/// A collection that is stopped and taken up, in nanoseconds.
 pub struct Stops {
-    /// A call without a turn: the marker's, which checks and starts, and the one that takes up what half of the turns left.
+    /// The proved marker's call without a turn, which checks and starts.
     pub checked: f64,
+    /// Taking up what half of the turns left, without a turn: proved, and in plain Rust.
     pub taken: f64,
-    /// Taking up over the checks.
+    pub taken_reference: f64,
+    /// Taking up over the checks, and over taking up in plain Rust.
     pub over_checked: f64,
-    /// All turns in one call of the marker, and in 100 calls that save.
+    pub over_reference: f64,
+    /// All turns in one call of the proved marker, and in 100 calls that save: proved, and in plain Rust.
     pub whole: f64,
     pub parts: f64,
-    /// 100 calls over one.
+    pub parts_reference: f64,
+    /// 100 calls over one, and over 100 calls in plain Rust.
     pub over_whole: f64,
+    pub parts_over_reference: f64,
 }
 
 /// How many calls a collection is cut into.
@@ -207,54 +212,76 @@ pub const PARTS: usize = 100;
 /// The buffers with the saved words.
 type Saving = (Buffers, Vec<u32>);
 
-/// One call that saves: the collection begun, or taken up.
-fn run_part(graph: &Graph, settings: Settings, part: &[u8], fresh: bool, (b, saved): &mut Saving) -> kullneyra::Marked {
+/// One proved call that saves: the collection begun, or taken up. The counts as words.
+fn run_part(graph: &Graph, settings: Settings, part: &[u8], fresh: bool, (b, saved): &mut Saving) -> [u64; 7] {
     let Graph { offsets, targets, .. } = graph;
     let Buffers { marks, work, tallies, .. } = b;
-    let call = if fresh { kullneyra::begin } else { kullneyra::resume };
+    let run = if fresh { kullneyra::begin } else { kullneyra::resume };
     let part = Schedule::from_bytes(part);
-    call(offsets, targets, &[0], settings, part, marks, work, tallies, saved).expect("a call")
+    run(offsets, targets, &[0], settings, part, marks, work, tallies, saved).expect("a call").words()
 }
 
-/// Taking up beside a fresh call's checks, and 100 calls beside one.
+/// The same in plain Rust.
+fn run_reference_part(graph: &Graph, settings: Settings, part: &[u8], fresh: bool, saving: &mut Saving) -> [u64; 7] {
+    let (Buffers { marks, work, tallies, .. }, saved) = saving;
+    let run = if fresh { reference::begin } else { reference::resume };
+    run(call(graph, settings, part), marks, work, tallies, saved).expect("a call").words()
+}
+
+/// A call that saves, on one of the sides.
+type Part = fn(&Graph, Settings, &[u8], bool, &mut Saving) -> [u64; 7];
+
+/// Taking up beside a fresh call's checks, 100 calls beside one, and both beside plain Rust.
 pub fn stops(graph: &Graph, settings: Settings, repetitions: usize) -> Stops {
     let workers = settings.workers as usize;
     let mut buffers = Buffers::new(graph, workers);
     let turns = schedule(graph, settings, &mut buffers);
-    let wanted = run_proved(graph, settings, &turns, &mut buffers);
+    let wanted = run_proved(graph, settings, &turns, &mut buffers).words();
     let mut saving = (buffers, vec![1; kullneyra::saved_words(graph.n(), workers)]);
     let each = 2 * (turns.len() / 2).div_ceil(PARTS);
-    let in_parts = |saving: &mut Saving| {
-        let mut last = kullneyra::Marked::default();
+    let in_parts = |run: Part, saving: &mut Saving| {
+        let mut last = [0; 7];
         for (k, part) in turns.chunks(each).enumerate() {
-            last = run_part(graph, settings, part, k == 0, saving);
+            last = run(graph, settings, part, k == 0, saving);
         }
         last
     };
-    assert_eq!(in_parts(&mut saving), wanted);
+    assert_eq!(in_parts(run_part, &mut saving), wanted);
+    let words = saving.1.clone();
+    assert_eq!((in_parts(run_reference_part, &mut saving), &saving.1), (wanted, &words));
 
     let parts = |saving: &mut Saving| {
-        black_box(in_parts(saving));
+        black_box(in_parts(run_part, saving));
+    };
+    let parts_reference = |saving: &mut Saving| {
+        black_box(in_parts(run_reference_part, saving));
     };
     let whole = |saving: &mut Saving| {
         black_box(run_proved(graph, settings, &turns, &mut saving.0));
     };
-    let long = medians(&mut saving, repetitions, [&parts, &whole]);
+    let long = medians(&mut saving, repetitions, [&parts, &parts_reference, &whole]);
 
     run_part(graph, settings, &turns[..turns.len() / 4 * 2], true, &mut saving);
     let taken = |saving: &mut Saving| {
         black_box(run_part(graph, settings, &[], false, saving));
     };
+    let taken_reference = |saving: &mut Saving| {
+        black_box(run_reference_part(graph, settings, &[], false, saving));
+    };
     let checked = |saving: &mut Saving| {
         black_box(run_proved(graph, settings, &[], &mut saving.0));
     };
-    let short = medians(&mut saving, repetitions, [&taken, &checked]);
+    let short = medians(&mut saving, repetitions, [&taken, &taken_reference, &checked]);
     Stops {
-        checked: short.times[1],
+        checked: short.times[2],
         taken: short.times[0],
-        over_checked: short.over[1],
-        whole: long.times[1],
+        taken_reference: short.times[1],
+        over_checked: short.over[2],
+        over_reference: short.over[1],
+        whole: long.times[2],
         parts: long.times[0],
-        over_whole: long.over[1],
+        parts_reference: long.times[1],
+        over_whole: long.over[2],
+        parts_over_reference: long.over[1],
     }
 }

@@ -81,17 +81,21 @@ pub fn marks(rows: &[MarkRow]) -> String {
 }
 
 const STOPS_HEAD: &str = "\
-| Store | W | a call's checks, µs | taking up, µs | taking up : checks | one call, µs | 100 calls, µs | 100 calls : one |
-|---|--:|--:|--:|--:|--:|--:|--:|
+| Store | W | a call's checks, µs | taking up, µs | Rust, µs | : checks | : Rust | one call, µs | 100 calls, µs | Rust, µs | : one | : Rust |
+|---|--:|--:|--:|--:|--:|--:|--:|--:|--:|--:|--:|
 ";
 
 pub fn stops(rows: &[(&'static str, u32, Stops)]) -> String {
     let mut text = format!("## Stopping and going on, D 64, K 64\n\n{STOPS_HEAD}");
     for (graph, workers, stops) in rows {
-        let Stops { checked, taken, over_checked, whole, parts, over_whole } = stops;
-        let [checked, taken, whole, parts] = [checked, taken, whole, parts].map(|time| time / 1_000.0);
-        write!(text, "| {graph} | {workers} | {checked:.1} | {taken:.1} | {over_checked:.2} |").expect("text");
-        writeln!(text, " {whole:.1} | {parts:.1} | {over_whole:.2} |").expect("text");
+        let Stops { checked, taken, taken_reference, over_checked, over_reference, .. } = stops;
+        let [checked, taken, reference] = [checked, taken, taken_reference].map(|time| time / 1_000.0);
+        write!(text, "| {graph} | {workers} | {checked:.1} | {taken:.1} | {reference:.1} |").expect("text");
+        write!(text, " {over_checked:.2} | {over_reference:.2} |").expect("text");
+        let Stops { whole, parts, parts_reference, over_whole, parts_over_reference, .. } = stops;
+        let [whole, parts, reference] = [whole, parts, parts_reference].map(|time| time / 1_000.0);
+        write!(text, " {whole:.1} | {parts:.1} | {reference:.1} |").expect("text");
+        writeln!(text, " {over_whole:.2} | {parts_over_reference:.2} |").expect("text");
     }
     text + "\n"
 }

@@ -133,7 +133,7 @@ fn schedule(rng: &mut Rng, schedule: &mut Vec<u8>, workers: u32) {
         _ if turns == 0 => schedule.extend([workers as u8, 0]),
         _ => {
             let at = 2 * rng.pick(&[0, turns - 1, turns / 2]);
-            schedule[at] = rng.pick(&[workers as u8, workers as u8 + 1, 255, 16]);
+            schedule[at] = rng.pick(&[workers as u8, (workers as u8).wrapping_add(1), 255, 16]);
         }
     }
 }

@@ -243,6 +243,29 @@ impl Words<'_> {
         }
     }
 
+    /// One of the bounds on moved, handed, the sinces and refused is passed, by as little as can be.
+    fn exceed(&mut self, rng: &mut Rng, b: usize) {
+        let m = self.call.targets.len() as u64;
+        match rng.below(4) {
+            0 => put_number(&mut self.all, MOVED, 7 * m + self.places.workers as u64 + 1),
+            1 => {
+                let most = 3 * m / u64::from(self.call.cutoff);
+                let more = (most + 1) as i64 - number(&self.all, HANDED) as i64;
+                self.add(HANDED, more);
+                self.add_to_tally(b, TALLY_HANDED, more);
+            }
+            2 => {
+                let sinces: u64 = (0..self.places.workers).map(|a| u64::from(self.worker(a)[2])).sum();
+                let more = (number(&self.all, FOLLOWED) + 1).saturating_sub(sinces) as u32;
+                self.worker(b)[2] += more;
+            }
+            _ => {
+                let moved = number(&self.all, MOVED);
+                put_number(&mut self.all, REFUSED, moved + 1);
+            }
+        }
+    }
+
     /// Some idle workers end.
     fn end(&mut self) {
         if number(&self.all, CARRYING) == 0 {
@@ -269,11 +292,15 @@ pub fn written(rng: &mut Rng, call: &Mark, saved: Vec<u32>, changes: usize) -> V
     words.all
 }
 
-/// One change that may leave the words sound or not.
+/// One change that may leave the words sound or not; one in four just passes a bound.
 pub fn changed(rng: &mut Rng, call: &Mark, saved: Vec<u32>) -> Vec<u32> {
     let mut words = Words { call, places: call.places(), all: saved };
     let (b, c) = (rng.below(words.places.workers), rng.below(words.places.workers));
-    words.change(rng, b, c);
+    if rng.once_in(4) {
+        words.exceed(rng, b);
+    } else {
+        words.change(rng, b, c);
+    }
     words.all
 }
 
