@@ -19,3 +19,4 @@ pub mod Demand3
 pub mod Instances
 pub mod Lamp
 pub mod Tallies
+pub mod Waiting

@@ -17,3 +17,4 @@ pub mod Tally
 pub mod Run
 pub mod Sound
 pub mod Split
+pub mod Waiting

@@ -19,14 +19,16 @@ use Rattle.graph.specs.Chain.{reached, leavingReached}
 use Rattle.graph.proofs.OverMarked.{over-degree, over-total}
 use Rattle.graph.proofs.Reached.{reached-length}
 use Rattle.machine.specs.Run.{Run}
-use Rattle.machine.specs.Machine.{Setting, State, Entry, Worker, idle, asking, denied, ended, given, busy, worker, runsOf, carriedBy}
+use Rattle.machine.specs.Machine.{Setting, State, Entry, Worker, idle, asking, denied, ended, given, busy, worker, runsOf, carriedBy, turns}
 use Rattle.machine.specs.Accepted.{Accepted}
 use Rattle.machine.specs.Sound.{Within, WholeInside, Carries, Working, WorkerSound, heldSum, runsSum, Sound}
 use Rattle.machine.specs.Demand2.{outcome}
 use Rattle.machine.specs.Demand3.{stretchBound, handedBound}
+use Rattle.machine.specs.Waiting.{Waits}
 use Rattle.machine.proofs.Facts.{runs-room, runs-within}
 use Rattle.machine.proofs.Demand3.{demand3}
-use Rattle.machine.proofs.Start.{sound}
+use Rattle.machine.proofs.Start.{sound, sound-turns}
+use Rattle.machine.proofs.Waiting.{waits-all}
 use Rattle.saved.specs.Layout.{savedWords, savedLength, marks-place, stretches-place, workerIn, restedIn, tallyIn, stateOf}
 use Rattle.saved.specs.Sound.{batchIn, Supplied, SavedSound, SavedRun}
 use Rattle.saved.specs.Test.{sound?, held?, saved?}
@@ -91,6 +93,10 @@ module _ {G : Graph} {starts : List ℕ} {W : ℕ} {g : Setting} (A : Accepted G
           tallies-won = S .tallies-won;
           tallies-claims = S .tallies-claims;
         }
+
+    -- whoever wrote the words, and whatever turns follow: an asker waits no longer than SPECIFICATION 4.7 says
+    pub saved-waits : (xs : List Entry) → Waits G W g (turns G g s xs)
+    saved-waits xs = waits-all A (sound-turns A run-sound xs)
 
   -- ---- and back
 
