@@ -12,6 +12,8 @@ A case is lines of words. '#' begins a comment, blank lines are skipped.
     index OBJECT          the index object; once, before the objects
     object SIZE           one line for each object; the first is number 0
     reference FROM TO     one line for each reference, in catalogue order
+    subject FROM TO       one line for each object that names its subject, among the references: FROM, a
+                          signature or the like, names TO, and is held by it
     lease OBJECT          one line for each lease, in catalogue order
     boxes W               settings; each once
     batch D
@@ -49,8 +51,8 @@ from pathlib import Path
 from typing import Iterator, Optional
 
 # The kinds of records, and the length of each.
-HEADER, OBJECT, REFERENCE, LEASE = 1, 2, 3, 4
-LENGTHS = {HEADER: 16, OBJECT: 12, REFERENCE: 12, LEASE: 8}
+HEADER, OBJECT, REFERENCE, LEASE, SUBJECT = 1, 2, 3, 4, 5
+LENGTHS = {HEADER: 16, OBJECT: 12, REFERENCE: 12, LEASE: 8, SUBJECT: 12}
 
 # The settings in the order of order.run, and the largest number that each field holds.
 SETTINGS = {"boxes": 0xFF, "batch": 0xFFFF, "cutoff": 0xFFFF}
@@ -92,11 +94,13 @@ class Saved:
 
 @dataclass
 class Case:
-    """A store and an order; pairs are (from, to) and (box, asked)."""
+    """A store and an order, and a stopped collection if there is one; pairs are (from, to) and (box, asked). The references
+    have the subjects among them; `subjects` has their places there."""
 
     index: Optional[int] = None
     sizes: list[int] = field(default_factory=list)
     references: list[tuple[int, int]] = field(default_factory=list)
+    subjects: set[int] = field(default_factory=set)
     leases: list[int] = field(default_factory=list)
     settings: dict[str, int] = field(default_factory=dict)
     turns: list[tuple[int, int]] = field(default_factory=list)
@@ -185,7 +189,9 @@ def parse(text: str) -> Case:
             case.index = number(rest[0], WORD, where)
         elif name == "object" and len(rest) == 1:
             case.sizes.append(number(rest[0], LONG, where))
-        elif name == "reference" and len(rest) == 2:
+        elif name in ("reference", "subject") and len(rest) == 2:
+            if name == "subject":
+                case.subjects.add(len(case.references))
             case.references.append(pair(rest, WORD, where))
         elif name == "lease" and len(rest) == 1:
             case.leases.append(number(rest[0], WORD, where))
@@ -227,7 +233,10 @@ def store_bytes(case: Case) -> bytes:
     """store.cat"""
     header = record(HEADER, struct.pack("<III", len(case.sizes), len(case.references), case.index))
     objects = (record(OBJECT, struct.pack("<Q", size)) for size in case.sizes)
-    references = (record(REFERENCE, struct.pack("<II", *ends)) for ends in case.references)
+    references = (
+        record(SUBJECT if at in case.subjects else REFERENCE, struct.pack("<II", *ends))
+        for at, ends in enumerate(case.references)
+    )
     leases = (record(LEASE, struct.pack("<I", lease)) for lease in case.leases)
     return b"".join([header, *objects, *references, *leases])
 
@@ -312,7 +321,9 @@ def read(store: bytes, order: bytes) -> Case:
             *counts, case.index = struct.unpack("<III", contents)
         elif kind == OBJECT and counts is not None and not case.references and not case.leases:
             case.sizes.append(*struct.unpack("<Q", contents))
-        elif kind == REFERENCE and counts is not None and not case.leases:
+        elif kind in (REFERENCE, SUBJECT) and counts is not None and not case.leases:
+            if kind == SUBJECT:
+                case.subjects.add(len(case.references))
             case.references.append(struct.unpack("<II", contents))
         elif kind == LEASE and counts is not None:
             case.leases.append(*struct.unpack("<I", contents))
@@ -352,7 +363,8 @@ def show(case: Case, marks: Optional[bytes] = None) -> str:
     names = [""] * len(case.sizes) if marks is None else [f" # {name}" for name in owners(case, marks)]
     lines = [f"index {case.index}"]
     lines += [f"object {size}{name}" for size, name in zip(case.sizes, names)]
-    lines += [f"reference {a} {b}" for a, b in case.references]
+    words = ("subject" if at in case.subjects else "reference" for at in range(len(case.references)))
+    lines += [f"{word} {a} {b}" for word, (a, b) in zip(words, case.references)]
     lines += [f"lease {lease}" for lease in case.leases]
     lines += [f"{name} {case.settings[name]}" for name in SETTINGS]
     lines += [f"turn {box} {asked}" for box, asked in case.turns]

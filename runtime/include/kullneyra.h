@@ -75,14 +75,14 @@ extern "C" {
 /* header: what the catalogue's header says. */
 struct kullneyra_head {
     uint32_t n;     /* objects */
-    uint32_t m;     /* references */
+    uint32_t m;     /* references, and subjects */
     uint32_t index; /* the object at which every collection starts */
 };
 
 /* read: the same, and how many starts the start buffer holds. */
 struct kullneyra_store {
     uint32_t n;      /* objects */
-    uint32_t m;      /* references */
+    uint32_t m;      /* references, and subjects */
     uint32_t index;  /* the first start */
     uint32_t starts; /* the index and the leases */
 };
@@ -153,7 +153,8 @@ struct kullneyra_drawn {
 uint32_t kullneyra_header(const uint8_t *bytes, size_t bytes_len, uint32_t *result, size_t result_len);
 
 /* Checks the whole catalogue and fills offsets, targets, sizes and starts: the index, the leases in their
- * order, and zeros behind them. */
+ * order, and zeros behind them. A subject record fills in a reference from the subject to the object that
+ * names it, so that a signature lives while its image does. */
 uint32_t kullneyra_read(const uint8_t *bytes, size_t bytes_len, uint32_t *offsets, size_t offsets_len,
                         uint32_t *targets, size_t targets_len, uint64_t *sizes, size_t sizes_len,
                         uint32_t *starts, size_t starts_len, uint32_t *result, size_t result_len);

@@ -51,6 +51,11 @@ def leased(*objects):
     return S + b"".join(case.record(case.LEASE, struct.pack("<I", object)) for object in objects)
 
 
+def signed(kind, naming, named):
+    """Store S with its last reference replaced by a record of this kind."""
+    return written(148, "HHII", 12, kind, naming, named)
+
+
 def header(n, m, index):
     return case.record(case.HEADER, struct.pack("<III", n, m, index))
 
@@ -136,7 +141,15 @@ DAMAGED = [
     ("a lease where a reference is due", written(148, "HHI", 8, 4, 5, length=156), 3),
     ("a lease cut", leased(5)[:-1], 1),
     ("a lease of length 12", written(160, "HH", 12, 4, length=172), 2),
-    ("kind 5", written(160, "HH", 8, 5, length=168), 2),
+    ("kind 6", written(160, "HH", 12, 6, length=172), 2),
+    ("kind 6 where a reference is due", signed(6, 5, 4), 2),
+    ("a subject of length 8", written(160, "HH", 8, 5, length=168), 2),
+    ("a subject too many", written(160, "HH", 12, 5, length=172), 3),
+    ("a subject behind a lease", leased(5) + signed(5, 5, 4)[-12:], 3),
+    ("a subject where an object is due", written(18, "H", 5), 3),
+    ("subject 5", signed(5, 4, 5), UNTOUCHED),
+    ("subject 6", signed(5, 4, 6), 5),
+    ("a subject of object 6", signed(5, 6, 4), 5),
     ("a lease of object 6", leased(6), 5),
     ("a byte behind a lease", leased(5) + b"\0", 1),
     ("a reference behind a lease", leased(5) + S[-12:], 3),
@@ -268,6 +281,23 @@ IN_PROGRESS = [
 ]
 
 
+SIGNED = case.load_text(TOP / "samples" / "signed.txt")
+DROPPED = replace(SIGNED, references=SIGNED.references[1:], subjects={at - 1 for at in SIGNED.subjects})
+OLD_IMAGE = [(6, 300), (7, 400)]
+ATTACHED = [
+    (
+        "a signature and a bill of material live with their image",
+        SIGNED,
+        told("finished", 6, 5, 1, 3, 25, 0, boxes=[(4, 4, 0, 1), (1, 1, 0, 0)], dead=OLD_IMAGE),
+    ),
+    (
+        "and are swept with it",
+        DROPPED,
+        told("finished", 1, 0, 0, 0, 2, 0, boxes=[NOTHING, NOTHING], dead=[(1, 300), (2, 5000), (3, 400), (4, 70), (5, 800), *OLD_IMAGE]),
+    ),
+]
+
+
 CARDS = case.load_text(TOP / "samples" / "cards.txt")
 DEALT = [
     (
@@ -317,6 +347,9 @@ class Cases(test_program.Folder):
 
     def test_download_in_progress(self):
         self.check([(name, case.store_bytes(one), case.order_bytes(one), text) for name, one, text in IN_PROGRESS])
+
+    def test_signed(self):
+        self.check([(name, case.store_bytes(one), case.order_bytes(one), text) for name, one, text in ATTACHED])
 
     def test_dealt(self):
         self.check([(name, case.store_bytes(one), case.order_bytes(one), text) for name, one, text in DEALT])

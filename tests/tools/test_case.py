@@ -20,7 +20,8 @@ def some_case(rng):
     return case.Case(
         index=rng.randrange(10),
         sizes=[rng.randrange(2**64) for _ in range(rng.randrange(6))],
-        references=[(rng.randrange(2**32), rng.randrange(9)) for _ in range(rng.randrange(6))],
+        references=[(rng.randrange(2**32), rng.randrange(9)) for _ in range(references)],
+        subjects={at for at in range(references) if rng.randrange(2)},
         leases=[rng.randrange(2**32) for _ in range(rng.randrange(4))],
         settings={"boxes": rng.randrange(256), "batch": rng.randrange(65536), "cutoff": rng.randrange(65536)},
         turns=[(rng.randrange(256), rng.randrange(256)) for _ in range(rng.randrange(6))],
@@ -52,6 +53,9 @@ class Cases(unittest.TestCase):
         self.assertEqual(store[-12:].hex(), "0c0003000500000004000000")
         leased = case.store_bytes(case.parse(SAMPLE.read_text() + "lease 5\n"))
         self.assertEqual((leased[:-8], leased[-8:].hex()), (store, "0800040005000000"))
+        signed = case.store_bytes(case.parse(SAMPLE.read_text() + "subject 5 1\n"))
+        self.assertEqual((signed[16:-12], signed[-12:].hex()), (store[16:], "0c0005000500000001000000"))
+        self.assertEqual(signed[:16].hex(), "10000100060000000700000000000000")
         order = case.order_bytes(sample)
         self.assertEqual(order[:5].hex(), "0201000100")
         self.assertEqual(len(order), 5 + 2 * 18)
@@ -169,7 +173,7 @@ class Cases(unittest.TestCase):
 
     def test_refused_texts(self):
         good = case.show(case.load_text(SAMPLE))
-        for line in ("object -1", "object", "object x", "reference 1", "lease", "lease 1 2", "turn 256 0", "batch 1", "boxes 2", "index 0", "turns 0 1", "word 1"):
+        for line in ("object -1", "object", "object x", "reference 1", "subject 1", "subject 1 2 3", "lease", "lease 1 2", "turn 256 0", "batch 1", "boxes 2", "index 0", "turns 0 1", "word 1"):
             with self.assertRaises(case.Fault):
                 case.parse(good + line + "\n")
         for name in ("index", "boxes", "batch", "cutoff"):
@@ -180,7 +184,9 @@ class Cases(unittest.TestCase):
         sample = case.load_text(SAMPLE)
         store, order = case.store_bytes(sample), case.order_bytes(sample)
         lease = case.record(case.LEASE, bytes(4))
+        subject = case.record(case.SUBJECT, bytes(8))
         misplaced = (lease + store, store[:16] + lease + store[16:], store[:-12] + lease + store[-12:])
+        misplaced += (subject + store, store[:16] + subject + store[16:], store + subject, store + lease + subject)
         for bad in (b"", store[:-1], store + b"\0", store + store[16:28], store[16:], store[:16] + store[28:], *misplaced):
             with self.assertRaises(case.Fault):
                 case.read(bad, order)

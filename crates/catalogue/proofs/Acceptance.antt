@@ -5,16 +5,17 @@ use Prim.Native.Nat.{ℕ, _+_, _*_}
 use native.Mathlib.Omega.{arith}
 use lib.ListN.{length, take, drop, replicate, length-drop}
 use lib.Seq.{take-all, drop-drop}
+use Rattle.laws.specs.Every.{Every}
 use Rattle.laws.specs.Words.{le, word, Bytes}
 use Rattle.laws.proofs.Words.{word-le, le-field, take-join, bytes-drop}
-use Rattle.catalogue.specs.Store.{Store, InRange, objects, references, most-leases}
-use Rattle.catalogue.specs.Layout.{reference, headerRecord, objectRecord, referenceRecord, leaseRecord, layout}
+use Rattle.catalogue.specs.Store.{Store, Link, Ends, InRange, stored, objects, references, most-leases}
+use Rattle.catalogue.specs.Layout.{reference, headerRecord, objectRecord, linkRecord, leaseRecord, layout}
 use Rattle.catalogue.specs.Reading.{accepted, reading, faults, dues, catalogueFault, records, leases-at, lease-count, leasesFrom, storeOf}
-use Rattle.catalogue.specs.Reading.{n-field, m-field, index-field, size-field, pair-field}
+use Rattle.catalogue.specs.Reading.{n-field, m-field, index-field, size-field, link-field}
 use Rattle.catalogue.proofs.Faults.{GoodHeader, clear-header}
-use Rattle.catalogue.proofs.Forms.{object-form, reference-form, lease-form, form-bytes, record-bytes, written-faults, written-records, written-behind, written-length}
+use Rattle.catalogue.proofs.Forms.{object-form, link-form, lease-form, form-bytes, record-bytes, written-faults, written-records, written-behind, written-length}
 use Rattle.catalogue.proofs.Leases.{written-leases}
-use Rattle.catalogue.proofs.Accepted.{Whole}
+use Rattle.catalogue.proofs.Accepted.{Whole, mapped-every}
 use Rattle.catalogue.proofs.Reader.{store-objects, store-references}
 
 -- ---- from bytes to the layout
@@ -41,7 +42,7 @@ whole-layout b h w =
     let n = n-field b in
     let m = m-field b in
     let o = form-bytes (object-form n) n (drop 16 b) (bytes-drop 16 b h) (w .objects-are) in
-    let r = form-bytes (reference-form (w .head .few)) m (drop (16 + 12 * n) b) (bytes-drop (16 + 12 * n) b h) (w .references-are) in
+    let r = form-bytes (link-form (w .head .few)) m (drop (16 + 12 * n) b) (bytes-drop (16 + 12 * n) b h) (w .references-are) in
     let at = leases-at n m in
     let c = lease-count at b in
     let l = form-bytes (lease-form (w .head .few)) c (drop at b) (bytes-drop at b h) (w .leases-are) in
@@ -65,10 +66,13 @@ module _ (s : Store) (r : InRange s) where
   leases = flatMap leaseRecord (s .leases)
 
   abbrev pairs : List ℕ
-  pairs = flatMap referenceRecord (s .pairs) ++ leases
+  pairs = flatMap linkRecord (s .links) ++ leases
 
   abbrev behind : List ℕ
   behind = flatMap objectRecord (s .sizes) ++ pairs
+
+  ends : Every (λ (x : Link). Ends n (stored x)) (s .links)
+  ends = mapped-every (Ends n) stored (s .links) (r .ends-below)
 
   -- the written header
   header-n : n-field (layout s) ≡ n
@@ -103,7 +107,7 @@ module _ (s : Store) (r : InRange s) where
   unfolding faults
   layout-faults =
       written-faults (object-form n) (s .sizes) (replicate (references s) reference) pairs (r .sizes-small)
-      ∙ rw (← append-nil (replicate (references s) reference)) (written-faults (reference-form (r .few)) (s .pairs) [] leases (r .ends-below))
+      ∙ rw (← append-nil (replicate (references s) reference)) (written-faults (link-form (r .few)) (s .links) [] leases ends)
       ∙ written-leases (r .few) most-leases (s .leases) (r .few-leases) (r .leases-below)
 
   layout-clear : catalogueFault (layout s) ≡ 0
@@ -116,12 +120,12 @@ module _ (s : Store) (r : InRange s) where
   pairs-behind : drop (16 + 12 * n) (layout s) ≡ pairs
   pairs-behind = rw (← drop-drop (12 * n) 16 (layout s), header-behind) (written-behind (object-form 0) (s .sizes) pairs)
 
-  layout-pairs : records 12 pair-field (m-field (layout s)) (drop (16 + 12 * n-field (layout s)) (layout s)) ≡ s .pairs
-  layout-pairs = rw (header-n, header-m, pairs-behind) (written-records (reference-form (r .few)) (s .pairs) leases (r .ends-below))
+  layout-pairs : records 12 link-field (m-field (layout s)) (drop (16 + 12 * n-field (layout s)) (layout s)) ≡ s .links
+  layout-pairs = rw (header-n, header-m, pairs-behind) (written-records (link-form (r .few)) (s .links) leases ends)
 
   leases-behind : drop (leases-at n (references s)) (layout s) ≡ leases
   leases-behind =
-      rw (← drop-drop (12 * references s) (16 + 12 * n) (layout s), pairs-behind) (written-behind (reference-form (r .few)) (s .pairs) leases)
+      rw (← drop-drop (12 * references s) (16 + 12 * n) (layout s), pairs-behind) (written-behind (link-form (r .few)) (s .links) leases)
 
   count-behind : lease-count (leases-at n (references s)) (layout s) ≡ length (s .leases)
   count-behind =

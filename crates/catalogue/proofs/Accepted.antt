@@ -1,6 +1,6 @@
 -- What bytes without a fault are: a header, n objects, m references, leases, and nothing more.
 use mathlib.Core.Path.{_≡_}
-use mathlib.Core.List.{List, [], append-nil}
+use mathlib.Core.List.{List, [], _∷_, map, append-nil}
 use Prim.Native.Nat.{ℕ, _+_, _*_, _-_, _≤_, _<_}
 use native.Mathlib.Omega.{arith}
 use lib.ListN.{length, drop, replicate, length-drop}
@@ -9,20 +9,20 @@ use Rattle.laws.specs.Every.{Every}
 use Rattle.laws.proofs.Every.{every-map}
 use Rattle.refusal.proofs.None.{first-none}
 use Rattle.catalogue.specs.Layout.{header, reference}
-use Rattle.catalogue.specs.Store.{Pair, Ends, InRange, most-leases}
-use Rattle.catalogue.specs.Reading.{n-field, m-field, size-field, pair-field, lease-field, recordFault, faults, dues, catalogueFault, leases-at, lease-count, storeOf}
+use Rattle.catalogue.specs.Store.{Pair, Link, Ends, InRange, stored, most-leases}
+use Rattle.catalogue.specs.Reading.{n-field, m-field, size-field, link-field, lease-field, recordFault, faults, dues, catalogueFault, records, leases-at, lease-count, storeOf}
 use Rattle.catalogue.specs.Fill.{Fillable, pairsOf}
-use Rattle.catalogue.proofs.Faults.{GoodHeader, GoodObject, GoodReference, GoodLease, good-header-record}
-use Rattle.catalogue.proofs.Forms.{EachRecord, object-form, reference-form, lease-form, form-good, form-long, form-legal}
+use Rattle.catalogue.proofs.Faults.{GoodHeader, GoodObject, GoodLink, GoodLease, good-header-record}
+use Rattle.catalogue.proofs.Forms.{EachRecord, object-form, link-form, lease-form, form-good, form-long, form-legal}
 use Rattle.catalogue.proofs.Leases.{Leased, leased}
-use Rattle.catalogue.proofs.Filling.{length-records}
+use Rattle.catalogue.proofs.Filling.{length-records, map-records}
 
 -- bytes without a fault
 pub record Whole (b : List ℕ) : Type 0 where
   pub clear : catalogueFault b ≡ 0
   pub head : GoodHeader b
   pub objects-are : EachRecord 12 GoodObject (n-field b) (drop 16 b)
-  pub references-are : EachRecord 12 (GoodReference (n-field b)) (m-field b) (drop (16 + 12 * n-field b) b)
+  pub references-are : EachRecord 12 (GoodLink (n-field b)) (m-field b) (drop (16 + 12 * n-field b) b)
   pub few-leases : lease-count (leases-at (n-field b) (m-field b)) b ≤ most-leases
   pub leases-are :
       EachRecord 8 (GoodLease (n-field b)) (lease-count (leases-at (n-field b) (m-field b)) b) (drop (leases-at (n-field b) (m-field b)) b)
@@ -36,10 +36,10 @@ whole-bytes b h =
     let p = first-none (recordFault header n b) (faults n (dues n m) (drop 16 b)) h in
     let g = good-header-record n b (p .0) in
     let O = object-form n in
-    let R = reference-form (g .few) in
+    let R = link-form (g .few) in
     let o = form-good O n (replicate m reference) (drop 16 b) (p .1) in
     let r = form-good R m [] (drop (12 * n) (drop 16 b)) (rw append-nil (o .1)) in
-    let s : EachRecord 12 (GoodReference n) m (drop (16 + 12 * n) b) = rw drop-drop at (r .0) in
+    let s : EachRecord 12 (GoodLink n) m (drop (16 + 12 * n) b) = rw drop-drop at (r .0) in
     let l : Leased n most-leases (drop (leases-at n m) b) =
     rw (drop-drop (12 * n) 16 b, drop-drop (12 * m) (16 + 12 * n) b) at (leased n most-leases (drop (12 * m) (drop (12 * n) (drop 16 b))) (r .1)) in
     let lo = rw length-drop at (form-long O n (drop 16 b) (o .0)) in
@@ -56,9 +56,27 @@ whole-bytes b h =
       length-is = omega (arith, g .frame .long);
     }
 
+-- what holds of what is made of each element
+module _ {A B : Type 0} (P : B → Type 0) (f : A → B) where
+  every-mapped : (l : List A) → Every (λ (x : A). P (f x)) l → Every P (map f l)
+  every-mapped [] h = tt
+  every-mapped (x ∷ l) h = (h .0, every-mapped l (h .1))
+
+  pub mapped-every : (l : List A) → Every P (map f l) → Every (λ (x : A). P (f x)) l
+  mapped-every [] h = tt
+  mapped-every (x ∷ l) h = (h .0, mapped-every l (h .1))
+
 module _ (b : List ℕ) (w : Whole b) where
+  abbrev links : List Link
+  links = records 12 link-field (m-field b) (drop (16 + 12 * n-field b) b)
+
+  stored-ends : Every (Ends (n-field b)) (map stored links)
+  stored-ends =
+      every-mapped (Ends (n-field b)) stored links
+      (form-legal (link-form (w .head .few)) (m-field b) (drop (16 + 12 * n-field b) b) (w .references-are))
+
   ends : Every (Ends (n-field b)) (pairsOf (n-field b) (m-field b) b)
-  ends = form-legal (reference-form (w .head .few)) (m-field b) (drop (16 + 12 * n-field b) b) (w .references-are)
+  ends = rw (map-records 12 link-field stored (m-field b) (drop (16 + 12 * n-field b) b)) at stored-ends
 
   -- such bytes can be filled in, and the store that they tell is within the ranges
   pub whole-fillable : {n m : ℕ} → n ≡ n-field b → m ≡ m-field b → Fillable n m b
@@ -77,7 +95,7 @@ module _ (b : List ℕ) (w : Whole b) where
   whole-range =
       let n = n-field b in
       let l = length-records 12 size-field n (drop 16 b) in
-      let k = length-records 12 pair-field (m-field b) (drop (16 + 12 * n) b) in
+      let k = length-records 12 link-field (m-field b) (drop (16 + 12 * n) b) in
       let at = leases-at n (m-field b) in
       let c = length-records 8 lease-field (lease-count at b) (drop at b) in
       record {
@@ -86,7 +104,7 @@ module _ (b : List ℕ) (w : Whole b) where
         few-references = rw k (w .head .few-references);
         index-below = rw l (w .head .index-below);
         sizes-small = form-legal (object-form n) n (drop 16 b) (w .objects-are);
-        ends-below = rw l ends;
+        ends-below = rw l stored-ends;
         few-leases = rw c (w .few-leases);
         leases-below = rw l (form-legal (lease-form (w .head .few)) (lease-count at b) (drop at b) (w .leases-are));
       }

@@ -1,6 +1,7 @@
 -- The fault of one record, case by case.
 use mathlib.Core.Path.{_≡_, refl, sym, _∙_}
 use mathlib.Core.List.{List}
+use mathlib.Core.Logic.{_⊎_, inl, inr}
 use Prim.Native.Nat.{ℕ, zero, suc, _≤_, _<_}
 use native.Mathlib.Omega.{arith}
 use borrow.Author.Tests.{lt-ltb, le-ltb, eq-eqb, ne-eqb}
@@ -10,8 +11,8 @@ use mathlib.Core.Bool.{true, false, not, _||_}
 use Rattle.refusal.specs.Order.{raise}
 use Rattle.graph.specs.Limits.{most-objects, most-references, largest-size}
 use Rattle.catalogue.specs.Answer.{Heads}
-use Rattle.catalogue.specs.Layout.{header, object, reference, lease}
-use Rattle.catalogue.specs.Reading.{Kind, header-kind, object-kind, reference-kind, lease-kind, unknown, kindOf, lengthOf}
+use Rattle.catalogue.specs.Layout.{header, object, reference, lease, subject}
+use Rattle.catalogue.specs.Reading.{Kind, header-kind, object-kind, reference-kind, lease-kind, subject-kind, unknown, kindOf, lengthOf}
 use Rattle.catalogue.specs.Reading.{length-field, kind-field, size-field, pair-field, lease-field}
 use Rattle.catalogue.specs.Reading.{misfit, misplaced, overfull, miscounted, misnamed, oversized, contentsFault, recordFault}
 
@@ -44,6 +45,7 @@ numberFor header-kind d = header
 numberFor object-kind d = object
 numberFor reference-kind d = reference
 numberFor lease-kind d = lease
+numberFor subject-kind d = subject
 numberFor unknown d = d
 
 pub kind-number : (x : ℕ) → numberFor (kindOf x) x ≡ x
@@ -52,16 +54,18 @@ kind-number (suc zero) = refl
 kind-number (suc (suc zero)) = refl
 kind-number (suc (suc (suc zero))) = refl
 kind-number (suc (suc (suc (suc zero)))) = refl
-kind-number (suc (suc (suc (suc (suc x))))) = refl
+kind-number (suc (suc (suc (suc (suc zero))))) = refl
+kind-number (suc (suc (suc (suc (suc (suc x)))))) = refl
 
--- a number that is none of the four
-pub not-known : (k : ℕ) → (k ≡ 1 → ⊥) → (k ≡ 2 → ⊥) → (k ≡ 3 → ⊥) → (k ≡ 4 → ⊥) → kindOf k ≡ unknown
+-- a number that is none of the five
+pub not-known : (k : ℕ) → (k ≡ 1 → ⊥) → (k ≡ 2 → ⊥) → ((k ≡ 3) ⊎ (k ≡ 5) → ⊥) → (k ≡ 4 → ⊥) → kindOf k ≡ unknown
 not-known zero a b c d = refl
 not-known (suc zero) a b c d = absurd (a refl)
 not-known (suc (suc zero)) a b c d = absurd (b refl)
-not-known (suc (suc (suc zero))) a b c d = absurd (c refl)
+not-known (suc (suc (suc zero))) a b c d = absurd (c (inl refl))
 not-known (suc (suc (suc (suc zero)))) a b c d = absurd (d refl)
-not-known (suc (suc (suc (suc (suc k))))) a b c d = refl
+not-known (suc (suc (suc (suc (suc zero))))) a b c d = absurd (c (inr refl))
+not-known (suc (suc (suc (suc (suc (suc k)))))) a b c d = refl
 
 module _ (due n : ℕ) (b : List ℕ) where
   pub too-short : length b < 4 → 1 ≡ recordFault due n b
@@ -77,34 +81,37 @@ module _ (due n : ℕ) (b : List ℕ) where
     unfolding recordFault
     whole g = rw (le-ltb (length b) 4 h, le-ltb (length b) (length-field b) g)
 
--- a kind by its number: the length of its record, and where it is due
-pub record Known (x : ℕ) (k : Kind) : Type 0 where
+-- a kind by its number: the length of its record, and what is due where it stands
+pub record Known (x place : ℕ) (k : Kind) : Type 0 where
   pub kind-of : kindOf x ≡ k
   pub number-is : (d : ℕ) → numberFor k d ≡ x
   pub four : 4 ≤ lengthOf k
   pub length-by : (b : List ℕ) → misfit k b ≡ not (eqb (length-field b) (lengthOf k))
-  pub in-place : (misplaced x k ≡ false) × (overfull x k ≡ false)
+  pub in-place : (misplaced place k ≡ false) × (overfull place k ≡ false)
 
-pub as-header : Known header header-kind
+pub as-header : Known header header header-kind
 as-header = record { kind-of = refl; number-is = λ d. refl; four = omega arith; length-by = λ b. refl; in-place = (refl, refl) }
 
-pub as-object : Known object object-kind
+pub as-object : Known object object object-kind
 as-object = record { kind-of = refl; number-is = λ d. refl; four = omega arith; length-by = λ b. refl; in-place = (refl, refl) }
 
-pub as-reference : Known reference reference-kind
+pub as-reference : Known reference reference reference-kind
 as-reference = record { kind-of = refl; number-is = λ d. refl; four = omega arith; length-by = λ b. refl; in-place = (refl, refl) }
 
-pub as-lease : Known lease lease-kind
+pub as-lease : Known lease lease lease-kind
 as-lease = record { kind-of = refl; number-is = λ d. refl; four = omega arith; length-by = λ b. refl; in-place = (refl, refl) }
 
+pub as-subject : Known subject reference subject-kind
+as-subject = record { kind-of = refl; number-is = λ d. refl; four = omega arith; length-by = λ b. refl; in-place = (refl, refl) }
+
 -- a record whose kind is that one
-pub record Sort (x : ℕ) (k : Kind) (kind long : ℕ) (b : List ℕ) : Type 0 where
-  pub known : Known x k
+pub record Sort (x place : ℕ) (k : Kind) (kind long : ℕ) (b : List ℕ) : Type 0 where
+  pub known : Known x place k
   pub is : kind ≡ x
   pub length-is : long ≡ length-field b
 
 -- from the kind on
-module _ {x : ℕ} {k : Kind} {kind long : ℕ} {b : List ℕ} (w : Sort x k kind long b) (due n : ℕ) where
+module _ {x place : ℕ} {k : Kind} {kind long : ℕ} {b : List ℕ} (w : Sort x place k kind long b) (due n : ℕ) where
   pub wrong-length : (long ≡ lengthOf k → ⊥) → 2 ≡ contentsFault (kindOf kind) due n b
   wrong-length h =
       rw (w .is, w .known .kind-of, w .known .length-by b, ne-eqb (length-field b) (lengthOf k) (λ e. h (w .length-is ∙ e)))
@@ -119,7 +126,7 @@ module _ {x : ℕ} {k : Kind} {kind long : ℕ} {b : List ℕ} (w : Sort x k kin
     pub wrong-place : misplaced due k ≡ true → 3 ≡ contentsFault (kindOf kind) due n b
     wrong-place g = rw g at right-length
 
-    pub right-frame : due ≡ x → contents k n b ≡ contentsFault (kindOf kind) due n b
+    pub right-frame : due ≡ place → contents k n b ≡ contentsFault (kindOf kind) due n b
     right-frame g =
         let e : placed k due n b ≡ contents k n b = rw (g, w .known .in-place .0, w .known .in-place .1) in
         sym e ∙ right-length
@@ -128,6 +135,6 @@ module _ {x : ℕ} {k : Kind} {kind long : ℕ} {b : List ℕ} (w : Sort x k kin
 pub other-place : (due x : ℕ) → (due ≡ x → ⊥) → not (eqb due x) ≡ true
 other-place due x h = rw (ne-eqb due x h)
 
--- a kind that is none of the four
+-- a kind that is none of the five
 pub unknown-kind : (due n kind : ℕ) (b : List ℕ) → kindOf kind ≡ unknown → 2 ≡ contentsFault (kindOf kind) due n b
 unknown-kind due n kind b e = rw e

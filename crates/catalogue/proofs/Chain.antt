@@ -15,7 +15,7 @@ use Rattle.graph.specs.Chain.{Reach, here, on}
 use Rattle.graph.proofs.Formed.{formed}
 use Rattle.graph.proofs.OverMarked.{after-limit}
 use Rattle.graph.proofs.View.{view-has, view-only}
-use Rattle.catalogue.specs.Store.{Store, Pair, InRange, objects}
+use Rattle.catalogue.specs.Store.{Store, Pair, InRange, objects, pairs}
 use Rattle.catalogue.specs.Fill.{fromOf, toOf}
 use Rattle.catalogue.specs.ReadGraph.{ReadGraph, readGraph, targetsFrom}
 use Rattle.catalogue.specs.Chain.{leading, Chain, begins, along}
@@ -55,7 +55,7 @@ module _ (s : Store) (r : InRange s) (starts : List ℕ) (inside : Every (λ (x 
 
   -- by the view of u on the graph
   leading-is : (u v : ℕ) → leading s u v ≡ sum (hit v) (targetsFrom s u)
-  leading-is u v = among u v (s .pairs)
+  leading-is u v = among u v (pairs s)
 
   -- chains lead to objects only
   reaches-object : {v : ℕ} → Reach G starts v → v < objects s

@@ -1,7 +1,7 @@
 -- The checks record by record: what is left to check, and what the checks answer.
 use mathlib.Core.Path.{_≡_, refl, ap, sym, _∙_}
 use mathlib.Core.List.{List}
-use mathlib.Core.Logic.{by-cases, _⊎_, inl, inr}
+use mathlib.Core.Logic.{by-cases, _⊎_, inl, inr, ⊎-elim}
 use Prim.Native.Nat.{ℕ, zero, suc, _+_, _*_, _-_, _≤_, _<_}
 use native.Mathlib.Numerals.{add-one}
 use native.Mathlib.Decide.{decLt, ℕ-discrete}
@@ -16,13 +16,13 @@ use Rattle.refusal.specs.Number.{number}
 use Rattle.refusal.specs.Order.{raise, first}
 use Rattle.refusal.proofs.Numbers.{numbered, first-found}
 use Rattle.graph.specs.Limits.{largest-size}
-use Rattle.catalogue.specs.Layout.{header, object, reference}
-use Rattle.catalogue.specs.Reading.{Kind, header-kind, object-kind, reference-kind, lease-kind, unknown, kindOf, lengthOf, dues, dueAt, leases-at}
+use Rattle.catalogue.specs.Layout.{header, object, reference, subject}
+use Rattle.catalogue.specs.Reading.{Kind, header-kind, object-kind, reference-kind, lease-kind, subject-kind, unknown, kindOf, lengthOf, dues, dueAt, leases-at}
 use Rattle.catalogue.specs.Reading.{kind-field, n-field, m-field, short, contentsFault, recordFault, leaseFaults, faults, Clear, catalogueFault}
 use Rattle.catalogue.specs.Store.{most-leases}
 use Rattle.catalogue.specs.Answer.{refusal-row, header-values}
 use Rattle.catalogue.specs.Fill.{Listed}
-use Rattle.catalogue.proofs.Faults.{Framed, good-object-record, good-reference-record, clear-object, clear-reference}
+use Rattle.catalogue.proofs.Faults.{Framed, good-object-record, good-link-record, link-long, clear-object, clear-link}
 
 -- the fault of a header does not depend on n
 header-kinds : (k : Kind) (n n′ : ℕ) (b : List ℕ) → contentsFault k header n b ≡ contentsFault k header n′ b
@@ -30,6 +30,7 @@ header-kinds header-kind n n′ b = refl
 header-kinds object-kind n n′ b = refl
 header-kinds reference-kind n n′ b = refl
 header-kinds lease-kind n n′ b = refl
+header-kinds subject-kind n n′ b = refl
 header-kinds unknown n n′ b = refl
 
 pub header-any : (n n′ : ℕ) (b : List ℕ) → recordFault header n b ≡ recordFault header n′ b
@@ -60,7 +61,7 @@ due-either P n i p q = by-cases (decLt i n) (λ (g : i < n). rw (lt-ltb i n g) p
 due-long : (n i : ℕ) (b : List ℕ) → recordFault (dueAt n i) n b ≡ 0 → 12 ≤ length b
 due-long n i b =
     due-either (λ (d : ℕ). recordFault d n b ≡ 0 → 12 ≤ length b) n i (λ h. good-object-record n b h .frame .long)
-    (λ h. good-reference-record n b h .frame .long)
+    (λ h. link-long (good-link-record n b h))
 
 length-dues : (n m : ℕ) → length (dues n m) ≡ n + m
 length-dues n m = rw (length-append, length-replicate, length-replicate)
@@ -114,7 +115,7 @@ head-framed x k b h e l w =
     let both = word-double 2 0 b in
     record { long = omega arith; length-is = omega (arith, low, both, h 0, h 1); kind-is = omega (arith, low, both, h 0, h 1) }
 
--- an object, and a reference, by its place
+-- an object, and a reference or a subject, by its place
 module _ (n i : ℕ) (b : List ℕ) (h : Bytes b) (l : 16 + 12 * i + 12 ≤ length b) where
   framed-at : (x : ℕ) (k : Kind) → lengthOf k ≡ 12 → word 4 (drop (16 + 12 * i) b) ≡ 12 + 65536 * x → Framed x k (drop (16 + 12 * i) b)
   framed-at x k e w = head-framed x k (drop (16 + 12 * i) b) (bytes-drop (16 + 12 * i) b h) e (rw length-drop (omega arith)) w
@@ -125,13 +126,14 @@ module _ (n i : ℕ) (b : List ℕ) (h : Bytes b) (l : 16 + 12 * i + 12 ≤ leng
       rw (lt-ltb i n g)
       (clear-object n (drop (16 + 12 * i) b) (record { frame = framed-at object object-kind refl w; small = rw drop-drop s }))
 
-  pub reference-right : n ≤ i → word 4 (drop (16 + 12 * i) b) ≡ 196620 → word 4 (drop (16 + 12 * i + 4) b) < n
-      → word 4 (drop (16 + 12 * i + 8) b) < n → recordFault (dueAt n i) n (drop (16 + 12 * i) b) ≡ 0
-  reference-right g w f t =
+  pub link-right : n ≤ i → (word 4 (drop (16 + 12 * i) b) ≡ 196620) ⊎ (word 4 (drop (16 + 12 * i) b) ≡ 327692)
+      → word 4 (drop (16 + 12 * i + 4) b) < n → word 4 (drop (16 + 12 * i + 8) b) < n
+      → recordFault (dueAt n i) n (drop (16 + 12 * i) b) ≡ 0
+  link-right g w f t =
       rw (le-ltb i n g)
-      (clear-reference n (drop (16 + 12 * i) b)
+      (clear-link n (drop (16 + 12 * i) b)
       (record {
-        frame = framed-at reference reference-kind refl w;
+        frame = ⊎-elim (λ e. inl (framed-at reference reference-kind refl e)) (λ e. inr (framed-at subject subject-kind refl e)) w;
         ends = record { from-below = rw drop-drop f; to-below = rw drop-drop t };
       }))
 

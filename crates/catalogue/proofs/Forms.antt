@@ -1,6 +1,7 @@
 -- The three forms of records behind the header: what a record without a fault says, and how it is written.
 use mathlib.Core.Path.{_≡_, refl, ap, sym, _∙_}
 use mathlib.Core.List.{List, [], _∷_, _++_, flatMap, append-assoc}
+use mathlib.Core.Logic.{inl, inr, ⊎-elim}
 use Prim.Native.Nat.{ℕ, zero, suc, _+_, _*_, _≤_, _<_}
 use native.Mathlib.Nat.{mul-zero}
 use native.Mathlib.Omega.{arith}
@@ -11,11 +12,11 @@ use Rattle.laws.specs.Words.{le, word, Bytes}
 use Rattle.laws.proofs.Words.{word-le, le-field, take-join, bytes-drop}
 use Rattle.refusal.proofs.None.{first-none}
 use Rattle.graph.specs.Limits.{most-objects, largest-size}
-use Rattle.catalogue.specs.Store.{Pair, Ends}
-use Rattle.catalogue.specs.Layout.{object, reference, lease, recordOf, objectRecord, referenceRecord, leaseRecord}
-use Rattle.catalogue.specs.Reading.{kindOf, lengthOf, length-field, kind-field, size-field, pair-field, lease-field, recordFault, faults, records}
-use Rattle.catalogue.proofs.Faults.{GoodObject, GoodReference, GoodLease, good-object-record, good-reference-record, good-lease-record}
-use Rattle.catalogue.proofs.Faults.{clear-object, clear-reference, clear-lease}
+use Rattle.catalogue.specs.Store.{Pair, Link, refers, names, stored, Ends}
+use Rattle.catalogue.specs.Layout.{object, reference, lease, subject, recordOf, objectRecord, pairRecord, linkRecord, leaseRecord}
+use Rattle.catalogue.specs.Reading.{kindOf, lengthOf, length-field, kind-field, size-field, pair-field, link-field, lease-field, recordFault, faults, records}
+use Rattle.catalogue.proofs.Faults.{GoodObject, GoodLink, GoodLease, link-long, good-object-record, good-link-record, good-lease-record}
+use Rattle.catalogue.proofs.Faults.{clear-object, clear-link, clear-lease}
 
 -- so many records of a length one after the other, each with a property
 abbrev pub EachRecord : ℕ → (List ℕ → Type 0) → ℕ → List ℕ → Type 0
@@ -142,45 +143,74 @@ object-form n =
       long-written = object-written;
     }
 
--- ---- references
+-- ---- references and subjects
 
-reference-bytes : {n : ℕ} (b : List ℕ) → Bytes b → GoodReference n b → referenceRecord (pair-field b) ≡ take 12 b
-reference-bytes b h g =
-    let long = g .frame .long in
-    record-bytes b h (le 4 (pair-field b .from) ++ le 4 (pair-field b .to)) (g .frame .length-is) (g .frame .kind-is) (omega arith)
+-- by its kind, what it says is written as its bytes
+pair-bytes : (b : List ℕ) → Bytes b → (k : ℕ) → length-field b ≡ 12 → kind-field b ≡ k → 12 ≤ length b → pairRecord k (pair-field b) ≡ take 12 b
+pair-bytes b h k el ek long =
+    record-bytes b h (le 4 (pair-field b .from) ++ le 4 (pair-field b .to)) el ek (omega arith)
     ∙ rw (le-field 4 4 b h (omega arith), le-field 4 8 b h (omega arith), take-join 4 4 4 b) (take-join 0 4 8 b)
 
-reference-behind : (p : Pair) (rest : List ℕ) → drop 12 (referenceRecord p ++ rest) ≡ rest
+link-bytes : {n : ℕ} (b : List ℕ) → Bytes b → GoodLink n b → linkRecord (link-field b) ≡ take 12 b
+link-bytes b h g =
+    ⊎-elim (λ f. rw (f .kind-is) (pair-bytes b h reference (f .length-is) (f .kind-is) (f .long)))
+    (λ f. rw (f .kind-is) (pair-bytes b h subject (f .length-is) (f .kind-is) (f .long))) (g .frame)
+
+link-behind : (x : Link) (rest : List ℕ) → drop 12 (linkRecord x ++ rest) ≡ rest
 unfolding le
-reference-behind p rest = refl
+link-behind (refers p) rest = refl
+link-behind (names p) rest = refl
 
-reference-written : (p : Pair) → length (referenceRecord p) ≡ 12
+link-written : (x : Link) → length (linkRecord x) ≡ 12
 unfolding le
-reference-written p = refl
+link-written (refers p) = refl
+link-written (names p) = refl
 
-module _ {n : ℕ} (few : n ≤ most-objects) (p : Pair) (rest : List ℕ) (e : Ends n p) where
-  reference-pair : pair-field (referenceRecord p ++ rest) ≡ p
-  unfolding le
-  reference-pair =
-      rw (word-le 4 (p .from) (le 4 (p .to) ++ rest) (omega (arith, e .from-below)), word-le 4 (p .to) rest (omega (arith, e .to-below)))
+-- the two ends the other way round
+exchanged : {n : ℕ} (p : Pair) → Ends n (stored (names p)) → Ends n p
+exchanged p e = record { from-below = e .to-below; to-below = e .from-below }
 
-  reference-good : GoodReference n (referenceRecord p ++ rest)
+pair-read : {n : ℕ} → n ≤ most-objects → (k : ℕ) (p : Pair) (rest : List ℕ) → Ends n p → pair-field (pairRecord k p ++ rest) ≡ p
+unfolding le
+pair-read few k p rest e =
+    rw (word-le 4 (p .from) (le 4 (p .to) ++ rest) (omega (arith, e .from-below)), word-le 4 (p .to) rest (omega (arith, e .to-below)))
+
+module _ {n : ℕ} (few : n ≤ most-objects) where
+  link-read : (x : Link) (rest : List ℕ) → Ends n (stored x) → link-field (linkRecord x ++ rest) ≡ x
   unfolding le word
-  reference-good =
-      record { frame = record { long = omega arith; length-is = refl; kind-is = refl }; ends = rw reference-pair e }
+  link-read (refers p) rest e = ap refers (pair-read few reference p rest e)
+  link-read (names p) rest e = ap names (pair-read few subject p rest (exchanged p e))
 
-pub reference-form : {n : ℕ} → n ≤ most-objects → Form 12 pair-field referenceRecord (Ends n) (GoodReference n) reference n
-reference-form {n} few =
+  link-good : (x : Link) (rest : List ℕ) → Ends n (stored x) → GoodLink n (linkRecord x ++ rest)
+  unfolding le word
+  link-good (refers p) rest e =
+      record {
+        frame = inl (record { long = omega arith; length-is = refl; kind-is = refl });
+        ends = rw (pair-read few reference p rest e) e;
+      }
+  link-good (names p) rest e =
+      record {
+        frame = inr (record { long = omega arith; length-is = refl; kind-is = refl });
+        ends = rw (pair-read few subject p rest (exchanged p e)) (exchanged p e);
+      }
+
+-- the ends of what is stored
+link-legal : {n : ℕ} (b : List ℕ) → GoodLink n b → Ends n (stored (link-field b))
+link-legal b g =
+    ⊎-elim (λ f. rw (f .kind-is) (g .ends)) (λ f. rw (f .kind-is) (exchanged (stored (names (pair-field b))) (g .ends))) (g .frame)
+
+pub link-form : {n : ℕ} → n ≤ most-objects → Form 12 link-field linkRecord (λ (x : Link). Ends n (stored x)) (GoodLink n) reference n
+link-form {n} few =
     record {
       width-is = refl;
-      good = λ b. good-reference-record n b;
-      long = λ b g. g .frame .long;
-      legal = λ b g. g .ends;
-      rewrites = reference-bytes;
-      clear = λ p rest e. clear-reference n (referenceRecord p ++ rest) (reference-good few p rest e);
-      reads = λ p rest e. reference-pair few p rest e;
-      behind = reference-behind;
-      long-written = reference-written;
+      good = λ b. good-link-record n b;
+      long = λ b g. link-long g;
+      legal = link-legal;
+      rewrites = link-bytes;
+      clear = λ x rest e. clear-link n (linkRecord x ++ rest) (link-good few x rest e);
+      reads = λ x rest e. link-read few x rest e;
+      behind = link-behind;
+      long-written = link-written;
     }
 
 -- ---- leases

@@ -10,3 +10,4 @@ pub mod Acceptance
 pub mod ReadGraph
 pub mod Accepting
 pub mod Chain
+pub mod Subject

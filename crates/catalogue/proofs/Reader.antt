@@ -12,11 +12,11 @@ use Rattle.refusal.specs.declared.Refusal.{Refusal}
 use Rattle.refusal.specs.Number.{number}
 use Rattle.refusal.proofs.Numbers.{numbered}
 use Rattle.refusal.proofs.None.{or-none}
-use Rattle.catalogue.specs.Store.{Store, start-words, padded}
-use Rattle.catalogue.specs.Reading.{refused, accepted, judged, reading, catalogueFault, storeOf, records, size-field, pair-field, lease-field, n-field, m-field, leases-at, lease-count, leasesFrom}
+use Rattle.catalogue.specs.Store.{Store, stored, start-words, padded}
+use Rattle.catalogue.specs.Reading.{refused, accepted, judged, reading, catalogueFault, storeOf, records, size-field, link-field, lease-field, n-field, m-field, leases-at, lease-count, leasesFrom}
 use Rattle.catalogue.specs.Answer.{unread, misfits, taken, Reads, Heads}
 use Rattle.catalogue.specs.Fill.{pairsOf, fromOf, toOf}
-use Rattle.catalogue.proofs.Filling.{length-records}
+use Rattle.catalogue.proofs.Filling.{length-records, map-records}
 
 judged-fault : (f : Refusal) (k : ℕ) (s : Store) → number f ≡ k → judged k s ≡ refused (number f)
 judged-fault f zero s h = absurd (omega (arith, h, numbered f))
@@ -35,9 +35,9 @@ pub store-objects : (b : List ℕ) → length (storeOf b .sizes) ≡ n-field b
 unfolding storeOf
 store-objects b = length-records 12 size-field (n-field b) (drop 16 b)
 
-pub store-references : (b : List ℕ) → length (storeOf b .pairs) ≡ m-field b
+pub store-references : (b : List ℕ) → length (storeOf b .links) ≡ m-field b
 unfolding storeOf
-store-references b = length-records 12 pair-field (m-field b) (drop (16 + 12 * n-field b) b)
+store-references b = length-records 12 link-field (m-field b) (drop (16 + 12 * n-field b) b)
 
 store-leases : (b : List ℕ) → length (storeOf b .leases) ≡ lease-count (leases-at (n-field b) (m-field b)) b
 unfolding storeOf
@@ -86,10 +86,11 @@ module _ {b o t s w : List ℕ} where
         let k : taken b o t s w ≡ accepted (storeOf b) =
         rw (reading-accepted b h, store-objects b, store-references b, ← e .n-is, ← e .m-is, x) in
         let l = fits n m (length o) (length t) (length s) (length w) x in
+        let p = map-records 12 link-field stored (m-field b) (drop (16 + 12 * n-field b) b) in
         record {
           returned = rw (k, store-objects b, store-references b, store-leases b, ec, ea, e .n-is, e .m-is, e .index-is);
-          offsets-are = rw (k, store-objects b, eo, e .n-is, l .targets, e .m-is);
-          targets-are = rw (k, store-objects b, et, e .n-is, l .targets, e .m-is);
+          offsets-are = rw (k, store-objects b, p, eo, e .n-is, l .targets, e .m-is);
+          targets-are = rw (k, store-objects b, p, et, e .n-is, l .targets, e .m-is);
           sizes-are = rw (k, es, l .sizes, e .n-is);
           starts-are = rw (k, ew, ea, e .n-is, e .m-is, e .index-is);
         }

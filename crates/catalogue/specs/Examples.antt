@@ -6,12 +6,12 @@ use lib.ListN.{take, replicate}
 use Rattle.laws.specs.Grouping.{starts, below, under, grouped, part}
 use Rattle.laws.specs.Sum.{sum, hit}
 use Rattle.laws.specs.Words.{le, word}
-use Rattle.catalogue.specs.Store.{Store, Pair, offsetsOf, targetsOf, startsOf, padded}
+use Rattle.catalogue.specs.Store.{Store, Link, refers, offsetsOf, targetsOf, startsOf, padded}
 use Rattle.catalogue.specs.Layout.{layout, leaseRecord}
 use Rattle.catalogue.specs.Reading.{reading, refused, accepted, catalogueFault, faults, leaseFaults, recordFault, storeOf, records}
 
-abbrev pair : ℕ → ℕ → Pair
-pair from to = record { from = from; to = to }
+abbrev refer : ℕ → ℕ → Link
+refer from to = refers (record { from = from; to = to })
 
 -- store S: six objects, index 0, references 0→1, 0→2, 1→3, 2→3, 3→0, 5→4
 abbrev pub S : Store
@@ -19,7 +19,7 @@ S =
     record {
       index = 0;
       sizes = 100 ∷ 200 ∷ 300 ∷ 400 ∷ 500 ∷ 600 ∷ [];
-      pairs = pair 0 1 ∷ pair 0 2 ∷ pair 1 3 ∷ pair 2 3 ∷ pair 3 0 ∷ pair 5 4 ∷ [];
+      links = refer 0 1 ∷ refer 0 2 ∷ refer 1 3 ∷ refer 2 3 ∷ refer 3 0 ∷ refer 5 4 ∷ [];
       leases = [];
     }
 
@@ -60,7 +60,7 @@ targets-of-S = refl
 
 -- S with two leases: one for object 5, and one for the index, which adds nothing to where a collection starts
 abbrev pub S-leased : Store
-S-leased = record { index = S .index; sizes = S .sizes; pairs = S .pairs; leases = 5 ∷ 0 ∷ [] }
+S-leased = record { index = S .index; sizes = S .sizes; links = S .links; leases = 5 ∷ 0 ∷ [] }
 
 -- its catalogue: that of S, and the two leases
 abbrev pub bytesOfLeased : List ℕ

@@ -2,7 +2,7 @@
 use mathlib.Core.List.{List, _++_, flatMap}
 use Prim.Native.Nat.{ℕ}
 use Rattle.laws.specs.Words.{le}
-use Rattle.catalogue.specs.Store.{Pair, Store, objects, references}
+use Rattle.catalogue.specs.Store.{Pair, Link, refers, names, Store, objects, references}
 
 -- the kinds of records
 abbrev pub header : ℕ
@@ -17,7 +17,10 @@ reference = 3
 abbrev pub lease : ℕ
 lease = 4
 
--- the length of a header's record, of an object's or a reference's, and of a lease's
+abbrev pub subject : ℕ
+subject = 5
+
+-- the length of a header's record, of an object's, a reference's or a subject's, and of a lease's
 abbrev pub header-length : ℕ
 header-length = 16
 
@@ -39,16 +42,20 @@ headerRecord s = recordOf header-length header (le 4 (objects s) ++ (le 4 (refer
 abbrev pub objectRecord : ℕ → List ℕ
 objectRecord size = recordOf record-length object (le 8 size)
 
--- reference: from, to (4 bytes each)
-abbrev pub referenceRecord : Pair → List ℕ
-referenceRecord p = recordOf record-length reference (le 4 (p .from) ++ le 4 (p .to))
+-- reference: from, to (4 bytes each); subject: from, the naming object, and to, its subject
+abbrev pub pairRecord : ℕ → Pair → List ℕ
+pairRecord kind p = recordOf record-length kind (le 4 (p .from) ++ le 4 (p .to))
+
+abbrev pub linkRecord : Link → List ℕ
+linkRecord (refers p) = pairRecord reference p
+linkRecord (names p) = pairRecord subject p
 
 -- lease: the object (4)
 abbrev pub leaseRecord : ℕ → List ℕ
 leaseRecord v = recordOf lease-length lease (le 4 v)
 
--- one header stands first, then n objects, numbered from 0, then m references, then the leases, and there it ends
+-- one header stands first, then n objects, numbered from 0, then m references and subjects, then the leases, and there it ends
 unfoldable pub layout : Store → List ℕ
 layout s =
     headerRecord s
-    ++ (flatMap objectRecord (s .sizes) ++ (flatMap referenceRecord (s .pairs) ++ flatMap leaseRecord (s .leases)))
+    ++ (flatMap objectRecord (s .sizes) ++ (flatMap linkRecord (s .links) ++ flatMap leaseRecord (s .leases)))

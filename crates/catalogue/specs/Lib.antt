@@ -6,4 +6,6 @@ pub mod Fill
 pub mod Layout
 pub mod ReadGraph
 pub mod Reading
+pub mod Signed
 pub mod Store
+pub mod Subject

@@ -6,7 +6,7 @@ use mathlib.Core.List.{List, map}
 use Prim.Native.Nat.{ℕ, _<_}
 use Rattle.laws.specs.Grouping.{part}
 use Rattle.graph.specs.Graph.{Graph, graph, wellFormed, referencesOf, objects as graph-objects, references as graph-references}
-use Rattle.catalogue.specs.Store.{Store, Pair, objects, references, offsetsOf, targetsOf}
+use Rattle.catalogue.specs.Store.{Store, Pair, objects, references, pairs, offsetsOf, targetsOf}
 
 -- the graph that the filled offsets and targets are
 abbrev pub readGraph : Store → Graph
@@ -14,7 +14,7 @@ readGraph s = graph (offsetsOf s) (targetsOf s)
 
 -- the targets of v's references, in catalogue order
 abbrev pub targetsFrom : Store → ℕ → List ℕ
-targetsFrom s v = map (λ (p : Pair). p .to) (part (λ (p : Pair). p .from) v (s .pairs))
+targetsFrom s v = map (λ (p : Pair). p .to) (part (λ (p : Pair). p .from) v (pairs s))
 
 -- a graph that is this store's: its n and m, check 10, and the view of each object
 pub record ReadGraph (s : Store) (G : Graph) : Type 0 where

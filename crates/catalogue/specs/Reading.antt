@@ -9,15 +9,15 @@ use Rattle.laws.specs.Choice.{pick}
 use Rattle.laws.specs.Words.{word}
 use Rattle.refusal.specs.Order.{raise, first}
 use Rattle.graph.specs.Limits.{most-objects, most-references, largest-size}
-use Rattle.catalogue.specs.Store.{Pair, Store, most-leases}
-use Rattle.catalogue.specs.Layout.{header, object, reference, lease, header-length, record-length, lease-length}
+use Rattle.catalogue.specs.Store.{Pair, Link, refers, names, stored, Store, most-leases}
+use Rattle.catalogue.specs.Layout.{header, object, reference, lease, subject, header-length, record-length, lease-length}
 
 -- the little-endian number of so many bytes at a place
 abbrev pub number : ℕ → ℕ → List ℕ → ℕ
 number width place b = word width (drop place b)
 
--- of a record: its length and its kind; of a header: n, m and the index; of an object: its size; of a reference: its pair;
--- of a lease: its object
+-- of a record: its length and its kind; of a header: n, m and the index; of an object: its size; of a reference or a
+-- subject: its two numbers; of a lease: its object
 abbrev pub length-field : List ℕ → ℕ
 length-field b = number 2 0 b
 
@@ -42,9 +42,17 @@ pair-field b = record { from = number 4 4 b; to = number 4 8 b }
 abbrev pub lease-field : List ℕ → ℕ
 lease-field b = number 4 4 b
 
+-- a reference or a subject, by its kind
+abbrev pub link-field : List ℕ → Link
+link-field b = pick (eqb (kind-field b) subject) (names (pair-field b)) (refers (pair-field b))
+
+-- the reference that is stored for it
+abbrev pub stored-field : List ℕ → Pair
+stored-field b = stored (link-field b)
+
 -- what a record is
 pub data Kind : Type 0 where
-  header-kind object-kind reference-kind lease-kind unknown : Kind
+  header-kind object-kind reference-kind lease-kind subject-kind unknown : Kind
 
 -- by the number of its kind
 abbrev pub kindOf : ℕ → Kind
@@ -53,7 +61,8 @@ kindOf (suc zero) = header-kind
 kindOf (suc (suc zero)) = object-kind
 kindOf (suc (suc (suc zero))) = reference-kind
 kindOf (suc (suc (suc (suc zero)))) = lease-kind
-kindOf (suc (suc (suc (suc (suc k))))) = unknown
+kindOf (suc (suc (suc (suc (suc zero))))) = subject-kind
+kindOf (suc (suc (suc (suc (suc (suc k)))))) = unknown
 
 -- 1: fewer than 4 bytes left for a record, or fewer than its length says
 abbrev pub short : List ℕ → Bool
@@ -65,18 +74,20 @@ misfit header-kind b = not (eqb (length-field b) header-length)
 misfit object-kind b = not (eqb (length-field b) record-length)
 misfit reference-kind b = not (eqb (length-field b) record-length)
 misfit lease-kind b = not (eqb (length-field b) lease-length)
+misfit subject-kind b = not (eqb (length-field b) record-length)
 misfit unknown b = true
 
 -- what is due behind the most leases: no kind
 abbrev pub nothing : ℕ
 nothing = 0
 
--- 3: record of a known kind out of its place, or one too many
+-- 3: record of a known kind out of its place, or one too many; a subject may stand where a reference is due
 abbrev pub misplaced : ℕ → Kind → Bool
 misplaced due header-kind = not (eqb due header)
 misplaced due object-kind = not (eqb due object)
 misplaced due reference-kind = not (eqb due reference)
 misplaced due lease-kind = not (eqb due nothing || eqb due lease)
+misplaced due subject-kind = not (eqb due reference)
 misplaced due unknown = false
 
 -- 13: a lease behind the most leases
@@ -85,6 +96,7 @@ overfull due header-kind = false
 overfull due object-kind = false
 overfull due reference-kind = false
 overfull due lease-kind = eqb due nothing
+overfull due subject-kind = false
 overfull due unknown = false
 
 -- 4: n or m outside its range
@@ -93,6 +105,7 @@ miscounted header-kind b = ltb (n-field b) 1 || ltb most-objects (n-field b) || 
 miscounted object-kind b = false
 miscounted reference-kind b = false
 miscounted lease-kind b = false
+miscounted subject-kind b = false
 miscounted unknown b = false
 
 -- 5: index, from, to or a lease's object not below n
@@ -101,6 +114,7 @@ misnamed header-kind n b = not (ltb (index-field b) (n-field b))
 misnamed object-kind n b = false
 misnamed reference-kind n b = not (ltb (pair-field b .from) n) || not (ltb (pair-field b .to) n)
 misnamed lease-kind n b = not (ltb (lease-field b) n)
+misnamed subject-kind n b = not (ltb (pair-field b .from) n) || not (ltb (pair-field b .to) n)
 misnamed unknown n b = false
 
 -- 6: a size above the largest
@@ -109,6 +123,7 @@ oversized header-kind b = false
 oversized object-kind b = ltb largest-size (size-field b)
 oversized reference-kind b = false
 oversized lease-kind b = false
+oversized subject-kind b = false
 oversized unknown b = false
 
 -- within one record the order is 1, 2, 3, 13, 4, 5, 6
@@ -133,6 +148,7 @@ lengthOf header-kind = header-length
 lengthOf object-kind = record-length
 lengthOf reference-kind = record-length
 lengthOf lease-kind = lease-length
+lengthOf subject-kind = record-length
 lengthOf unknown = 0
 
 -- leases up to a number of them, to the end of the bytes
@@ -146,7 +162,7 @@ unfoldable pub faults : ℕ → List ℕ → List ℕ → ℕ
 faults n [] b = leaseFaults n most-leases b
 faults n (due ∷ later) b = first (recordFault due n b) (faults n later (drop (lengthOf (kindOf due)) b))
 
--- after the header n objects are due, then m references
+-- after the header n objects are due, then m references, each of which may be a subject
 abbrev pub dues : ℕ → ℕ → List ℕ
 dues n m = replicate n object ++ replicate m reference
 
@@ -184,7 +200,7 @@ storeOf b =
     record {
       index = index-field b;
       sizes = records record-length size-field (n-field b) (drop header-length b);
-      pairs = records record-length pair-field (m-field b) (drop (header-length + record-length * n-field b) b);
+      links = records record-length link-field (m-field b) (drop (header-length + record-length * n-field b) b);
       leases = leasesFrom (leases-at (n-field b) (m-field b)) b;
     }
 

@@ -11,19 +11,32 @@ pub record Pair : Type 0 where
   pub from : ℕ
   pub to : ℕ
 
--- the index object, the size of each object, the references in catalogue order, and the objects with a lease
+-- what stands among the references: an object refers to another, or names another as its subject
+pub data Link : Type 0 where
+  refers names : Pair → Link
+
+-- the reference that is stored: for a subject, the one from the named subject to the naming object
+abbrev pub stored : Link → Pair
+stored (refers p) = p
+stored (names p) = record { from = p .to; to = p .from }
+
+-- the index object, the size of each object, the references and subjects in catalogue order, and the objects with a lease
 pub record Store : Type 0 where
   pub index : ℕ
   pub sizes : List ℕ
-  pub pairs : List Pair
+  pub links : List Link
   pub leases : List ℕ
 
--- n and m
+-- n and m; a subject counts in m
 abbrev pub objects : Store → ℕ
 objects s = length (s .sizes)
 
 abbrev pub references : Store → ℕ
-references s = length (s .pairs)
+references s = length (s .links)
+
+-- the stored references, in catalogue order
+abbrev pub pairs : Store → List Pair
+pairs s = map stored (s .links)
 
 -- both ends of a reference are objects
 pub record Ends (n : ℕ) (p : Pair) : Type 0 where
@@ -41,17 +54,17 @@ pub record InRange (s : Store) : Type 0 where
   pub few-references : references s ≤ most-references
   pub index-below : s .index < objects s
   pub sizes-small : Every (λ (x : ℕ). x ≤ largest-size) (s .sizes)
-  pub ends-below : Every (Ends (objects s)) (s .pairs)
+  pub ends-below : Every (Ends (objects s)) (pairs s)
   pub few-leases : length (s .leases) ≤ most-leases
   pub leases-below : Every (λ (x : ℕ). x < objects s) (s .leases)
 
 -- the n + 1 offsets: offset v says where v's references begin among the targets
 abbrev pub offsetsOf : Store → List ℕ
-offsetsOf s = starts (λ (p : Pair). p .from) (objects s) (s .pairs)
+offsetsOf s = starts (λ (p : Pair). p .from) (objects s) (pairs s)
 
 -- the m targets: the references of object 0, of object 1, .., each object's in catalogue order
 abbrev pub targetsOf : Store → List ℕ
-targetsOf s = map (λ (p : Pair). p .to) (grouped (λ (p : Pair). p .from) (objects s) (s .pairs))
+targetsOf s = map (λ (p : Pair). p .to) (grouped (λ (p : Pair). p .from) (objects s) (pairs s))
 
 -- the starts: the index, then the leases in catalogue order
 abbrev pub startsOf : Store → List ℕ

@@ -31,20 +31,24 @@ const REFERENCE: u16 = 3;
 
 const LEASE: u16 = 4;
 
+pub const SUBJECT: u16 = 5;
+
 // The most leases.
 const MOST_LEASES: u32 = 256;
 
-// The length of a header's record, of an object's or a reference's, and of a lease's.
+// The length of a header's record, of an object's, a reference's or a subject's, and of a lease's.
 pub const HEADER_LENGTH: usize = 16;
 
 pub const RECORD_LENGTH: usize = 12;
 
 pub const LEASE_LENGTH: usize = 8;
 
-// The length and the kind of an object as one word, and of a reference.
+// The length and the kind of an object as one word, of a reference, and of a subject.
 const OBJECT_HEAD: u32 = 131084;
 
 const REFERENCE_HEAD: u32 = 196620;
+
+const SUBJECT_HEAD: u32 = 327692;
 
 // What a header says.
 pub struct Header {
@@ -134,7 +138,7 @@ fn objects_right(bytes: &[u8], n: usize) -> bool
     oversized == 0
 }
 
-// The references, up to the record with the number `end`, in the same way.
+// The references and subjects, up to the record with the number `end`, in the same way.
 fn references_right(bytes: &[u8], n: u32, end: usize) -> bool
     requires { ⌜ (n ≤ end) × (16 + 12 * end ≤ length (now bytes)) ⌝ }
     ensures { λ r. ⌜ (r ≡ true → Clear n n end (now (bytes .entry))) ⌝ }
@@ -144,8 +148,11 @@ fn references_right(bytes: &[u8], n: u32, end: usize) -> bool
     let mut to_above: u32 = 0;
     for i in n as usize..end {
         let at = HEADER_LENGTH + RECORD_LENGTH * i;
-        if word4(bytes, at) != REFERENCE_HEAD {
-            misfits = 1;
+        let head = word4(bytes, at);
+        if head != REFERENCE_HEAD {
+            if head != SUBJECT_HEAD {
+                misfits = 1;
+            }
         }
         if word4(bytes, at + 4) >= n {
             from_above = 1;
@@ -266,7 +273,7 @@ fn kind_fault(bytes: &[u8], long: usize, kind: u16, due: u16, n: u32) -> Verdict
             }
             object_fault(bytes)
         }
-        REFERENCE => {
+        REFERENCE | SUBJECT => {
             if long != RECORD_LENGTH {
                 return Verdict::Faulty(Refusal::Kind);
             }
@@ -281,7 +288,7 @@ fn kind_fault(bytes: &[u8], long: usize, kind: u16, due: u16, n: u32) -> Verdict
             }
             lease_fault(bytes, due, n)
         }
-        0 | 5..=65535 => Verdict::Faulty(Refusal::Kind),
+        0 | 6..=65535 => Verdict::Faulty(Refusal::Kind),
     }
 }
 
@@ -318,7 +325,7 @@ fn object_fault(bytes: &[u8]) -> Verdict
     Verdict::Fine
 }
 
-// 5 of a reference.
+// 5 of a reference or a subject.
 fn reference_fault(bytes: &[u8], n: u32) -> Verdict
     requires { ⌜ 12 ≤ length (now bytes) ⌝ }
     ensures { λ r. ⌜ numberOf r ≡ raise (misnamed reference-kind n (now (bytes .entry))) 5 0 ⌝ }

@@ -2,9 +2,9 @@
 use mathlib.Core.Path.{_≡_, sym, ap, _∙_}
 use mathlib.Core.Bool.{_||_}
 use mathlib.Core.List.{List}
-use Prim.Native.Nat.{ℕ, zero, suc, _≤_, _*_, _+_}
+use Prim.Native.Nat.{ℕ, zero, suc, _≤_}
 use native.Mathlib.Omega.{arith}
-use lib.ListN.{drop, length}
+use lib.ListN.{length}
 use lib.Dec.{ltb}
 use borrow.Author.Tests.{ltb-false}
 use Rattle.refusal.specs.declared.Refusal.{Refusal}
@@ -13,13 +13,13 @@ use Rattle.refusal.proofs.None.{first-none, raise-none, or-none}
 use Rattle.refusal.proofs.Numbers.{first-found}
 use Rattle.text.specs.Text.{Put}
 use Rattle.text.proofs.Written.{same-long}
-use Rattle.catalogue.specs.Layout.{header, header-length, record-length}
+use Rattle.catalogue.specs.Layout.{header}
 use Rattle.catalogue.specs.Store.{objects, references}
-use Rattle.catalogue.specs.Reading.{storeOf, recordFault, n-field, m-field, size-field, pair-field}
+use Rattle.catalogue.specs.Reading.{storeOf, recordFault, n-field, m-field}
 use Rattle.catalogue.specs.declared.Answer.{Answer}
 use Rattle.catalogue.specs.declared.Answer.the-variants.{Read, Refused}
 use Rattle.catalogue.specs.Answer.{Row, row, headerRow, header-values}
-use Rattle.catalogue.proofs.Filling.{length-records}
+use Rattle.catalogue.proofs.Reader.{store-objects, store-references}
 use Rattle.report.specs.Limits.{most-objects, most-references, order-length, text-room}
 use Rattle.report.specs.Lines.{refusalLine}
 use Rattle.report.specs.Report.{Files, unreadable, orderOf, scheduleOf, contentsOf, filesFault, countsFault, programFault, laterText, programText}
@@ -45,12 +45,10 @@ fields zero b e = (ap (λ (x : Row). x .n) e, ap (λ (x : Row). x .m) e)
 fields (suc f) b e = let q = ap (λ (x : Row). x .refusal) e in absurd (omega arith)
 
 told : {n m i : ℕ} (b : List ℕ) → row (Read n m i) ≡ headerRow b → (n ≡ objects (storeOf b)) × (m ≡ references (storeOf b))
-unfolding headerRow storeOf
+unfolding headerRow
 told b e =
-    let f = fields (recordFault header (n-field b) b) b e in (
-      f .0 ∙ sym (length-records record-length size-field (n-field b) (drop header-length b)),
-      f .1 ∙ sym (length-records record-length pair-field (m-field b) (drop (header-length + record-length * n-field b) b)),
-    )
+    let f = fields (recordFault header (n-field b) b) b e in
+    (f .0 ∙ sym (store-objects b), f .1 ∙ sym (store-references b))
 
 module _ (f : Files) where
   due : {v : ℕ} (r : Refusal) → v ≡ number r → number r ≡ programFault f → refusalLine v ≡ programText f

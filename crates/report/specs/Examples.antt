@@ -1,14 +1,16 @@
 -- What the program prints, computed from the bytes of both files: SPECIFICATION 7's listing, an unfinished collection,
--- and the drawings K and L.
+-- the drawings K and L, and a signed image, live and dead.
 use mathlib.Core.Path.{_≡_, refl}
-use mathlib.Core.List.{List, [], _∷_, _++_, map}
+use mathlib.Core.List.{List, [], _∷_, _++_, map, flatMap}
 use Prim.Native.Nat.{ℕ}
 use lib.ListN.{take}
-use Rattle.laws.specs.Words.{word}
+use Rattle.laws.specs.Words.{le, word}
 use Rattle.laws.specs.Sum.{sum, hit}
 use Rattle.laws.specs.Grouping.{starts, below, under, grouped, part}
 use Rattle.graph.specs.Chain.{marksAt}
 use Rattle.catalogue.specs.Examples.{bytesOfS, bytesOfLeased}
+use Rattle.catalogue.specs.Signed.{bytesOfSigned, dropped}
+use Rattle.catalogue.specs.Layout.{layout}
 use Rattle.catalogue.specs.Answer.{headerRow}
 use Rattle.catalogue.specs.Reading.{catalogueFault, faults, leaseFaults, recordFault, storeOf, records}
 use Rattle.machine.specs.Drawings.{turnsA, naming0}
@@ -47,3 +49,14 @@ pub listings :
     ∷ []
 unfolding turnsA naming0 word sum hit starts below under grouped part marksAt headerRow catalogueFault faults leaseFaults recordFault storeOf records turns start startRuns entries allEnded live carried keep rest scheduleFits deadFrom sizesOf digitsIn decimal countLines tallyLine tallyLines deadLines
 listings = refl
+
+-- an image with a signature and a bill of material, by which all of it lives, and the same where the index no longer refers to
+-- the image: both are swept with it
+pub signed-listings :
+    map programText
+    (readWhole bytesOfSigned (ordering (turnsA ++ turnsA)) ∷ readWhole (layout dropped) (ordering (turnsA ++ turnsA)) ∷ [])
+    ≡ codes "finished\nlive 5\nfollowed 4\nhanded 1\nrefused 0\nmoved 16\ncarrying 0\nbox 0 followed 3 won 3 lost 0 handed 1\nbox 1 followed 1 won 1 lost 0 handed 0\nfreed 0\n"
+    ∷ codes "finished\nlive 1\nfollowed 0\nhanded 0\nrefused 0\nmoved 2\ncarrying 0\nbox 0 followed 0 won 0 lost 0 handed 0\nbox 1 followed 0 won 0 lost 0 handed 0\ndead 1 20\ndead 2 30\ndead 3 40\ndead 4 50\nfreed 140\n"
+    ∷ []
+unfolding layout le flatMap turnsA naming0 word sum hit starts below under grouped part marksAt headerRow catalogueFault faults leaseFaults recordFault storeOf records turns start startRuns entries allEnded live carried keep rest scheduleFits deadFrom sizesOf digitsIn decimal countLines tallyLine tallyLines deadLines
+signed-listings = refl

@@ -84,12 +84,12 @@ pub fn records(rng: &mut Rng, records: &mut Vec<Record>, n: u32) {
     let j = rng.below(records.len());
     match rng.below(8) {
         0 | 1 => field(rng, &mut records[i], n),
-        2 => records[i].kind = rng.pick(&[0, 1, 2, 3, 4, 5, 255, 256, 512, 768, 1024, u16::MAX]),
+        2 => records[i].kind = rng.pick(&[0, 1, 2, 3, 4, 5, 6, 255, 256, 512, 768, 1024, 1280, u16::MAX]),
         3 => records[i].length = rng.pick(&[0, 1, 3, 4, 8, 11, 12, 13, 15, 16, 17, 24, 0x0c00, 0x1000, u16::MAX]),
         4 => records.swap(i, j),
         5 => drop(records.remove(i)),
         6 => records.insert(j, records[i].clone()),
-        _ => records.push(Record::new(rng.pick(&[1, 2, 3, 4, 4, 5]), vec![0; rng.pick(&[0, 4, 8, 12])])),
+        _ => records.push(Record::new(rng.pick(&[1, 2, 3, 4, 4, 5, 6]), vec![0; rng.pick(&[0, 4, 8, 12])])),
     }
 }
 

@@ -99,8 +99,19 @@ fn small_store(rng: &mut Rng) -> Store {
     if rng.once_in(2) {
         rng.shuffle(&mut store.pairs);
     }
+    store.subjects = subjects(rng, store.m());
     store.leases = leases(rng, n);
     store
+}
+
+/// Which of m references are subjects: none, a few, half, or all.
+fn subjects(rng: &mut Rng, m: usize) -> Vec<bool> {
+    match rng.below(5) {
+        0 | 1 => Vec::new(),
+        2 => (0..m).map(|_| rng.once_in(8)).collect(),
+        3 => (0..m).map(|_| rng.once_in(2)).collect(),
+        _ => vec![true; m],
+    }
 }
 
 /// The objects of the leases: none, a few, repeated ones, or about as many as there may be.

@@ -31,6 +31,7 @@ fn large_read(rng: &mut Rng, number: u64) -> Call {
     let mut store = store::store(rng, 0, n, m);
     if number == 2 {
         store.leases = vec![n as u32 - 1; MOST_LEASES];
+        store.subjects = (0..m).map(|_| rng.once_in(2)).collect();
     }
     let sizes = store::sizes(rng, n);
     let mut bytes = store::bytes(&store.records(&sizes));

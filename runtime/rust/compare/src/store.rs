@@ -6,8 +6,10 @@ use reference::LARGEST_SIZE;
 pub struct Store {
     pub n: usize,
     pub index: u32,
-    /// From, to: in catalogue order.
+    /// From, to, as they are stored: in catalogue order.
     pub pairs: Vec<(u32, u32)>,
+    /// Which of them the catalogue has as subjects; those behind the last are references.
+    pub subjects: Vec<bool>,
     /// Objects with a lease, in catalogue order.
     pub leases: Vec<u32>,
 }
@@ -25,7 +27,7 @@ pub fn store(rng: &mut Rng, shape: usize, n: usize, m: usize) -> Store {
         6 => (0..n as u32).map(|v| (v, (v + 1) % n as u32)).collect(),
         _ => (0..m).map(|_| (rng.below(n).min(rng.below(n)) as u32, rng.below(n.min(3)) as u32)).collect(),
     };
-    Store { n, index: 0, pairs, leases: Vec::new() }
+    Store { n, index: 0, pairs, subjects: Vec::new(), leases: Vec::new() }
 }
 
 pub const SHAPES: usize = 8;
@@ -67,8 +69,10 @@ impl Store {
         let head = [self.n as u32, self.m() as u32, self.index];
         let mut records = vec![Record::new(1, head.iter().flat_map(|word| word.to_le_bytes()).collect())];
         records.extend(sizes.iter().map(|size| Record::new(2, size.to_le_bytes().to_vec())));
-        for &(from, to) in &self.pairs {
-            records.push(Record::new(3, [from.to_le_bytes(), to.to_le_bytes()].concat()));
+        let subjects = self.subjects.iter().copied().chain(std::iter::repeat(false));
+        for (&(from, to), subject) in self.pairs.iter().zip(subjects) {
+            let (kind, first, second) = if subject { (5, to, from) } else { (3, from, to) };
+            records.push(Record::new(kind, [first.to_le_bytes(), second.to_le_bytes()].concat()));
         }
         records.extend(self.leases.iter().map(|object| Record::new(4, object.to_le_bytes().to_vec())));
         records

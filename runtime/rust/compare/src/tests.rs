@@ -14,6 +14,8 @@ enum Fault {
     ListNotPadded,
     /// So are those behind the starts.
     StartsNotPadded,
+    /// A subject is stored as it is written.
+    SubjectsNotExchanged,
     /// Marks are cleared before the schedule is checked.
     MarksClearedBesideRefusal,
     /// The owner of an object is forgotten: its mark is 1.
@@ -67,7 +69,11 @@ impl Side for Fault {
         result: &mut [u32],
     ) -> u32 {
         let before = starts.to_vec();
-        let number = Reference.read(bytes, o, t, s, starts, result);
+        let mut bytes = bytes.to_vec();
+        if *self == Fault::SubjectsNotExchanged && bytes.len() > 16 {
+            bytes[16..].chunks_exact_mut(12).filter(|one| one[..4] == [12, 0, 5, 0]).for_each(|one| one[2] = 3);
+        }
+        let number = Reference.read(&bytes, o, t, s, starts, result);
         if *self == Fault::StartsNotPadded && number == 0 {
             let count = result[3] as usize;
             starts[count..].copy_from_slice(&before[count..]);
@@ -203,6 +209,7 @@ fn faults_are_found() {
     assert_eq!(found(Fault::None), None);
     assert!(found(Fault::ListNotPadded).is_some());
     assert!(found(Fault::StartsNotPadded).is_some());
+    assert!(found(Fault::SubjectsNotExchanged).is_some());
     assert!(found(Fault::MarksClearedBesideRefusal).is_some());
     assert!(found(Fault::OwnersForgotten).is_some());
     assert!(found(Fault::TalliesClearedBesideRefusal).is_some());

@@ -223,7 +223,7 @@ fn answer(number: u32) -> Result<(), Refusal> {
 pub struct Header {
     /// n, 1 to 65,536.
     pub objects: u32,
-    /// m, up to 1,048,576.
+    /// m, up to 1,048,576; subjects count in it.
     pub references: u32,
     /// The index object.
     pub index: u32,
@@ -235,7 +235,7 @@ pub struct Header {
 pub struct Store {
     /// n, 1 to 65,536.
     pub objects: u32,
-    /// m, up to 1,048,576.
+    /// m, up to 1,048,576; subjects count in it.
     pub references: u32,
     /// The index object, which is the first start.
     pub index: u32,
@@ -437,7 +437,8 @@ pub fn header(catalogue: &[u8]) -> Result<Header, Refusal> {
 }
 
 /// Checks the whole catalogue and fills n + 1 offsets, m targets, n sizes and [`STARTS`] words of starts: the index,
-/// the leases in catalogue order, and zeros behind them.
+/// the leases in catalogue order, and zeros behind them. A subject record fills in a reference from the subject to the
+/// object that names it, so that a signature lives while its image does.
 pub fn read(
     catalogue: &[u8],
     offsets: &mut [u32],

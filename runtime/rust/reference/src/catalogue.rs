@@ -45,6 +45,8 @@ enum Record {
     Header(Header),
     Object(u64),
     Reference(u32, u32),
+    /// The naming object, and its subject.
+    Subject(u32, u32),
     Lease(u32),
 }
 
@@ -64,6 +66,7 @@ fn record(rest: &[u8], due: Due, n: u32) -> Result<(Record, usize), u8> {
         2 => (12, Due::Object),
         3 => (12, Due::Reference),
         4 => (8, Due::Lease),
+        5 => (12, Due::Reference),
         _ => return Err(2),
     };
     if length != wanted {
@@ -98,7 +101,11 @@ fn record(rest: &[u8], due: Due, n: u32) -> Result<(Record, usize), u8> {
             if from >= n || to >= n {
                 return Err(5);
             }
-            Record::Reference(from, to)
+            if kind == 5 {
+                Record::Subject(from, to)
+            } else {
+                Record::Reference(from, to)
+            }
         }
         Due::Lease | Due::Nothing => {
             let object = u32_at(rest, 4);
@@ -149,6 +156,7 @@ pub fn read(
         match found {
             Record::Object(size) => all_sizes.push(size),
             Record::Reference(from, to) => pairs.push((from, to)),
+            Record::Subject(naming, subject) => pairs.push((subject, naming)),
             Record::Lease(object) => leases.push(object),
             Record::Header(_) => unreachable!(),
         }
