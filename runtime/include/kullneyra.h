@@ -144,6 +144,7 @@ struct kullneyra_drawn {
 #define KULLNEYRA_PART_WORDS (sizeof(struct kullneyra_part) / sizeof(uint64_t))
 #define KULLNEYRA_MARK_WORDS (sizeof(struct kullneyra_marked) / sizeof(uint64_t)) /* begin and resume too */
 #define KULLNEYRA_SAVED_WORDS 1
+#define KULLNEYRA_HOP_WORDS 1
 #define KULLNEYRA_SWEEP_WORDS (sizeof(struct kullneyra_swept) / sizeof(uint64_t))
 #define KULLNEYRA_LENGTH_WORDS (sizeof(struct kullneyra_length) / sizeof(uint64_t))
 #define KULLNEYRA_SEED_WORDS (sizeof(struct kullneyra_seed) / sizeof(uint32_t))
@@ -222,6 +223,20 @@ uint32_t kullneyra_draw(uint32_t *seed, size_t seed_len, uint32_t *result, size_
  * schedule are as they were. Beside the number there is no answer. */
 uint32_t kullneyra_deal_seed(uint32_t *seed, size_t seed_len, size_t rounds, uint32_t workers, uint8_t *schedule,
                              size_t schedule_len);
+
+/* The hop count of an object to which no chain of references leads. */
+#define KULLNEYRA_NO_HOPS 4294967295u
+
+/* How many work words kullneyra_hops takes for so many objects. */
+uint32_t kullneyra_hop_words(uint32_t objects, uint64_t *result, size_t result_len);
+
+/* For each object the least number of references from a start, KULLNEYRA_NO_HOPS where no chain leads to it. hops has
+ * as many words as there are objects, and work as many as kullneyra_hop_words says; what they held before does not
+ * matter. Offsets, targets and starts are checked as in kullneyra_mark. Beside a fault both are as they were. Beside the
+ * number there is no answer. */
+uint32_t kullneyra_hops(const uint32_t *offsets, size_t offsets_len, const uint32_t *targets, size_t targets_len,
+                        const uint32_t *starts, size_t starts_len, uint32_t *hops, size_t hops_len, uint32_t *work,
+                        size_t work_len);
 
 /* The same calls with a struct for the answer, which is written in every case: what the call answers
  * where the number is 0, and zeros beside a fault. */
@@ -345,6 +360,11 @@ static inline uint32_t kullneyra_deal_seed_into(struct kullneyra_seed *seed, siz
         kullneyra_deal_seed(state, KULLNEYRA_SEED_WORDS, rounds, workers, schedule, schedule_len);
     memcpy(seed, state, sizeof *seed);
     return number;
+}
+
+static inline uint32_t kullneyra_hop_words_into(uint32_t objects, uint64_t *answer) {
+    *answer = 0;
+    return kullneyra_hop_words(objects, answer, KULLNEYRA_HOP_WORDS);
 }
 
 #ifdef __cplusplus

@@ -28,6 +28,8 @@ CALLS = (
     "cards::deal",
     "seed::draw",
     "seed::deal",
+    "hops::work_words",
+    "hops::count",
 )
 EXPORTS = Path("crates/kullneyra/src/lib.rt")
 HEADER = Path("runtime/include/kullneyra.h")

@@ -24,6 +24,8 @@ FUNCTIONS = tuple(
         "deal",
         "draw",
         "deal_seed",
+        "hop_words",
+        "hops",
     )
 )
 

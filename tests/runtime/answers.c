@@ -243,5 +243,22 @@ int main(void) {
     expect("deal of a seed, second round", 0, dealt[4]);
     expect("deal of a seed, first word", 2647435461u, seed.first);
     expect("deal of a seed, behind it", 0x5a, dealt[8]);
+
+    uint64_t hop_words;
+    uint32_t hops[2] = {7, 7}, links[4] = {7, 7, 7, 7};
+    expect("hop words, no objects", KULLNEYRA_COUNT, kullneyra_hop_words_into(0, &hop_words));
+    expect("hop words beside a fault", 0, (uint32_t)hop_words);
+    expect("hop words", KULLNEYRA_OK, kullneyra_hop_words_into(2, &hop_words));
+    expect("hop words of two objects", 4, (uint32_t)hop_words);
+    expect("hops, short work", KULLNEYRA_BUFFER,
+           kullneyra_hops(offsets, 3, targets, 1, &head.index, 1, hops, 2, links, 3));
+    expect("hops, no start", KULLNEYRA_NO_STARTS, kullneyra_hops(offsets, 3, targets, 1, NULL, 0, hops, 2, links, 4));
+    expect("hops, unchanged", 7, hops[0]);
+    expect("hops", KULLNEYRA_OK, kullneyra_hops(offsets, 3, targets, 1, &head.index, 1, hops, 2, links, 4));
+    expect("hops of the index", 0, hops[0]);
+    expect("no hops", KULLNEYRA_NO_HOPS, hops[1]);
+    const uint32_t from_0[3] = {0, 1, 1}, to_1 = 1;
+    expect("hops along a reference", KULLNEYRA_OK, kullneyra_hops(from_0, 3, &to_1, 1, &head.index, 1, hops, 2, links, 4));
+    expect("hops of what it leads to", 1, hops[1]);
     return failed;
 }

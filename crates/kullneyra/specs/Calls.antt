@@ -26,6 +26,8 @@ use Rattle.seed.specs.declared.Drawn.{Drawn}
 use Rattle.seed.specs.declared.Drawn.the-variants.{Card, Refused}
 use Rattle.seed.specs.Draw.{next, drawn}
 use Rattle.seed.specs.Deal.{afterDraws, handOf, fault}
+use Rattle.hops.specs.Hops.{HopsOf}
+use Rattle.hops.specs.Call.{lengthFor as hopLengthFor, fault as hopFault}
 
 -- 7 where the result words are not as many as the call has results, else what the call answers
 abbrev pub answerIn : ℕ → List ℕ → ℕ → ℕ
@@ -179,3 +181,17 @@ pub record DealsIn (seed : List ℕ) (k W : ℕ) (schedule seed′ schedule′ :
   pub answers : answer ≡ dealAnswer seed k W (length schedule)
   pub moves : seed′ ≡ wordsFor (dealAnswer seed k W (length schedule)) (seedWords (afterDraws k (seedOf seed))) seed
   pub fills-schedule : schedule′ ≡ wordsFor (dealAnswer seed k W (length schedule)) (turnsOf W (handOf k (seedOf seed))) schedule
+
+-- ---- hop_words: how many words; hops: no results
+
+abbrev pub hopLengthAnswer : ℕ → List ℕ → ℕ
+hopLengthAnswer n result = answerIn 1 result (hopLengthFor n .number)
+
+abbrev pub hopLengthWords : ℕ → List ℕ → List ℕ
+hopLengthWords n result = wordsFor (hopLengthAnswer n result) (hopLengthFor n .words ∷ []) result
+
+-- the answer is the first fault; without one the hop counts are those of the graph, and beside a refusal every lent word is as it was
+pub record HopsIn (offsets targets starts hops work hops′ work′ : List ℕ) (answer : ℕ) : Type 0 where
+  pub answers : answer ≡ hopFault offsets targets starts (length hops) (length work)
+  pub counted : answer ≡ 0 → HopsOf (graph offsets targets) starts hops′
+  pub unchanged : (k : ℕ) → answer ≡ suc k → (hops′ ≡ hops) × (work′ ≡ work)

@@ -18,7 +18,7 @@ ghost use lib.Seq.{sets};
 ghost use Rattle.cards.specs.Hand.{fault, scheduleFor, turnsOf};
 ghost use Rattle.catalogue.specs.Answer.{row, foundRow, headerRow};
 ghost use Rattle.marker.specs.Answer.{callOf, row as markRow};
-ghost use Rattle.kullneyra.specs.Calls.{ReadsIn, headerAnswer, headerWords, readWords, wordsFor, partAnswer, partWords, sweepAnswer, sweepWords, sweepList, mark-words, resultWords, markWords, MarksIn, lengthAnswer, lengthWords, BeginsIn, ResumesIn, scheduleAnswer, scheduleWords, seedWords, DrawsIn, DealsIn};
+ghost use Rattle.kullneyra.specs.Calls.{ReadsIn, headerAnswer, headerWords, readWords, wordsFor, partAnswer, partWords, sweepAnswer, sweepWords, sweepList, mark-words, resultWords, markWords, MarksIn, lengthAnswer, lengthWords, BeginsIn, ResumesIn, scheduleAnswer, scheduleWords, seedWords, DrawsIn, DealsIn, hopLengthAnswer, hopLengthWords, HopsIn};
 
 // Result words of the marker: finished, and the counts.
 const MARK_WORDS: usize = 1 + COUNTS;
@@ -388,4 +388,36 @@ pub extern "C" fn kullneyra_deal_seed(
         }
         Dealt::Refused(refusal) => refusal::number_of(refusal) as u32,
     }
+}
+
+// How many work words the hop counts take; one result word.
+#[no_mangle]
+pub extern "C" fn kullneyra_hop_words(objects: u32, result: &mut [u64]) -> u32
+    ensures { λ r. ⌜ r ≡ hopLengthAnswer objects (now (result .entry)) ⌝ }
+    ensures { λ r. ⌜ now (result .exit) ≡ hopLengthWords objects (now (result .entry)) ⌝ }
+{
+    if result.len() != 1 {
+        return 7;
+    }
+    match hops::work_words(objects) {
+        hops::Length::Words(words) => {
+            result[0] = words;
+            0
+        }
+        hops::Length::Refused(refusal) => refusal::number_of(refusal) as u32,
+    }
+}
+
+// The hop count of each object; there are no result words.
+#[no_mangle]
+pub extern "C" fn kullneyra_hops(
+    offsets: &[u32],
+    targets: &[u32],
+    starts: &[u32],
+    hops: &mut [u32],
+    work: &mut [u32],
+) -> u32
+    ensures { λ r. ⌜ HopsIn (now (offsets .entry)) (now (targets .entry)) (now (starts .entry)) (now (hops .entry)) (now (work .entry)) (now (hops .exit)) (now (work .exit)) r ⌝ }
+{
+    refusal::verdict_number(hops::count(offsets, targets, starts, hops, work)) as u32
 }

@@ -69,7 +69,7 @@ pub fn setting_outside(workers: u32, batch: u32, cutoff: u32) -> bool
 }
 
 // Check 4: from the number of offsets and of targets, n or m is outside its range.
-fn counts_outside(offsets: usize, targets: usize) -> bool
+pub fn counts_outside(offsets: usize, targets: usize) -> bool
     ensures { λ r. ⌜ r ≡ (ltb offsets 2 || ltb most-objects (offsets - 1) || ltb most-references targets) ⌝ }
 {
     if offsets < 2 {

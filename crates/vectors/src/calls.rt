@@ -3,6 +3,7 @@ ghost use Prim.Native.Nat.{_≤_};
 ghost use Rattle.io.specs.Counts.{Counts};
 use crate::scan;
 use crate::show;
+use refusal::Verdict;
 use seed::Seed;
 
 fn least(a: usize, b: usize) -> usize
@@ -374,6 +375,45 @@ fn draw_into(seed: Seed, rounds: u32, workers: u32, schedule: &mut [u8]) {
     show::bytes(schedule);
 }
 
+fn nearest(cells: &[u64], places: &[usize; 512]) {
+    let mut offsets = [0u32; 64];
+    let mut targets = [0u32; 64];
+    let mut starts = [0u32; 512];
+    let mut hops = [0u32; 64];
+    let mut work = [0u32; 128];
+    let o = copy_words(cells, places, 0, &mut offsets);
+    let t = copy_words(cells, places, 1, &mut targets);
+    let s = copy_words(cells, places, 2, &mut starts);
+    let h = copy_words(cells, places, 3, &mut hops);
+    let w = copy_words(cells, places, 4, &mut work);
+    nearest_into(
+        &offsets[..o],
+        &targets[..t],
+        &starts[..s],
+        &mut hops[..h],
+        &mut work[..w],
+    );
+}
+
+fn nearest_into(
+    offsets: &[u32],
+    targets: &[u32],
+    starts: &[u32],
+    hops: &mut [u32],
+    work: &mut [u32],
+) {
+    let objects = least(hops.len(), 64);
+    show::hop_words(hops::work_words(objects as u32));
+    io::write_all(1, b" |");
+    let verdict = hops::count(offsets, targets, starts, hops, work);
+    show::counted(verdict);
+    show::words(hops);
+    match verdict {
+        Verdict::Fine => {}
+        Verdict::Faulty(_) => show::words(work),
+    }
+}
+
 // The call of a kind, and the line that answers it.
 pub fn call(kind: u8, text: &[u8], cells: &[u64], places: &[usize; 512]) {
     let rest = scan::behind(text, b':');
@@ -387,6 +427,7 @@ pub fn call(kind: u8, text: &[u8], cells: &[u64], places: &[usize; 512]) {
         b'g' => save(kind, cells, places),
         b'c' => cards(cells, places),
         b'd' => draw(cells, places),
+        b'n' => nearest(cells, places),
         _ => sweep(cells, places),
     }
     io::write_all(1, b"\n");

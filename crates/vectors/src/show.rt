@@ -107,6 +107,22 @@ pub fn verdict(v: Verdict) {
     }
 }
 
+pub fn hop_words(l: hops::Length) {
+    match l {
+        hops::Length::Words(words) => number(words),
+        hops::Length::Refused(r) => refused(r),
+    }
+}
+
+pub fn counted(v: Verdict) {
+    match v {
+        Verdict::Fine => {
+            io::write_all(1, b" counted");
+        }
+        Verdict::Faulty(r) => refused(r),
+    }
+}
+
 pub fn seed(s: Seed) {
     number(s.first as u64);
     number(s.second as u64);

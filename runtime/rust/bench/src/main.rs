@@ -9,6 +9,7 @@
 mod calls;
 mod graphs;
 mod hands;
+mod hops;
 mod measure;
 mod plot;
 mod table;
@@ -76,7 +77,8 @@ fn main() -> io::Result<()> {
     let read = call_rows(&graphs, Graph::m, |graph| calls::read(graph, repetitions));
     let sweep = call_rows(&graphs, Graph::n, |graph| calls::sweep(graph, repetitions));
     let deal = hands::deal_rows(repetitions);
-    eprintln!("bench: read, swept and dealt");
+    let hops = hops::rows(&graphs, repetitions);
+    eprintln!("bench: read, swept, dealt and counted hops");
     let marks = mark_rows(&graphs, repetitions);
     let stops = stop_rows(&graphs, repetitions);
     let growth = growth_rows(repetitions);
@@ -89,6 +91,7 @@ fn main() -> io::Result<()> {
         table::marks(&marks),
         table::calls("Sweep", "object", &sweep),
         table::calls("Schedule of a hand and of a seed", "turn", &deal),
+        table::calls("Hops; Rust is a plain queue, tuned the same search on the same bag", "reference", &hops),
         table::stops(&stops),
         table::growth(&growth),
         table::goals(&marks),

@@ -59,6 +59,16 @@ pub enum Call {
         workers: u32,
         schedule: usize,
     },
+    HopWords {
+        objects: u32,
+    },
+    Hops {
+        offsets: Vec<u32>,
+        targets: Vec<u32>,
+        starts: Vec<u32>,
+        hops: usize,
+        work: usize,
+    },
 }
 
 #[derive(Clone, Debug, PartialEq, Eq)]
@@ -126,7 +136,7 @@ impl Case {
 }
 
 impl Call {
-    pub const CALLS: usize = 12;
+    pub const CALLS: usize = 14;
     pub const NAMES: [&'static str; Self::CALLS] = [
         "header",
         "read",
@@ -140,6 +150,8 @@ impl Call {
         "deal",
         "draw",
         "deal seed",
+        "hop words",
+        "hops",
     ];
 
     pub fn place(&self) -> usize {
@@ -156,13 +168,15 @@ impl Call {
             Call::Deal { .. } => 9,
             Call::Draw { .. } => 10,
             Call::DealSeed { .. } => 11,
+            Call::HopWords { .. } => 12,
+            Call::Hops { .. } => 13,
         }
     }
 
     /// The right length of the result buffer; 0 for a call that has none.
     pub fn result_words(&self) -> usize {
         const MARKED: usize = reference::Outcome::WORDS;
-        [3, 4, 2, MARKED, 2, 1, MARKED, MARKED, 1, 0, 1, 0][self.place()]
+        [3, 4, 2, MARKED, 2, 1, MARKED, MARKED, 1, 0, 1, 0, 1, 0][self.place()]
     }
 
     /// The answers that the specification has for this call.
@@ -180,6 +194,8 @@ impl Call {
             &[0, 7, 8, 15],
             &[0, 7, 16],
             &[0, 7, 8, 15, 16],
+            &[0, 4, 7],
+            &[0, 4, 5, 7, 10, 13],
         ];
         ANSWERS[place]
     }
@@ -277,6 +293,13 @@ impl fmt::Display for Case {
             Call::DealSeed { seed, rounds, workers, schedule } => {
                 list(f, "seed", seed)?;
                 writeln!(f, "  rounds {rounds}, W {workers}, length: schedule {schedule}")?;
+            }
+            Call::HopWords { objects } => writeln!(f, "  {objects} objects")?,
+            Call::Hops { offsets, targets, starts, hops, work } => {
+                list(f, "offsets", offsets)?;
+                list(f, "targets", targets)?;
+                list(f, "starts", starts)?;
+                writeln!(f, "  lengths: hops {hops}, work {work}")?;
             }
         }
         writeln!(f, "  length: result {}", self.result)

@@ -10,7 +10,7 @@ use reference::{Tally, LARGEST_SIZE, MOST_LEASES, STARTS};
 
 /// A small case.
 pub fn small(rng: &mut Rng) -> Case {
-    let call = match rng.below(36) {
+    let call = match rng.below(40) {
         0 | 1 => Call::Header { bytes: catalogue(rng).0 },
         2..=8 => read(rng),
         9 | 10 => references(rng),
@@ -22,13 +22,28 @@ pub fn small(rng: &mut Rng) -> Case {
         32 => length(rng),
         33 => deal(rng),
         34 => Call::Draw { seed: seed(rng) },
-        _ => deal_seed(rng),
+        35 => deal_seed(rng),
+        36 => hop_words(rng),
+        _ => hops(rng),
     };
     let result = match call.result_words() {
         0 => 0,
         words => damage::length_once_in(rng, 30, words),
     };
     Case { result, fill: rng.word(), call }
+}
+
+fn hop_words(rng: &mut Rng) -> Call {
+    let any = rng.word() as u32;
+    Call::HopWords { objects: rng.pick(&[0, 1, 6, 65_535, 65_536, 65_537, u32::MAX, any]) }
+}
+
+/// A graph and starts as the marker is given, with words for the hop counts.
+fn hops(rng: &mut Rng) -> Call {
+    let Mark { offsets, targets, starts, .. } = mark(rng);
+    let n = offsets.len().saturating_sub(1);
+    let (hops, work) = (damage::length_once_in(rng, 15, n), damage::length_once_in(rng, 15, 2 * n));
+    Call::Hops { offsets, targets, starts, hops, work }
 }
 
 /// W for cards, now and then out of range or more than a card has.

@@ -85,6 +85,14 @@ pub fn demands(case: &Case, got: &After) -> Result<(), String> {
                 false => Err("does not hold: each draw is a stretch".into()),
             }
         }
+        Call::Hops { offsets, targets, starts, .. } if got.number == 0 => {
+            let (found, _) = reached(offsets, targets, starts);
+            let counted = got.lent(0).into_iter().map(|hops| hops != u64::from(reference::NO_HOPS));
+            match counted.eq(found) {
+                true => Ok(()),
+                false => Err("does not hold: exactly the objects that live have a hop count".into()),
+            }
+        }
         _ => Ok(()),
     }
 }

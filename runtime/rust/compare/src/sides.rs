@@ -26,6 +26,8 @@ pub trait Side {
     fn deal(&self, cards: &[u32], workers: u32, schedule: &mut [u8]) -> u32;
     fn draw(&self, seed: &mut [u32], result: &mut [u32]) -> u32;
     fn deal_seed(&self, seed: &mut [u32], rounds: usize, workers: u32, schedule: &mut [u8]) -> u32;
+    fn hop_words(&self, objects: u32, result: &mut [u64]) -> u32;
+    fn hops(&self, offsets: &[u32], targets: &[u32], starts: &[u32], hops: &mut [u32], work: &mut [u32]) -> u32;
 }
 
 /// What is lent to the calls that save.
@@ -100,6 +102,14 @@ impl Side for Proved {
 
     fn deal_seed(&self, seed: &mut [u32], rounds: usize, workers: u32, schedule: &mut [u8]) -> u32 {
         raw::deal_seed(seed, rounds, workers, schedule)
+    }
+
+    fn hop_words(&self, objects: u32, result: &mut [u64]) -> u32 {
+        raw::hop_words(objects, result)
+    }
+
+    fn hops(&self, offsets: &[u32], targets: &[u32], starts: &[u32], hops: &mut [u32], work: &mut [u32]) -> u32 {
+        raw::hops(offsets, targets, starts, hops, work)
     }
 }
 
@@ -198,6 +208,14 @@ impl Side for Typed {
         seed.copy_from_slice(&[words.first, words.second]);
         answer.map_or_else(Refusal::number, |()| 0)
     }
+
+    fn hop_words(&self, objects: u32, result: &mut [u64]) -> u32 {
+        written(kullneyra::hop_length(objects).map(|words| [words]), result, Refusal::number)
+    }
+
+    fn hops(&self, offsets: &[u32], targets: &[u32], starts: &[u32], hops: &mut [u32], work: &mut [u32]) -> u32 {
+        kullneyra::hops(offsets, targets, starts, hops, work).map_or_else(Refusal::number, |()| 0)
+    }
 }
 
 /// The specification in plain Rust; the result buffer's length is looked at first, as the C header says.
@@ -295,6 +313,17 @@ impl Side for Reference {
         seed.copy_from_slice(&[words.first, words.second]);
         answer.map_or_else(u32::from, |()| 0)
     }
+
+    fn hop_words(&self, objects: u32, result: &mut [u64]) -> u32 {
+        if result.len() != 1 {
+            return WRONG_LENGTH;
+        }
+        written(reference::hop_words(objects as usize).map(|words| [words]), result, u32::from)
+    }
+
+    fn hops(&self, offsets: &[u32], targets: &[u32], starts: &[u32], hops: &mut [u32], work: &mut [u32]) -> u32 {
+        reference::hops(offsets, targets, starts, hops, work).map_or_else(u32::from, |()| 0)
+    }
 }
 
 /// What the proved calls are measured against; where there is no tuned call, the plain one.
@@ -355,6 +384,14 @@ impl Side for Tuned {
 
     fn deal_seed(&self, seed: &mut [u32], rounds: usize, workers: u32, schedule: &mut [u8]) -> u32 {
         Reference.deal_seed(seed, rounds, workers, schedule)
+    }
+
+    fn hop_words(&self, objects: u32, result: &mut [u64]) -> u32 {
+        Reference.hop_words(objects, result)
+    }
+
+    fn hops(&self, offsets: &[u32], targets: &[u32], starts: &[u32], hops: &mut [u32], work: &mut [u32]) -> u32 {
+        tuned::hops(offsets, targets, starts, hops, work).map_or_else(u32::from, |()| 0)
     }
 }
 
@@ -451,6 +488,14 @@ impl Side for Untouched {
 
     fn deal_seed(&self, _: &mut [u32], _: usize, _: u32, _: &mut [u8]) -> u32 {
         0
+    }
+
+    fn hop_words(&self, _: u32, _: &mut [u64]) -> u32 {
+        0
+    }
+
+    fn hops(&self, _: &[u32], _: &[u32], _: &[u32], _: &mut [u32], _: &mut [u32]) -> u32 {
+        WRONG_LENGTH // as beside a refusal, where the work words are looked at, too
     }
 }
 
@@ -621,6 +666,20 @@ pub fn after(case: &Case, side: &dyn Side) -> After {
             let mut schedule = bytes(*schedule, case.fill(2));
             let number = side.deal_seed(seed.part(), *rounds, *workers, schedule.part());
             After { number, buffers: vec![("seed", Whole::Words(seed.0)), ("schedule", Whole::Bytes(schedule.0))] }
+        }
+        Call::HopWords { objects } => {
+            let mut result = longs(case.result, case.fill(0));
+            let number = side.hop_words(*objects, result.part());
+            After { number, buffers: vec![("result", Whole::Longs(result.0))] }
+        }
+        Call::Hops { offsets, targets, starts, hops, work } => {
+            let (mut hops, mut work) = (words(*hops, case.fill(1)), words(*work, case.fill(2)));
+            let number = side.hops(offsets, targets, starts, hops.part(), work.part());
+            // Nothing is said of the work words of an accepted call, but that no other word is touched.
+            if number == 0 {
+                work.part().fill(0);
+            }
+            After { number, buffers: vec![("hops", Whole::Words(hops.0)), ("work", Whole::Words(work.0))] }
         }
     }
 }

@@ -49,6 +49,7 @@ enum Fault {
     RefusedSeedMoved,
     /// The seed is moved by one draw too few.
     SeedOneDrawBehind,
+    FarthestLost,
 }
 
 impl Side for Fault {
@@ -194,11 +195,24 @@ impl Side for Fault {
         }
         number
     }
+
+    fn hop_words(&self, objects: u32, result: &mut [u64]) -> u32 {
+        Reference.hop_words(objects, result)
+    }
+
+    fn hops(&self, offsets: &[u32], targets: &[u32], starts: &[u32], hops: &mut [u32], work: &mut [u32]) -> u32 {
+        let number = Reference.hops(offsets, targets, starts, hops, work);
+        if *self == Fault::FarthestLost && number == 0 {
+            let most = hops.iter().copied().filter(|&hop| hop != reference::NO_HOPS).max();
+            hops.iter_mut().filter(|hop| Some(**hop) == most).for_each(|hop| *hop = reference::NO_HOPS);
+        }
+        number
+    }
 }
 
 /// The first small case in which the faulty side differs.
 fn found(fault: Fault) -> Option<u64> {
-    (LARGE..LARGE + 10_000).find(|&number| {
+    (LARGE..LARGE + 12_000).find(|&number| {
         let case = case_of(SEED, number);
         same(&case, &fault, &after(&case, &Reference)).is_err()
     })
@@ -227,6 +241,7 @@ fn faults_are_found() {
     assert!(found(Fault::LastAsksItself).is_some());
     assert!(found(Fault::RefusedSeedMoved).is_some());
     assert!(found(Fault::SeedOneDrawBehind).is_some());
+    assert!(found(Fault::FarthestLost).is_some());
 }
 
 #[test]

@@ -626,6 +626,51 @@ impl Seed {
     }
 }
 
+/// The hop count of an object to which no chain of references leads.
+pub const NO_HOPS: u32 = 4_294_967_295;
+
+/// How many work words [`hops`] takes for n objects.
+pub const fn hop_words(objects: usize) -> usize {
+    2 * objects
+}
+
+/// The same number by the library.
+///
+/// ```
+/// use kullneyra::{hop_length, hop_words, Refusal};
+///
+/// assert_eq!(hop_length(6), Ok(hop_words(6) as u64));
+/// assert_eq!(hop_length(0), Err(Refusal::Count));
+/// ```
+pub fn hop_length(objects: u32) -> Result<u64, Refusal> {
+    let mut result = [0];
+    answer(raw::hop_words(objects, &mut result))?;
+    Ok(result[0])
+}
+
+/// For each object the least number of references from a start, [`NO_HOPS`] where no chain leads to it. What `hops` and
+/// the [`hop_words`] work words held before does not matter.
+///
+/// ```
+/// use kullneyra::{hop_words, hops, NO_HOPS};
+///
+/// // 0→1, 0→2, 1→3, 2→3, and nothing leads to 4.
+/// let (offsets, targets) = ([0, 2, 3, 4, 4, 4], [1, 2, 3, 3]);
+/// let (mut counts, mut work) = ([0; 5], [0; hop_words(5)]);
+/// hops(&offsets, &targets, &[0], &mut counts, &mut work)?;
+/// assert_eq!(counts, [0, 1, 1, 2, NO_HOPS]);
+/// # Ok::<(), kullneyra::Refusal>(())
+/// ```
+pub fn hops(
+    offsets: &[u32],
+    targets: &[u32],
+    starts: &[u32],
+    hops: &mut [u32],
+    work: &mut [u32],
+) -> Result<(), Refusal> {
+    answer(raw::hops(offsets, targets, starts, hops, work))
+}
+
 #[cfg(test)]
 mod tests {
     use super::*;

@@ -124,6 +124,19 @@ mod c {
             schedule: *mut u8,
             schedule_len: usize,
         ) -> u32;
+        pub fn kullneyra_hop_words(objects: u32, result: *mut u64, result_len: usize) -> u32;
+        pub fn kullneyra_hops(
+            offsets: *const u32,
+            offsets_len: usize,
+            targets: *const u32,
+            targets_len: usize,
+            starts: *const u32,
+            starts_len: usize,
+            hops: *mut u32,
+            hops_len: usize,
+            work: *mut u32,
+            work_len: usize,
+        ) -> u32;
     }
 }
 
@@ -355,5 +368,30 @@ pub fn deal_seed(seed: &mut [u32], rounds: usize, workers: u32, schedule: &mut [
     // SAFETY: as in `header`.
     unsafe {
         c::kullneyra_deal_seed(seed.as_mut_ptr(), seed.len(), rounds, workers, schedule.as_mut_ptr(), schedule.len())
+    }
+}
+
+/// How many work words the hop counts take. One result word.
+pub fn hop_words(objects: u32, result: &mut [u64]) -> u32 {
+    // SAFETY: as in `header`.
+    unsafe { c::kullneyra_hop_words(objects, result.as_mut_ptr(), result.len()) }
+}
+
+/// The hop count of each object. There are no result words.
+pub fn hops(offsets: &[u32], targets: &[u32], starts: &[u32], hops: &mut [u32], work: &mut [u32]) -> u32 {
+    // SAFETY: as in `header`.
+    unsafe {
+        c::kullneyra_hops(
+            offsets.as_ptr(),
+            offsets.len(),
+            targets.as_ptr(),
+            targets.len(),
+            starts.as_ptr(),
+            starts.len(),
+            hops.as_mut_ptr(),
+            hops.len(),
+            work.as_mut_ptr(),
+            work.len(),
+        )
     }
 }

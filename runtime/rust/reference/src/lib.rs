@@ -5,6 +5,7 @@
 
 mod cards;
 mod catalogue;
+mod hops;
 mod machine;
 mod report;
 mod saved;
@@ -13,6 +14,7 @@ mod sweep;
 
 pub use cards::{deal, deck, schedule_length, CARD_WORKERS, DECK};
 pub use catalogue::{header, part, read, references, Contents, Header};
+pub use hops::{hop_words, hops, NO_HOPS};
 pub use machine::{depth_first, mark, tallies, Call, Outcome, Tally};
 pub use report::report;
 pub use saved::{begin, resume, saved_words, unsound, Places, FORM};

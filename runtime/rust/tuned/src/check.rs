@@ -47,3 +47,24 @@ pub fn call(call: Call<'_>, marks: usize, work: usize, tallies: usize) -> Result
     }
     Ok(())
 }
+
+/// The same for the hops' call, with so many counts and work words.
+pub fn hops(offsets: &[u32], targets: &[u32], starts: &[u32], hops: usize, work: usize) -> Result<(), u8> {
+    if !(2..=MOST_OBJECTS + 1).contains(&offsets.len()) || targets.len() > MOST_REFERENCES {
+        return Err(4);
+    }
+    let n = offsets.len() - 1;
+    if hops != n || work != 2 * n {
+        return Err(7);
+    }
+    if !is_graph(offsets, targets) {
+        return Err(10);
+    }
+    if !(1..=STARTS).contains(&starts.len()) {
+        return Err(13);
+    }
+    if !all_below(starts, n as u32) {
+        return Err(5);
+    }
+    Ok(())
+}

@@ -12,8 +12,10 @@
 //! - The words behind the runs are cleared once, at the end, and there are no turns after the last worker has ended.
 
 mod check;
+mod hops;
 mod read;
 
+pub use hops::hops;
 pub use read::read;
 
 use reference::{Call, Outcome, Tally};

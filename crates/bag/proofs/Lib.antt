@@ -1,0 +1,5 @@
+pub mod Trees
+pub mod Contents
+pub mod Adder
+pub mod Adding
+pub mod Joining

@@ -1,0 +1,31 @@
+-- `hops::search::fill` meets its contract: the root, and then the tree below it.
+use mathlib.Core.Path.{_∙_}
+use borrow.Author.Needs.{needs}
+use Rattle.hops.proofs.Spreading.{top-inside, top-links, fill-walk, fill-all}
+use Rattle.hops.proofs.search.fill.Statement.{statement}
+use Rattle.hops.proofs.search.fill.Tie as tie
+
+abbrev entered : tie.After-visit → tie.Start
+entered v = v .before .before .before .before .before .before .before .before .before
+
+visit-requires : tie.Need-visit-requires
+visit-requires c κs = let p = c .before .before .before .before .before .before .before .before .pre in (p .0, top-inside _ _ (p .0) (p .1))
+
+walk-requires : tie.Need-walk-requires
+walk-requires c κs =
+    let v = c .before .before .before .before .before .before .before in
+    let p = entered v .pre in
+    fill-walk _ _ (p .0) (p .1) (v .visit .ensures)
+
+returns : tie.Need-returns
+returns c =
+    let w = c .before .before .before .before in
+    let v = w .before .before .before .before .before .before .before .before in
+    let p = entered v .pre in
+    fill-all _ _ (p .0) (p .1) (v .visit .ensures) (w .walk .ensures)
+
+pub fill-spec : {M : Type 1} → statement M
+fill-spec =
+    tie.close
+    (tie.spec (λ c. search needs) (λ c. search needs) (λ c. let p = c .before .before .before .before .before .pre in top-links _ _ (p .0) (p .1)) visit-requires walk-requires
+    (λ c. search needs) (λ c. search needs) returns)

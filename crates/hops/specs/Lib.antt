@@ -1,0 +1,4 @@
+pub mod Call
+pub mod Drawings
+pub mod Hops
+pub mod Search

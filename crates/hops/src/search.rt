@@ -1,0 +1,186 @@
+// Breadth-first search by layers. A layer is a bag; each pennant of it fills a bag of its own with the
+// objects found from there, and the bags are joined to the next layer.
+use bag::SIZE;
+ghost use mathlib.Core.Path.{_≡_};
+ghost use Prim.Native.Nat.{ℕ, _<_};
+ghost use mathlib.Core.Bool.{true};
+ghost use lib.ListN.{length, replicate};
+ghost use Rattle.laws.specs.Sum.{sum, hit};
+ghost use Rattle.bag.specs.Bag.{Bag, times, treeOf, pennantOf, contents};
+ghost use Rattle.graph.specs.Graph.{graph, allBelow};
+ghost use Rattle.hops.specs.Hops.{none, HopsOf};
+ghost use Rattle.hops.specs.Search.{leadsTo, Growable, Grown, Walkable, Apart, Searchable};
+
+// The hop count of an object to which no chain leads.
+pub const NONE: u32 = 4294967295;
+
+// Gives an object its hop count and puts it into the bag, unless it has one.
+fn find(hops: &mut [u32], links: &mut [u32], slots: &mut [u32; 18], hop: u32, v: u32)
+    requires { ⌜ Growable hop (now hops) (now links) (now slots) × (v < length (now hops)) ⌝ }
+    ensures { λ _. ⌜ Grown hop (λ (w : ℕ). hit w v) (now (hops .entry)) (now (links .entry)) (now (slots .entry))
+        (now (hops .exit)) (now (links .exit)) (now (slots .exit)) ⌝ }
+{
+    let i = v as usize;
+    if hops[i] == NONE {
+        hops[i] = hop;
+        bag::add(links, slots, v);
+    }
+}
+
+// Finds the objects that u's references lead to.
+fn visit(
+    offsets: &[u32],
+    targets: &[u32],
+    hops: &mut [u32],
+    links: &mut [u32],
+    slots: &mut [u32; 18],
+    hop: u32,
+    u: u32,
+)
+    requires { ⌜ Walkable (graph (now offsets) (now targets)) hop (now hops) (now links) (now slots) × (u < length (now hops)) ⌝ }
+    ensures { λ _. ⌜ Grown hop (λ (w : ℕ). leadsTo (graph (now (offsets .entry)) (now (targets .entry))) w u)
+        (now (hops .entry)) (now (links .entry)) (now (slots .entry)) (now (hops .exit)) (now (links .exit)) (now (slots .exit)) ⌝ }
+{
+    let start = offsets[u as usize] as usize;
+    let end = offsets[u as usize + 1] as usize;
+    for e in start..end {
+        find(hops, links, slots, hop, targets[e]);
+    }
+}
+
+// The same for all objects of a tree.
+fn walk(
+    offsets: &[u32],
+    targets: &[u32],
+    hops: &mut [u32],
+    links: &mut [u32],
+    slots: &mut [u32; 18],
+    hop: u32,
+    height: usize,
+    x: u32,
+)
+    requires { ⌜ Walkable (graph (now offsets) (now targets)) hop (now hops) (now links) (now slots)
+        × Apart (now hops) (now links) (now slots) (treeOf height (now links) x) ⌝ }
+    ensures { λ _. ⌜ Grown hop (λ (w : ℕ). sum (leadsTo (graph (now (offsets .entry)) (now (targets .entry))) w) (treeOf height (now (links .entry)) x))
+        (now (hops .entry)) (now (links .entry)) (now (slots .entry)) (now (hops .exit)) (now (links .exit)) (now (slots .exit)) ⌝ }
+{
+    if height == 0 {
+        return;
+    }
+    let left = links[2 * x as usize];
+    let right = links[2 * x as usize + 1];
+    visit(offsets, targets, hops, links, slots, hop, x);
+    walk(offsets, targets, hops, links, slots, hop, height - 1, left);
+    walk(offsets, targets, hops, links, slots, hop, height - 1, right);
+}
+
+// The same for all objects of a pennant.
+fn fill(
+    offsets: &[u32],
+    targets: &[u32],
+    hops: &mut [u32],
+    links: &mut [u32],
+    slots: &mut [u32; 18],
+    hop: u32,
+    height: usize,
+    root: u32,
+)
+    requires { ⌜ Walkable (graph (now offsets) (now targets)) hop (now hops) (now links) (now slots)
+        × Apart (now hops) (now links) (now slots) (pennantOf height (now links) root) ⌝ }
+    ensures { λ _. ⌜ Grown hop (λ (w : ℕ). sum (leadsTo (graph (now (offsets .entry)) (now (targets .entry))) w) (pennantOf height (now (links .entry)) root))
+        (now (hops .entry)) (now (links .entry)) (now (slots .entry)) (now (hops .exit)) (now (links .exit)) (now (slots .exit)) ⌝ }
+{
+    let below = links[2 * root as usize];
+    visit(offsets, targets, hops, links, slots, hop, root);
+    walk(offsets, targets, hops, links, slots, hop, height, below);
+}
+
+// One pennant of a layer: the first bag that it fills is the next layer so far, and the bag of any
+// other is joined to it.
+fn spread(
+    offsets: &[u32],
+    targets: &[u32],
+    hops: &mut [u32],
+    links: &mut [u32],
+    next: &mut [u32; 18],
+    hop: u32,
+    height: usize,
+    root: u32,
+)
+    requires { ⌜ Walkable (graph (now offsets) (now targets)) hop (now hops) (now links) (now next)
+        × Apart (now hops) (now links) (now next) (pennantOf height (now links) root) ⌝ }
+    ensures { λ _. ⌜ Grown hop (λ (w : ℕ). sum (leadsTo (graph (now (offsets .entry)) (now (targets .entry))) w) (pennantOf height (now (links .entry)) root))
+        (now (hops .entry)) (now (links .entry)) (now (next .entry)) (now (hops .exit)) (now (links .exit)) (now (next .exit)) ⌝ }
+{
+    if next[SIZE] == 0 {
+        fill(offsets, targets, hops, links, next, hop, height, root);
+        return;
+    }
+    let mut own = [0u32; 18];
+    fill(offsets, targets, hops, links, &mut own, hop, height, root);
+    bag::join(links, next, &mut own);
+}
+
+// A whole layer: fills the next one.
+fn pass(
+    offsets: &[u32],
+    targets: &[u32],
+    hops: &mut [u32],
+    links: &mut [u32],
+    layer: &[u32; 18],
+    next: &mut [u32; 18],
+    hop: u32,
+)
+    requires { ⌜ Walkable (graph (now offsets) (now targets)) hop (now hops) (now links) (now next)
+        × Apart (now hops) (now links) (now next) (contents (now links) (now layer)) × Bag (now links) (now layer) ⌝ }
+    ensures { λ _. ⌜ Grown hop (λ (w : ℕ). sum (leadsTo (graph (now (offsets .entry)) (now (targets .entry))) w) (contents (now (links .entry)) (now (layer .entry))))
+        (now (hops .entry)) (now (links .entry)) (now (next .entry)) (now (hops .exit)) (now (links .exit)) (now (next .exit)) ⌝ }
+{
+    let mut k: usize = 0;
+    let mut rest = layer[SIZE];
+    while rest != 0 {
+        let slot = layer[k];
+        if slot != 0 {
+            spread(offsets, targets, hops, links, next, hop, k, slot - 1);
+        }
+        rest = rest / 2;
+        k += 1;
+    }
+}
+
+// Takes every count away.
+fn forget(hops: &mut [u32])
+    ensures { λ _. ⌜ now (hops .exit) ≡ replicate (length (now (hops .entry))) none ⌝ }
+{
+    for i in 0..hops.len() {
+        hops[i] = NONE;
+    }
+}
+
+// Layer 0: the starts, each once.
+fn begin(starts: &[u32], hops: &mut [u32], links: &mut [u32], slots: &mut [u32; 18])
+    requires { ⌜ Growable 0 (now hops) (now links) (now slots) × (allBelow (length (now hops)) (now starts) ≡ true) ⌝ }
+    ensures { λ _. ⌜ Grown 0 (λ (w : ℕ). times w (now (starts .entry))) (now (hops .entry)) (now (links .entry)) (now (slots .entry))
+        (now (hops .exit)) (now (links .exit)) (now (slots .exit)) ⌝ }
+{
+    for i in 0..starts.len() {
+        find(hops, links, slots, 0, starts[i]);
+    }
+}
+
+// The hop counts: layer after layer, until one is empty.
+pub fn search(offsets: &[u32], targets: &[u32], starts: &[u32], hops: &mut [u32], links: &mut [u32])
+    requires { ⌜ Searchable (graph (now offsets) (now targets)) (now starts) (now hops) (now links) ⌝ }
+    ensures { λ _. ⌜ HopsOf (graph (now (offsets .entry)) (now (targets .entry))) (now (starts .entry)) (now (hops .exit)) ⌝ }
+{
+    forget(hops);
+    let mut layer = [0u32; 18];
+    begin(starts, hops, links, &mut layer);
+    let mut hop: u32 = 0;
+    while layer[SIZE] != 0 {
+        hop += 1;
+        let mut next = [0u32; 18];
+        pass(offsets, targets, hops, links, &layer, &mut next, hop);
+        layer = next;
+    }
+}
