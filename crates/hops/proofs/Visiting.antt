@@ -114,6 +114,11 @@ pub walk-none : {G : Graph} {hop : ℕ} {H L S : List ℕ} (h x : ℕ) → Walka
 unfolding treeOf sum
 walk-none h x ok z = rw z (grown-none (ok .growable))
 
+pub walk-one : {G : Graph} {hop : ℕ} {H L S H₁ L₁ S₁ : List ℕ} (h x : ℕ) → Walkable G hop H L S → h ≡ 1 → Grown hop (λ (w : ℕ). leadsTo G w x) H L S H₁ L₁ S₁ → Grown hop (λ (w : ℕ). sum (leadsTo G w) (treeOf h L x)) H L S H₁ L₁ S₁
+unfolding treeOf sum
+walk-one {G} {hop} {H} {L} h x ok z g =
+    grown-as (λ (w : ℕ). sum (leadsTo G w) (treeOf h L x)) g (λ w. omega (arith, ap (λ (i : ℕ). sum (leadsTo G w) (treeOf i L x)) z))
+
 module _ {G : Graph} {hop : ℕ} {H L S : List ℕ} (h x : ℕ) (ok : Walkable G hop H L S) (a : Apart H L S (treeOf h L x)) (more : h ≢ 0) where
   higher : h ≡ suc (h - 1)
   higher = omega arith

@@ -67,6 +67,10 @@ fn walk(
     if height == 0 {
         return;
     }
+    if height == 1 {
+        visit(offsets, targets, hops, links, slots, hop, x);
+        return;
+    }
     let left = links[2 * x as usize];
     let right = links[2 * x as usize + 1];
     visit(offsets, targets, hops, links, slots, hop, x);
