@@ -1,39 +1,25 @@
 -- Chains of the catalogue's references are the chains of the graph that is read from it, from the same starts.
-use mathlib.Core.Path.{_≡_, refl, sym, subst}
-use mathlib.Core.List.{List, [], _∷_, map}
+use mathlib.Core.Path.{_≡_, sym, subst}
+use mathlib.Core.List.{List, [], _∷_}
 use mathlib.Core.Logic.{_↔_, by-cases}
-use Prim.Native.Nat.{ℕ, zero, suc, _+_, _*_, _≤_, _<_}
+use Prim.Native.Nat.{ℕ, _<_}
 use native.Mathlib.Decide.{decLt}
 use native.Mathlib.Omega.{arith}
 use Rattle.laws.specs.Every.{Every}
 use Rattle.laws.specs.Sum.{sum, hit}
-use Rattle.laws.specs.Grouping.{part, cons-if}
-use Rattle.laws.proofs.Sum.{hit-equal, hit-at-most-one}
+use Rattle.laws.proofs.Sum.{hit-equal}
 use Rattle.graph.specs.Graph.{Graph, target, objects as graph-objects, references as graph-references}
 use Rattle.graph.specs.Formed.{Formed}
 use Rattle.graph.specs.Chain.{Reach, here, on}
 use Rattle.graph.proofs.Formed.{formed}
 use Rattle.graph.proofs.OverMarked.{after-limit}
 use Rattle.graph.proofs.View.{view-has, view-only}
+use Rattle.graph.proofs.Grouped.{among}
 use Rattle.catalogue.specs.Store.{Store, Pair, InRange, objects, pairs}
 use Rattle.catalogue.specs.Fill.{fromOf, toOf}
 use Rattle.catalogue.specs.ReadGraph.{ReadGraph, readGraph, targetsFrom}
 use Rattle.catalogue.specs.Chain.{leading, Chain, begins, along}
 use Rattle.catalogue.proofs.ReadGraph.{read-graph}
-
--- the references from u to v are those among u's whose target is v
-chosen : (k v : ℕ) (p : Pair) (rest : List Pair) → k ≤ 1
-    → k * hit v (p .to) + sum (hit v) (map toOf rest) ≡ sum (hit v) (map toOf (cons-if fromOf k p rest))
-unfolding sum
-chosen zero v p rest h = omega arith
-chosen (suc zero) v p rest h = omega arith
-chosen (suc (suc k)) v p rest h = absurd (omega arith)
-
-among : (u v : ℕ) (l : List Pair) → sum (λ (p : Pair). hit u (p .from) * hit v (p .to)) l ≡ sum (hit v) (map toOf (part fromOf u l))
-unfolding sum part
-among u v [] = refl
-among u v (p ∷ l) =
-    rw (among u v l) (chosen (hit u (p .from)) v p (part fromOf u l) (hit-at-most-one u (p .from)))
 
 -- a start is an object where each is
 start-below : (n v : ℕ) (l : List ℕ) → Every (λ (x : ℕ). x < n) l → 0 < sum (hit v) l → v < n
@@ -55,7 +41,7 @@ module _ (s : Store) (r : InRange s) (starts : List ℕ) (inside : Every (λ (x 
 
   -- by the view of u on the graph
   leading-is : (u v : ℕ) → leading s u v ≡ sum (hit v) (targetsFrom s u)
-  leading-is u v = among u v (pairs s)
+  leading-is u v = among fromOf toOf u v (pairs s)
 
   -- chains lead to objects only
   reaches-object : {v : ℕ} → Reach G starts v → v < objects s

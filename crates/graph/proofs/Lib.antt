@@ -3,3 +3,4 @@ pub mod Reached
 pub mod Scan
 pub mod View
 pub mod OverMarked
+pub mod Grouped

@@ -13,15 +13,11 @@ use Rattle.laws.specs.Sum.{sum, hit}
 use Rattle.laws.proofs.Sum.{hit-same, hit-equal}
 use Rattle.graph.specs.Graph.{Graph, Leaves, objects, references, first, after, degree, target}
 use Rattle.graph.specs.Formed.{Formed}
-use Rattle.graph.specs.Chain.{Reach, here, on, set?, spreadRun, spreadFrom, spread, rounds, marksAt, reached}
+use Rattle.graph.specs.Chain.{Reach, here, on, set?, spreadRun, spreadFrom, spread, rounds, closure, Closed, marksAt, reached}
 
 -- object v is marked
 abbrev pub Marked : List ℕ → ℕ → Type 0
 Marked ms v = 0 < getD ms v 0
-
--- every reference of an object in P leads to one in P
-abbrev pub Closed : Graph → (ℕ → Type 0) → Type 0
-Closed G P = (u e : ℕ) → P u → Leaves G e u → P (target G e)
 
 -- ---- one mark more
 
@@ -303,7 +299,26 @@ none-marked zero v h = none-there v h
 none-marked (suc n) zero h = omega arith
 none-marked (suc n) (suc v) h = none-marked n v h
 
--- ---- the law
+-- ---- the law of any marks
+
+pub closure-length : (G : Graph) (ms : List ℕ) → length (closure G ms) ≡ length ms
+unfolding closure
+closure-length G ms = rounds-length G (objects G) ms
+
+pub closure-holds : (G : Graph) (ms : List ℕ) (v : ℕ) → Marked ms v → Marked (closure G ms) v
+unfolding closure
+closure-holds G ms = rounds-grows G (objects G) ms
+
+pub closure-least : (G : Graph) (ms : List ℕ) (P : ℕ → Type 0) → ((v : ℕ) → Marked ms v → P v) → Closed G P
+    → (v : ℕ) → Marked (closure G ms) v → P v
+unfolding closure
+closure-least G ms P f cl = rounds-within G P cl (objects G) ms f
+
+pub closure-closed : (G : Graph) → Formed G → (ms : List ℕ) → length ms ≡ objects G → Closed G (Marked (closure G ms))
+unfolding closure
+closure-closed G ok ms n = rounds-close G ok (objects G) ms n (omega arith)
+
+-- ---- the law of the starts
 
 pub reached-length : (G : Graph) (starts : List ℕ) → length (reached G starts) ≡ objects G
 unfolding reached

@@ -44,6 +44,15 @@ unfolding spread
 rounds G zero ms = ms
 rounds G (suc k) ms = rounds G k (spread G (objects G) ms)
 
+-- the least set that holds the marked objects and is closed under references, as marks: n rounds. `proofs/Reached` shows that it is.
+unfoldable pub closure : Graph → List ℕ → List ℕ
+unfolding rounds
+closure G ms = rounds G (objects G) ms
+
+-- every reference of an object in P leads to one in P
+abbrev pub Closed : Graph → (ℕ → Type 0) → Type 0
+Closed G P = (u e : ℕ) → P u → Leaves G e u → P (target G e)
+
 -- marks set at the starts
 unfoldable pub marksAt : List ℕ → List ℕ → List ℕ
 marksAt [] ms = ms

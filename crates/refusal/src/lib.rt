@@ -36,6 +36,8 @@ pub enum Refusal {
     Cards,
     // 16: a seed whose first word is 0.
     Seed,
+    // 17: a marked object that has a reference to an unmarked one.
+    Marks,
 }
 
 // What a check finds.
@@ -65,6 +67,7 @@ pub fn number_of(r: Refusal) -> u8
         Refusal::Saved => 14,
         Refusal::Cards => 15,
         Refusal::Seed => 16,
+        Refusal::Marks => 17,
     }
 }
 
