@@ -1,0 +1,7 @@
+pub mod Pairs
+pub mod Stores
+pub mod Marking
+pub mod Filling
+pub mod Taking
+pub mod Call
+pub mod Drawings
