@@ -1,0 +1,3 @@
+pub mod Touching
+pub mod Following
+pub mod Seeding
