@@ -99,7 +99,7 @@ over-agree f g b (suc m ∷ ms) h = omega (arith, h b, over-agree f g (suc b) ms
 
 module _ (G : Graph) (F : Formed G) where
   -- offsets do not fall, also further on
-  offsets-rise : (v k : ℕ) → v + k ≤ objects G → first G v ≤ first G (v + k)
+  pub offsets-rise : (v k : ℕ) → v + k ≤ objects G → first G v ≤ first G (v + k)
   offsets-rise v zero h = rw (add-zero v) (omega arith)
   offsets-rise v (suc k) h =
       let p : v + suc k ≡ suc v + k = omega arith in

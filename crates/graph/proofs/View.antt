@@ -64,6 +64,13 @@ module _ {G : Graph} (F : Formed G) {v : ℕ} (h : v < objects G) where
   part-at : (i : ℕ) → i < degree G v → getD its-part i 0 ≡ target G (first G v + i)
   part-at i w = getD-take (degree G v) (drop (first G v) (G .targets)) i 0 w ∙ getD-drop (first G v) (G .targets) i 0
 
+  -- as many as leave it, each at its place
+  pub view-long : length (referencesOf G v) ≡ degree G v
+  view-long = rw part-is part-long
+
+  pub view-at : (i : ℕ) → i < degree G v → getD (referencesOf G v) i 0 ≡ target G (first G v + i)
+  view-at i w = rw part-is (part-at i w)
+
   pub view-has : {e : ℕ} → Leaves G e v → 0 < sum (hit (target G e)) (referencesOf G v)
   view-has {e} l =
       let low = l .from in

@@ -12,6 +12,10 @@ module _ {A : Type 0} (P : A → Type 0) where
   every-at (x ∷ l) zero d h g = h .0
   every-at (x ∷ l) (suc i) d h g = every-at l i d (h .1) (omega arith)
 
+  pub at-every : (l : List A) (d : A) → ((i : ℕ) → i < length l → P (getD l i d)) → Every P l
+  at-every [] d h = tt
+  at-every (x ∷ l) d h = (h 0 (omega arith), at-every l d (λ i g. h (suc i) (omega (arith, g))))
+
   -- and of two lists' elements where it holds of each list's
   pub every-append : (s t : List A) → Every P s → Every P t → Every P (s ++ t)
   every-append [] t h g = g

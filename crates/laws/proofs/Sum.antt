@@ -44,6 +44,12 @@ hit-swap zero (suc j) = refl
 hit-swap (suc i) zero = refl
 hit-swap (suc i) (suc j) = hit-swap i j
 
+-- no number stands in a list more often than the list is long
+pub hits-limit : (v : ℕ) (l : List ℕ) → sum (hit v) l ≤ length l
+unfolding sum
+hits-limit v [] = omega arith
+hits-limit v (x ∷ l) = omega (arith, hits-limit v l, hit-at-most-one v x)
+
 -- ---- one of two summands counts
 
 pub either-positive : (a b : ℕ) → 0 < a + b → (0 < a) ⊎ (0 < b)

@@ -4,8 +4,10 @@ use mathlib.Core.Bool.{Bool, true, false, not}
 use mathlib.Core.List.{List, [], _∷_}
 use mathlib.Core.Logic.{_⊎_, inl, inr, ⊎-elim}
 use Prim.Native.Nat.{ℕ, zero, suc, _+_, _≤_, _<_}
+use native.Mathlib.Numerals.{add-one}
 use native.Mathlib.Omega.{arith}
-use lib.ListN.{length, getD}
+use lib.ListN.{length, getD, drop, drop-of-length-le}
+use lib.Seq.{drop-cons}
 use lib.Dec.{eqb}
 use borrow.Author.Tests.{eqb-true, eq-eqb}
 use Rattle.laws.specs.Choice.{both, either}
@@ -64,6 +66,20 @@ module _ {A : Type 0} (p : A → Bool) where
   unfolding all
   every-all P f [] h = refl
   every-all P f (x ∷ l) h = both-is (f x (h .0)) (every-all P f l (h .1))
+
+  -- a scan from the front: what is left decides
+  module _ (d : A) (l : List A) (i : ℕ) where
+    pub all-step : i < length l → p (getD l i d) ≡ true → all p (drop (i + 1) l) ≡ all p (drop i l)
+    unfolding all
+    all-step h e = rw (add-one, drop-cons l i d h, e)
+
+    pub all-stop : i < length l → p (getD l i d) ≡ false → all p (drop i l) ≡ false
+    unfolding all
+    all-stop h e = rw (drop-cons l i d h, e)
+
+    pub all-end : length l ≤ i → all p (drop i l) ≡ true
+    unfolding all
+    all-end h = rw (drop-of-length-le l h)
 
 -- of each number that stands in the list
 pub all-hit : (p : ℕ → Bool) (l : List ℕ) → all p l ≡ true → (v : ℕ) → 0 < sum (hit v) l → p v ≡ true
