@@ -90,6 +90,9 @@ module _ {ws : List ℕ} {from to e r : ℕ} (a : StayingTo ws from to e r) wher
 abbrev pub counts : List ℕ → List ℕ → List ℕ
 counts ws os = map (λ (o : ℕ). span (absent ws) 0 o) os
 
+pub counts-long : (ws os : List ℕ) → length (counts ws os) ≡ length os
+counts-long ws os = length-map os (λ (o : ℕ). span (absent ws) 0 o)
+
 counts-at : (ws os : List ℕ) (v : ℕ) → getD (counts ws os) v 0 ≡ span (absent ws) 0 (getD os v 0)
 unfolding span
 counts-at ws os v = List·getD-map (λ (o : ℕ). span (absent ws) 0 o) os v 0

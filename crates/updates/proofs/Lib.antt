@@ -6,3 +6,6 @@ pub mod Pairing
 pub mod Enlarging
 pub mod Gathering
 pub mod Keeping
+pub mod Adding
+pub mod Afresh
+pub mod Checks
