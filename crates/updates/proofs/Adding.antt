@@ -21,16 +21,12 @@ use Rattle.graph.proofs.Grouped.{among, grouped-objects, grouped-formed, groupe
 use Rattle.graph.proofs.Reached.{closure-holds, closure-closed}
 use Rattle.graph.proofs.View.{view-has, view-only}
 use Rattle.machine.specs.Sound.{Marked}
-use Rattle.updates.specs.Pairs.{Pair, pair, fromOf, toOf, pairsOf, paired}
+use Rattle.updates.specs.Pairs.{Pair, pair, fromOf, toOf, pairsOf, paired, leading}
 use Rattle.updates.specs.Stores.{storeOf, added, completed}
 use Rattle.updates.specs.Marking.{listed, unmarked, Roomy, Between, Followable, Seeded}
 use Rattle.updates.specs.Filling.{Addable}
 use Rattle.updates.proofs.Touching.{unset-some, unset-none, unset-zero, marked-below}
 use Rattle.updates.proofs.Pairing.{none, Inside, pairs-inside, pairs-sum, paired-long, paired-at, paired-inside}
-
--- how many of the pairs lead from u to t
-abbrev pub leading : ℕ → ℕ → List Pair → ℕ
-leading u t ps = sum (λ (p : Pair). hit u (p .from) * hit t (p .to)) ps
 
 -- how many references lead from u to t
 abbrev pub refers : Graph → ℕ → ℕ → ℕ

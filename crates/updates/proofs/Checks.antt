@@ -31,7 +31,9 @@ use Rattle.updates.specs.Filling.{Addable}
 use Rattle.updates.specs.Taking.{absent, Gathered, Covers, Climbs}
 use Rattle.updates.specs.Call.{Lengths, lengths, lengthsWrong, closedAt, addFault, AddFinds, Adds, removeFault, RemoveChecked, Removes}
 use Rattle.updates.proofs.Closing.{found-closed}
-use Rattle.updates.proofs.Keeping.{distinct-staying, counts, counts-long, absent-staying, removed-is, removed-formed, offsets-climb}
+use Rattle.updates.proofs.Keeping.{distinct-staying, counts, counts-long, absent-staying, removed-is, removed-objects, removed-formed, offsets-climb}
+use Rattle.updates.proofs.Pairing.{paired-inside}
+use Rattle.updates.proofs.Promise.{add-promise, afresh-promise}
 
 -- either of two tests
 pub or-left : {s : Bool} (t : Bool) → s ≡ true → (s || t) ≡ true
@@ -182,6 +184,7 @@ module _ {os ts from to : List ℕ} (bounds places ms work : List ℕ) {v : Verd
         number-is = k;
         store-is = λ z. absurd (omega (arith, z, k, numbered cause));
         marks-are = λ z. absurd (omega (arith, z, k, numbered cause));
+        promise = λ z. absurd (omega (arith, z, k, numbered cause));
         unchanged = λ i z. (refl, refl, refl, refl);
       }
 
@@ -192,10 +195,14 @@ module _ {os ts from to : List ℕ} (bounds places ms work : List ℕ) {v : Verd
       → ms′ ≡ completed (added (graph os ts) (paired from to)) ms → Adds os ts from to bounds places ms work Fine bounds′ places′ ms′ work′
   adds-fine e g m =
       let z = when-fine (found .number-is) e in
+      let r = found-ready e in
+      let a = r .addable in
+      let low = paired-inside (length os - 1) from to (a .alike) (a .from-below) (a .to-below) in
       record {
         number-is = sym z;
         store-is = λ q. g;
         marks-are = λ q. m;
+        promise = λ q. rw m (add-promise (graph os ts) (a .formed) (paired from to) low ms (r .marks-long) (r .closed));
         unchanged = λ i q. absurd (omega (arith, z, q));
       }
 
@@ -295,6 +302,7 @@ module _ {os ts ns starts : List ℕ} (bounds places ms work : List ℕ) {v : Ve
         number-is = k;
         store-is = λ z. absurd (omega (arith, z, k, numbered cause));
         marks-are = λ z. absurd (omega (arith, z, k, numbered cause));
+        promise = λ z. absurd (omega (arith, z, k, numbered cause));
         unchanged = λ i z. (refl, refl, refl, refl);
       }
 
@@ -308,10 +316,14 @@ module _ {os ts ns starts : List ℕ} (bounds places ms work : List ℕ) {v : Ve
       → ms′ ≡ marksAfresh (removed (graph os ts) ns) starts → Removes os ts ns starts bounds places ms work Fine bounds′ places′ ms′ work′
   removes-fine e g m =
       let z = when-fine (found .number-is) e in
+      let r = found-removable e in
+      let G = removed (graph os ts) ns in
+      let n : length ms ≡ objects G = omega (arith, r .marks-long, removed-objects ns (graph os ts) (r .formed)) in
       record {
         number-is = sym z;
         store-is = λ q. g;
         marks-are = λ q. m;
+        promise = λ q. rw m (afresh-promise G (removed-formed ns (graph os ts) (r .formed)) starts (rw n at (r .starts-low)));
         unchanged = λ i q. absurd (omega (arith, z, q));
       }
 

@@ -8,4 +8,5 @@ pub mod Gathering
 pub mod Keeping
 pub mod Adding
 pub mod Afresh
+pub mod Promise
 pub mod Checks

@@ -17,6 +17,7 @@ use Rattle.hops.specs.Call.{LengthRow, lengthBy}
 use Rattle.updates.specs.Pairs.{paired}
 use Rattle.updates.specs.Stores.{added, completed, distinct, removed, marksAfresh}
 use Rattle.updates.specs.Taking.{Gathered}
+use Rattle.updates.specs.Promise.{AddPromise, RemovePromise}
 
 -- how many work words n objects take, in either call; 4: n outside its range
 abbrev pub lengthFor : ℕ → LengthRow
@@ -91,6 +92,8 @@ pub record Adds (offsets targets from to newOffsets newTargets marks work : List
       → graph newOffsets′ newTargets′ ≡ added (graph offsets targets) (paired from to)
   pub marks-are : addFault offsets targets from to marks (lengths newOffsets newTargets marks work) ≡ 0
       → marks′ ≡ completed (added (graph offsets targets) (paired from to)) marks
+  pub promise : addFault offsets targets from to marks (lengths newOffsets newTargets marks work) ≡ 0
+      → AddPromise (graph offsets targets) (paired from to) marks marks′
   -- beside a refusal every lent word is as it was
   pub unchanged : (k : ℕ) → addFault offsets targets from to marks (lengths newOffsets newTargets marks work) ≡ suc k
       → (newOffsets′ ≡ newOffsets) × (newTargets′ ≡ newTargets) × (marks′ ≡ marks) × (work′ ≡ work)
@@ -129,6 +132,8 @@ pub record Removes (offsets targets ns starts newOffsets newTargets marks work :
       → graph newOffsets′ newTargets′ ≡ removed (graph offsets targets) ns
   pub marks-are : removeFault offsets targets ns starts (lengths newOffsets newTargets marks work) ≡ 0
       → marks′ ≡ marksAfresh (removed (graph offsets targets) ns) starts
+  pub promise : removeFault offsets targets ns starts (lengths newOffsets newTargets marks work) ≡ 0
+      → RemovePromise (removed (graph offsets targets) ns) starts marks′
   -- beside a refusal every lent word is as it was
   pub unchanged : (k : ℕ) → removeFault offsets targets ns starts (lengths newOffsets newTargets marks work) ≡ suc k
       → (newOffsets′ ≡ newOffsets) × (newTargets′ ≡ newTargets) × (marks′ ≡ marks) × (work′ ≡ work)

@@ -4,4 +4,5 @@ pub mod Marking
 pub mod Filling
 pub mod Taking
 pub mod Call
+pub mod Promise
 pub mod Drawings

@@ -1,6 +1,7 @@
 -- References as pairs of objects: those of a graph in the order of their numbers, and those that two lists name.
 use mathlib.Core.List.{List, [], _∷_, _++_, map}
-use Prim.Native.Nat.{ℕ, zero, suc}
+use Prim.Native.Nat.{ℕ, zero, suc, _*_}
+use Rattle.laws.specs.Sum.{sum, hit}
 use Rattle.graph.specs.Graph.{Graph, objects, referencesOf}
 
 pub record Pair : Type 0 where
@@ -31,3 +32,7 @@ unfoldable pub paired : List ℕ → List ℕ → List Pair
 paired [] ts = []
 paired (f ∷ fs) [] = []
 paired (f ∷ fs) (t ∷ ts) = pair f t ∷ paired fs ts
+
+-- how many of the pairs lead from u to t
+abbrev pub leading : ℕ → ℕ → List Pair → ℕ
+leading u t ps = sum (λ (p : Pair). hit u (p .from) * hit t (p .to)) ps
