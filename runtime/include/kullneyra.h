@@ -47,6 +47,7 @@ extern "C" {
 #define KULLNEYRA_UNSOUND 14 /* saved words that hold no sound collection of this graph, these starts and settings */
 #define KULLNEYRA_CARDS 15   /* a card that is not in the deck, or more workers than KULLNEYRA_CARD_WORKERS */
 #define KULLNEYRA_NO_SEED 16 /* a seed whose first word is 0 */
+#define KULLNEYRA_MARKS 17   /* a marked object has a reference to an unmarked one */
 
 /* Limits. Objects, starts, workers, batch and cutoff are 1 at least; references and sizes may be 0. */
 #define KULLNEYRA_MOST_OBJECTS 65536
@@ -145,6 +146,7 @@ struct kullneyra_drawn {
 #define KULLNEYRA_MARK_WORDS (sizeof(struct kullneyra_marked) / sizeof(uint64_t)) /* begin and resume too */
 #define KULLNEYRA_SAVED_WORDS 1
 #define KULLNEYRA_HOP_WORDS 1
+#define KULLNEYRA_UPDATE_WORDS 1
 #define KULLNEYRA_SWEEP_WORDS (sizeof(struct kullneyra_swept) / sizeof(uint64_t))
 #define KULLNEYRA_LENGTH_WORDS (sizeof(struct kullneyra_length) / sizeof(uint64_t))
 #define KULLNEYRA_SEED_WORDS (sizeof(struct kullneyra_seed) / sizeof(uint32_t))
@@ -237,6 +239,28 @@ uint32_t kullneyra_hop_words(uint32_t objects, uint64_t *result, size_t result_l
 uint32_t kullneyra_hops(const uint32_t *offsets, size_t offsets_len, const uint32_t *targets, size_t targets_len,
                         const uint32_t *starts, size_t starts_len, uint32_t *hops, size_t hops_len, uint32_t *work,
                         size_t work_len);
+
+/* How many work words kullneyra_add and kullneyra_remove take for so many objects. */
+uint32_t kullneyra_update_words(uint32_t objects, uint64_t *result, size_t result_len);
+
+/* Adds the references from[i] -> to[i] to a store. new_offsets has as many words as offsets, and new_targets as many as
+ * targets and from together: an object's new references stand behind its old ones, in list order. An object that is newly
+ * live gets the mark 255, and a mark that is set keeps its value. The marks must be closed under the old references
+ * (KULLNEYRA_MARKS), as those of a finished collection are. Beside a fault all four are as they were. Beside the number
+ * there is no answer. */
+uint32_t kullneyra_add(const uint32_t *offsets, size_t offsets_len, const uint32_t *targets, size_t targets_len,
+                       const uint32_t *from, size_t from_len, const uint32_t *to, size_t to_len, uint32_t *new_offsets,
+                       size_t new_offsets_len, uint32_t *new_targets, size_t new_targets_len, uint8_t *marks,
+                       size_t marks_len, uint32_t *work, size_t work_len);
+
+/* Takes the references with these numbers out of a store; a number that stands in the list twice counts once.
+ * new_targets has as many words as references remain. The marks are made afresh: 1 for a start, 255 for what else is
+ * reached, 0 for the rest; what they held before does not matter. Beside a fault all four are as they were. Beside the
+ * number there is no answer. */
+uint32_t kullneyra_remove(const uint32_t *offsets, size_t offsets_len, const uint32_t *targets, size_t targets_len,
+                          const uint32_t *numbers, size_t numbers_len, const uint32_t *starts, size_t starts_len,
+                          uint32_t *new_offsets, size_t new_offsets_len, uint32_t *new_targets, size_t new_targets_len,
+                          uint8_t *marks, size_t marks_len, uint32_t *work, size_t work_len);
 
 /* The same calls with a struct for the answer, which is written in every case: what the call answers
  * where the number is 0, and zeros beside a fault. */
@@ -365,6 +389,11 @@ static inline uint32_t kullneyra_deal_seed_into(struct kullneyra_seed *seed, siz
 static inline uint32_t kullneyra_hop_words_into(uint32_t objects, uint64_t *answer) {
     *answer = 0;
     return kullneyra_hop_words(objects, answer, KULLNEYRA_HOP_WORDS);
+}
+
+static inline uint32_t kullneyra_update_words_into(uint32_t objects, uint64_t *answer) {
+    *answer = 0;
+    return kullneyra_update_words(objects, answer, KULLNEYRA_UPDATE_WORDS);
 }
 
 #ifdef __cplusplus

@@ -2,3 +2,4 @@ pub mod Results
 pub mod Saving
 pub mod Seeds
 pub mod Hops
+pub mod Updates

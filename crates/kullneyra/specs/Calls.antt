@@ -28,6 +28,10 @@ use Rattle.seed.specs.Draw.{next, drawn}
 use Rattle.seed.specs.Deal.{afterDraws, handOf, fault}
 use Rattle.hops.specs.Hops.{HopsOf}
 use Rattle.hops.specs.Call.{lengthFor as hopLengthFor, fault as hopFault}
+use Rattle.updates.specs.Pairs.{paired}
+use Rattle.updates.specs.Stores.{added, completed, removed, marksAfresh}
+use Rattle.updates.specs.Promise.{AddPromise, RemovePromise}
+use Rattle.updates.specs.Call.{lengths, addFault, removeFault, lengthFor as updateLengthFor}
 
 -- 7 where the result words are not as many as the call has results, else what the call answers
 abbrev pub answerIn : ℕ → List ℕ → ℕ → ℕ
@@ -195,3 +199,26 @@ pub record HopsIn (offsets targets starts hops work hops′ work′ : List ℕ) 
   pub answers : answer ≡ hopFault offsets targets starts (length hops) (length work)
   pub counted : answer ≡ 0 → HopsOf (graph offsets targets) starts hops′
   pub unchanged : (k : ℕ) → answer ≡ suc k → (hops′ ≡ hops) × (work′ ≡ work)
+
+-- ---- update_words: how many words; add, remove: no results
+
+abbrev pub updateLengthAnswer : ℕ → List ℕ → ℕ
+updateLengthAnswer n result = answerIn 1 result (updateLengthFor n .number)
+
+abbrev pub updateLengthWords : ℕ → List ℕ → List ℕ
+updateLengthWords n result = wordsFor (updateLengthAnswer n result) (updateLengthFor n .words ∷ []) result
+
+-- the answer is the first fault; without one the store and the marks are the definitions', and beside a refusal every lent word is as it was
+pub record AddsIn (offsets targets from to bounds places marks work bounds′ places′ marks′ work′ : List ℕ) (answer : ℕ) : Type 0 where
+  pub answers : answer ≡ addFault offsets targets from to marks (lengths bounds places marks work)
+  pub store-is : answer ≡ 0 → graph bounds′ places′ ≡ added (graph offsets targets) (paired from to)
+  pub marks-are : answer ≡ 0 → marks′ ≡ completed (added (graph offsets targets) (paired from to)) marks
+  pub promise : answer ≡ 0 → AddPromise (graph offsets targets) (paired from to) marks marks′
+  pub unchanged : (k : ℕ) → answer ≡ suc k → (bounds′ ≡ bounds) × (places′ ≡ places) × (marks′ ≡ marks) × (work′ ≡ work)
+
+pub record RemovesIn (offsets targets numbers starts bounds places marks work bounds′ places′ marks′ work′ : List ℕ) (answer : ℕ) : Type 0 where
+  pub answers : answer ≡ removeFault offsets targets numbers starts (lengths bounds places marks work)
+  pub store-is : answer ≡ 0 → graph bounds′ places′ ≡ removed (graph offsets targets) numbers
+  pub marks-are : answer ≡ 0 → marks′ ≡ marksAfresh (removed (graph offsets targets) numbers) starts
+  pub promise : answer ≡ 0 → RemovePromise (removed (graph offsets targets) numbers) starts marks′
+  pub unchanged : (k : ℕ) → answer ≡ suc k → (bounds′ ≡ bounds) × (places′ ≡ places) × (marks′ ≡ marks) × (work′ ≡ work)

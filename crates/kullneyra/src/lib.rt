@@ -18,7 +18,8 @@ ghost use lib.Seq.{sets};
 ghost use Rattle.cards.specs.Hand.{fault, scheduleFor, turnsOf};
 ghost use Rattle.catalogue.specs.Answer.{row, foundRow, headerRow};
 ghost use Rattle.marker.specs.Answer.{callOf, row as markRow};
-ghost use Rattle.kullneyra.specs.Calls.{ReadsIn, headerAnswer, headerWords, readWords, wordsFor, partAnswer, partWords, sweepAnswer, sweepWords, sweepList, mark-words, resultWords, markWords, MarksIn, lengthAnswer, lengthWords, BeginsIn, ResumesIn, scheduleAnswer, scheduleWords, seedWords, DrawsIn, DealsIn, hopLengthAnswer, hopLengthWords, HopsIn};
+ghost use Rattle.kullneyra.specs.Calls.{ReadsIn, headerAnswer, headerWords, readWords, wordsFor, partAnswer, partWords, sweepAnswer, sweepWords, sweepList, mark-words, resultWords, markWords, MarksIn, lengthAnswer, lengthWords, BeginsIn, ResumesIn, scheduleAnswer, scheduleWords, seedWords, DrawsIn, DealsIn, hopLengthAnswer, hopLengthWords, HopsIn, updateLengthAnswer, updateLengthWords, AddsIn, RemovesIn};
+ghost use Rattle.hops.specs.Call.{lengthRow as workRow};
 
 // Result words of the marker: finished, and the counts.
 const MARK_WORDS: usize = 1 + COUNTS;
@@ -390,6 +391,21 @@ pub extern "C" fn kullneyra_deal_seed(
     }
 }
 
+// A number of work words, or why there is none.
+fn give_length(found: hops::Length, result: &mut [u64]) -> u32
+    requires { ⌜ length (now result) ≡ 1 ⌝ }
+    ensures { λ r. ⌜ r ≡ workRow found .number ⌝ }
+    ensures { λ r. ⌜ now (result .exit) ≡ wordsFor (workRow found .number) (workRow found .words ∷ []) (now (result .entry)) ⌝ }
+{
+    match found {
+        hops::Length::Words(words) => {
+            result[0] = words;
+            0
+        }
+        hops::Length::Refused(refusal) => refusal::number_of(refusal) as u32,
+    }
+}
+
 // How many work words the hop counts take; one result word.
 #[no_mangle]
 pub extern "C" fn kullneyra_hop_words(objects: u32, result: &mut [u64]) -> u32
@@ -399,13 +415,7 @@ pub extern "C" fn kullneyra_hop_words(objects: u32, result: &mut [u64]) -> u32
     if result.len() != 1 {
         return 7;
     }
-    match hops::work_words(objects) {
-        hops::Length::Words(words) => {
-            result[0] = words;
-            0
-        }
-        hops::Length::Refused(refusal) => refusal::number_of(refusal) as u32,
-    }
+    give_length(hops::work_words(objects), result)
 }
 
 // The hop count of each object; there are no result words.
@@ -420,4 +430,68 @@ pub extern "C" fn kullneyra_hops(
     ensures { λ r. ⌜ HopsIn (now (offsets .entry)) (now (targets .entry)) (now (starts .entry)) (now (hops .entry)) (now (work .entry)) (now (hops .exit)) (now (work .exit)) r ⌝ }
 {
     refusal::verdict_number(hops::count(offsets, targets, starts, hops, work)) as u32
+}
+
+// How many work words adding and taking out references take; result word: words.
+#[no_mangle]
+pub extern "C" fn kullneyra_update_words(objects: u32, result: &mut [u64]) -> u32
+    ensures { λ r. ⌜ r ≡ updateLengthAnswer objects (now (result .entry)) ⌝ }
+    ensures { λ r. ⌜ now (result .exit) ≡ updateLengthWords objects (now (result .entry)) ⌝ }
+{
+    if result.len() != 1 {
+        return 7;
+    }
+    give_length(updates::work_words(objects), result)
+}
+
+// References are added, and the marks brought up to date; there are no result words.
+#[no_mangle]
+pub extern "C" fn kullneyra_add(
+    offsets: &[u32],
+    targets: &[u32],
+    from: &[u32],
+    to: &[u32],
+    bounds: &mut [u32],
+    places: &mut [u32],
+    marks: &mut [u8],
+    work: &mut [u32],
+) -> u32
+    ensures { λ r. ⌜ AddsIn (now (offsets .entry)) (now (targets .entry)) (now (from .entry)) (now (to .entry)) (now (bounds .entry)) (now (places .entry)) (now (marks .entry)) (now (work .entry)) (now (bounds .exit)) (now (places .exit)) (now (marks .exit)) (now (work .exit)) r ⌝ }
+{
+    refusal::verdict_number(updates::add::add(
+        offsets,
+        targets,
+        from,
+        to,
+        bounds,
+        places,
+        marks,
+        work,
+    )) as u32
+}
+
+// References are taken out, and marks made afresh; there are no result words.
+#[no_mangle]
+pub extern "C" fn kullneyra_remove(
+    offsets: &[u32],
+    targets: &[u32],
+    numbers: &[u32],
+    starts: &[u32],
+    bounds: &mut [u32],
+    places: &mut [u32],
+    marks: &mut [u8],
+    work: &mut [u32],
+) -> u32
+    ensures { λ r. ⌜ RemovesIn (now (offsets .entry)) (now (targets .entry)) (now (numbers .entry)) (now (starts .entry)) (now (bounds .entry)) (now (places .entry)) (now (marks .entry)) (now (work .entry)) (now (bounds .exit)) (now (places .exit)) (now (marks .exit)) (now (work .exit)) r ⌝ }
+{
+    refusal::verdict_number(updates::remove::remove(
+        offsets,
+        targets,
+        numbers,
+        starts,
+        bounds,
+        places,
+        marks,
+        work,
+    )) as u32
 }

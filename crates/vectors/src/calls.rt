@@ -414,6 +414,99 @@ fn nearest_into(
     }
 }
 
+// The lists of a line that adds references or takes them out.
+fn update(cells: &[u64], places: &[usize; 512], adds: bool) {
+    let mut offsets = [0u32; 64];
+    let mut targets = [0u32; 64];
+    let mut one = [0u32; 512];
+    let mut other = [0u32; 512];
+    let mut bounds = [0u32; 64];
+    let mut leads = [0u32; 64];
+    let mut marks = [0u8; 64];
+    let mut work = [0u32; 128];
+    let o = copy_words(cells, places, 0, &mut offsets);
+    let t = copy_words(cells, places, 1, &mut targets);
+    let f = copy_words(cells, places, 2, &mut one);
+    let g = copy_words(cells, places, 3, &mut other);
+    let b = copy_words(cells, places, 4, &mut bounds);
+    let p = copy_words(cells, places, 5, &mut leads);
+    let m = copy_bytes(cells, places, 6, &mut marks);
+    let w = copy_words(cells, places, 7, &mut work);
+    show::hop_words(updates::work_words(least(m, 64) as u32));
+    io::write_all(1, b" |");
+    if adds {
+        add_into(
+            &offsets[..o],
+            &targets[..t],
+            &one[..f],
+            &other[..g],
+            &mut bounds[..b],
+            &mut leads[..p],
+            &mut marks[..m],
+            &mut work[..w],
+        );
+    } else {
+        take_into(
+            &offsets[..o],
+            &targets[..t],
+            &one[..f],
+            &other[..g],
+            &mut bounds[..b],
+            &mut leads[..p],
+            &mut marks[..m],
+            &mut work[..w],
+        );
+    }
+}
+
+fn add_into(
+    offsets: &[u32],
+    targets: &[u32],
+    from: &[u32],
+    to: &[u32],
+    bounds: &mut [u32],
+    leads: &mut [u32],
+    marks: &mut [u8],
+    work: &mut [u32],
+) {
+    let verdict = updates::add::add(offsets, targets, from, to, bounds, leads, marks, work);
+    updated(verdict, bounds, leads, marks, work);
+}
+
+fn take_into(
+    offsets: &[u32],
+    targets: &[u32],
+    numbers: &[u32],
+    starts: &[u32],
+    bounds: &mut [u32],
+    leads: &mut [u32],
+    marks: &mut [u8],
+    work: &mut [u32],
+) {
+    let verdict = updates::remove::remove(
+        offsets,
+        targets,
+        numbers,
+        starts,
+        bounds,
+        leads,
+        marks,
+        work,
+    );
+    updated(verdict, bounds, leads, marks, work);
+}
+
+fn updated(verdict: Verdict, bounds: &[u32], leads: &[u32], marks: &[u8], work: &[u32]) {
+    show::updated(verdict);
+    show::words(bounds);
+    show::words(leads);
+    show::bytes(marks);
+    match verdict {
+        Verdict::Fine => {}
+        Verdict::Faulty(_) => show::words(work),
+    }
+}
+
 // The call of a kind, and the line that answers it.
 pub fn call(kind: u8, text: &[u8], cells: &[u64], places: &[usize; 512]) {
     let rest = scan::behind(text, b':');
@@ -428,6 +521,8 @@ pub fn call(kind: u8, text: &[u8], cells: &[u64], places: &[usize; 512]) {
         b'c' => cards(cells, places),
         b'd' => draw(cells, places),
         b'n' => nearest(cells, places),
+        b'a' => update(cells, places, true),
+        b't' => update(cells, places, false),
         _ => sweep(cells, places),
     }
     io::write_all(1, b"\n");

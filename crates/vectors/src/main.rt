@@ -11,6 +11,8 @@
 //     cards NAME: CARDS | W | SCHEDULE                 the length of so many cards' turns, then the turns
 //     draw NAME: SEED | ROUNDS W | SCHEDULE            one draw, then the turns of so many draws
 //     nearest NAME: OFFSETS | TARGETS | STARTS | HOPS | WORK    hop counts, with the work words beside a refusal
+//     add NAME: OFFSETS | TARGETS | FROM | TO | NEW OFFSETS | NEW TARGETS | MARKS | WORK
+//     take NAME: OFFSETS | TARGETS | NUMBERS | STARTS | NEW OFFSETS | NEW TARGETS | MARKS | WORK
 //
 // and a line that begins with no small letter is a comment. A list is words with a space between
 // them: 12 is a number, 12:4 its four lowest bytes, the lowest first, S the numbers under a letter,

@@ -123,6 +123,15 @@ pub fn counted(v: Verdict) {
     }
 }
 
+pub fn updated(v: Verdict) {
+    match v {
+        Verdict::Fine => {
+            io::write_all(1, b" updated");
+        }
+        Verdict::Faulty(r) => refused(r),
+    }
+}
+
 pub fn seed(s: Seed) {
     number(s.first as u64);
     number(s.second as u64);

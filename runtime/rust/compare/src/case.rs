@@ -69,6 +69,30 @@ pub enum Call {
         hops: usize,
         work: usize,
     },
+    UpdateWords {
+        objects: u32,
+    },
+    Add {
+        update: Update,
+        from: Vec<u32>,
+        to: Vec<u32>,
+    },
+    Remove {
+        update: Update,
+        numbers: Vec<u32>,
+        starts: Vec<u32>,
+    },
+}
+
+/// What adding and taking out are both given: a graph, marks as they are beforehand, and lengths.
+#[derive(Clone, Debug, PartialEq, Eq)]
+pub struct Update {
+    pub offsets: Vec<u32>,
+    pub targets: Vec<u32>,
+    pub marks: Vec<u8>,
+    pub new_offsets: usize,
+    pub new_targets: usize,
+    pub work: usize,
 }
 
 #[derive(Clone, Debug, PartialEq, Eq)]
@@ -136,7 +160,7 @@ impl Case {
 }
 
 impl Call {
-    pub const CALLS: usize = 14;
+    pub const CALLS: usize = 17;
     pub const NAMES: [&'static str; Self::CALLS] = [
         "header",
         "read",
@@ -152,6 +176,9 @@ impl Call {
         "deal seed",
         "hop words",
         "hops",
+        "update words",
+        "add",
+        "remove",
     ];
 
     pub fn place(&self) -> usize {
@@ -170,13 +197,16 @@ impl Call {
             Call::DealSeed { .. } => 11,
             Call::HopWords { .. } => 12,
             Call::Hops { .. } => 13,
+            Call::UpdateWords { .. } => 14,
+            Call::Add { .. } => 15,
+            Call::Remove { .. } => 16,
         }
     }
 
     /// The right length of the result buffer; 0 for a call that has none.
     pub fn result_words(&self) -> usize {
         const MARKED: usize = reference::Outcome::WORDS;
-        [3, 4, 2, MARKED, 2, 1, MARKED, MARKED, 1, 0, 1, 0, 1, 0][self.place()]
+        [3, 4, 2, MARKED, 2, 1, MARKED, MARKED, 1, 0, 1, 0, 1, 0, 1, 0, 0][self.place()]
     }
 
     /// The answers that the specification has for this call.
@@ -195,6 +225,9 @@ impl Call {
             &[0, 7, 16],
             &[0, 7, 8, 15, 16],
             &[0, 4, 7],
+            &[0, 4, 5, 7, 10, 13],
+            &[0, 4, 7],
+            &[0, 4, 5, 7, 10, 17],
             &[0, 4, 5, 7, 10, 13],
         ];
         ANSWERS[place]
@@ -254,6 +287,16 @@ impl fmt::Display for Mark {
     }
 }
 
+impl fmt::Display for Update {
+    fn fmt(&self, f: &mut fmt::Formatter<'_>) -> fmt::Result {
+        let Update { new_offsets, new_targets, work, .. } = self;
+        list(f, "offsets", &self.offsets)?;
+        list(f, "targets", &self.targets)?;
+        list(f, "marks", &self.marks)?;
+        writeln!(f, "  lengths: new offsets {new_offsets}, new targets {new_targets}, work {work}")
+    }
+}
+
 impl fmt::Display for Case {
     fn fmt(&self, f: &mut fmt::Formatter<'_>) -> fmt::Result {
         writeln!(f, "call {}", Call::NAMES[self.call.place()])?;
@@ -300,6 +343,17 @@ impl fmt::Display for Case {
                 list(f, "targets", targets)?;
                 list(f, "starts", starts)?;
                 writeln!(f, "  lengths: hops {hops}, work {work}")?;
+            }
+            Call::UpdateWords { objects } => writeln!(f, "  {objects} objects")?,
+            Call::Add { update, from, to } => {
+                write!(f, "{update}")?;
+                list(f, "from", from)?;
+                list(f, "to", to)?;
+            }
+            Call::Remove { update, numbers, starts } => {
+                write!(f, "{update}")?;
+                list(f, "numbers", numbers)?;
+                list(f, "starts", starts)?;
             }
         }
         writeln!(f, "  length: result {}", self.result)

@@ -1,6 +1,6 @@
 //! Small cases, drawn.
 
-use crate::case::{Call, Case, Mark};
+use crate::case::{Call, Case, Mark, Update};
 use crate::damage;
 use crate::judge::reached;
 use crate::rng::Rng;
@@ -10,7 +10,7 @@ use reference::{Tally, LARGEST_SIZE, MOST_LEASES, STARTS};
 
 /// A small case.
 pub fn small(rng: &mut Rng) -> Case {
-    let call = match rng.below(40) {
+    let call = match rng.below(46) {
         0 | 1 => Call::Header { bytes: catalogue(rng).0 },
         2..=8 => read(rng),
         9 | 10 => references(rng),
@@ -24,7 +24,10 @@ pub fn small(rng: &mut Rng) -> Case {
         34 => Call::Draw { seed: seed(rng) },
         35 => deal_seed(rng),
         36 => hop_words(rng),
-        _ => hops(rng),
+        37..=39 => hops(rng),
+        40 => update_words(rng),
+        41..=43 => add(rng),
+        _ => remove(rng),
     };
     let result = match call.result_words() {
         0 => 0,
@@ -44,6 +47,77 @@ fn hops(rng: &mut Rng) -> Call {
     let n = offsets.len().saturating_sub(1);
     let (hops, work) = (damage::length_once_in(rng, 15, n), damage::length_once_in(rng, 15, 2 * n));
     Call::Hops { offsets, targets, starts, hops, work }
+}
+
+fn update_words(rng: &mut Rng) -> Call {
+    let any = rng.word() as u32;
+    Call::UpdateWords { objects: rng.pick(&[0, 1, 6, 65_535, 65_536, 65_537, u32::MAX, any]) }
+}
+
+/// A graph, and buffers for one with so many targets.
+fn update(rng: &mut Rng, offsets: Vec<u32>, targets: Vec<u32>, marks: Vec<u8>, left: usize) -> Update {
+    let n = offsets.len().saturating_sub(1);
+    let (new_offsets, new_targets) = (damage::length_once_in(rng, 25, n + 1), damage::length_once_in(rng, 25, left));
+    Update { offsets, targets, marks, new_offsets, new_targets, work: damage::length_once_in(rng, 25, n) }
+}
+
+/// An object, now and then none.
+fn object(rng: &mut Rng, n: usize) -> u32 {
+    match rng.below(60) {
+        0 => n as u32,
+        1 => u32::MAX,
+        _ => rng.below(n.max(1)) as u32,
+    }
+}
+
+/// Marks that are closed under the references, in any values; now and then one is missing, or any are set.
+fn closed_marks(rng: &mut Rng, offsets: &[u32], targets: &[u32], starts: &[u32]) -> Vec<u8> {
+    let n = offsets.len().saturating_sub(1);
+    let rises = offsets.windows(2).all(|pair| pair[0] <= pair[1]) && offsets.last() == Some(&(targets.len() as u32));
+    let formed = n > 0 && rises && targets.iter().chain(starts).all(|&v| (v as usize) < n);
+    let mut marks: Vec<u8> = match formed && !rng.once_in(8) {
+        true => reached(offsets, targets, starts).0.iter().map(|&found| u8::from(found)).collect(),
+        false => (0..n).map(|_| u8::from(rng.once_in(3))).collect(),
+    };
+    for mark in marks.iter_mut().filter(|mark| **mark != 0) {
+        *mark = rng.pick(&[1, 2, 16, 255]);
+    }
+    if rng.once_in(8) && n > 0 {
+        let v = rng.below(n);
+        marks[v] = 0;
+    }
+    if rng.once_in(25) {
+        marks.resize(damage::length(rng, n), 1);
+    }
+    marks
+}
+
+fn add(rng: &mut Rng) -> Call {
+    let Mark { offsets, targets, starts, .. } = mark(rng);
+    let marks = closed_marks(rng, &offsets, &targets, &starts);
+    let n = offsets.len().saturating_sub(1);
+    let most = rng.pick(&[0, 1, 3, 12]);
+    let count = rng.below(most + 1);
+    let from: Vec<u32> = (0..count).map(|_| object(rng, n)).collect();
+    let to: Vec<u32> = (0..damage::length_once_in(rng, 25, count)).map(|_| object(rng, n)).collect();
+    let left = targets.len() + count;
+    Call::Add { update: update(rng, offsets, targets, marks, left), from, to }
+}
+
+fn remove(rng: &mut Rng) -> Call {
+    let Mark { offsets, targets, starts, .. } = mark(rng);
+    let m = targets.len();
+    let most = rng.pick(&[0, 1, 3, m, 2 * m]);
+    let count = rng.below(most + 1);
+    let numbers: Vec<u32> = (0..count).map(|_| if m == 0 { rng.below(3) as u32 } else { object(rng, m) }).collect();
+    let mut named: Vec<u32> = numbers.iter().copied().filter(|&number| (number as usize) < m).collect();
+    named.sort_unstable();
+    named.dedup();
+    // As if a repeated number counted twice, too.
+    let left = if rng.once_in(25) { m.saturating_sub(numbers.len()) } else { m - named.len() };
+    let n = offsets.len().saturating_sub(1);
+    let marks = (0..damage::length_once_in(rng, 25, n)).map(|_| rng.word() as u8).collect();
+    Call::Remove { update: update(rng, offsets, targets, marks, left), numbers, starts }
 }
 
 /// W for cards, now and then out of range or more than a card has.

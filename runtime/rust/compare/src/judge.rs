@@ -93,7 +93,27 @@ pub fn demands(case: &Case, got: &After) -> Result<(), String> {
                 false => Err("does not hold: exactly the objects that live have a hop count".into()),
             }
         }
+        // From the marked objects, or from the starts, along the new references.
+        Call::Add { update, from, .. } if got.number == 0 => {
+            let given: Vec<u32> = (0..).zip(&update.marks).filter(|(_, &mark)| mark != 0).map(|(v, _)| v).collect();
+            let kept = update.marks.iter().zip(got.lent(2)).all(|(&mark, now)| mark == 0 || u64::from(mark) == now);
+            match kept && update.targets.len() + from.len() == got.lent(1).len() {
+                true => renewed_demands(&given, got),
+                false => Err("does not hold: marks that are set keep their value".into()),
+            }
+        }
+        Call::Remove { starts, .. } if got.number == 0 => renewed_demands(starts, got),
         _ => Ok(()),
+    }
+}
+
+/// The marked objects are those that the given ones reach in the store that was written.
+fn renewed_demands(given: &[u32], got: &After) -> Result<(), String> {
+    let words = |buffer: usize| got.lent(buffer).into_iter().map(|word| word as u32).collect::<Vec<u32>>();
+    let (found, _) = reached(&words(0), &words(1), given);
+    match got.lent(2).into_iter().map(|mark| mark != 0).eq(found) {
+        true => Ok(()),
+        false => Err("does not hold: exactly what is reached is marked".into()),
     }
 }
 

@@ -1,6 +1,6 @@
 //! The two sides of the comparison, and what a call leaves behind.
 
-use crate::case::{Call, Case, Mark};
+use crate::case::{Call, Case, Mark, Update};
 use kullneyra::{raw, Marked, Refusal, Schedule, Settings};
 use reference::Outcome;
 
@@ -28,6 +28,24 @@ pub trait Side {
     fn deal_seed(&self, seed: &mut [u32], rounds: usize, workers: u32, schedule: &mut [u8]) -> u32;
     fn hop_words(&self, objects: u32, result: &mut [u64]) -> u32;
     fn hops(&self, offsets: &[u32], targets: &[u32], starts: &[u32], hops: &mut [u32], work: &mut [u32]) -> u32;
+    fn update_words(&self, objects: u32, result: &mut [u64]) -> u32;
+    fn add(&self, update: &Update, from: &[u32], to: &[u32], lent: &mut Renewal<'_>) -> u32;
+    fn remove(&self, update: &Update, numbers: &[u32], starts: &[u32], lent: &mut Renewal<'_>) -> u32;
+}
+
+/// What is lent to adding and taking out.
+pub struct Renewal<'a> {
+    pub offsets: &'a mut [u32],
+    pub targets: &'a mut [u32],
+    pub marks: &'a mut [u8],
+    pub work: &'a mut [u32],
+}
+
+impl Renewal<'_> {
+    fn renewed(&mut self) -> reference::Renewed<'_> {
+        let Renewal { offsets, targets, marks, work } = self;
+        reference::Renewed { offsets, targets, marks, work }
+    }
 }
 
 /// What is lent to the calls that save.
@@ -110,6 +128,18 @@ impl Side for Proved {
 
     fn hops(&self, offsets: &[u32], targets: &[u32], starts: &[u32], hops: &mut [u32], work: &mut [u32]) -> u32 {
         raw::hops(offsets, targets, starts, hops, work)
+    }
+
+    fn update_words(&self, objects: u32, result: &mut [u64]) -> u32 {
+        raw::update_words(objects, result)
+    }
+
+    fn add(&self, update: &Update, from: &[u32], to: &[u32], lent: &mut Renewal<'_>) -> u32 {
+        raw::add(&update.offsets, &update.targets, from, to, lent.offsets, lent.targets, lent.marks, lent.work)
+    }
+
+    fn remove(&self, update: &Update, numbers: &[u32], starts: &[u32], lent: &mut Renewal<'_>) -> u32 {
+        raw::remove(&update.offsets, &update.targets, numbers, starts, lent.offsets, lent.targets, lent.marks, lent.work)
     }
 }
 
@@ -215,6 +245,22 @@ impl Side for Typed {
 
     fn hops(&self, offsets: &[u32], targets: &[u32], starts: &[u32], hops: &mut [u32], work: &mut [u32]) -> u32 {
         kullneyra::hops(offsets, targets, starts, hops, work).map_or_else(Refusal::number, |()| 0)
+    }
+
+    fn update_words(&self, objects: u32, result: &mut [u64]) -> u32 {
+        written(kullneyra::update_length(objects).map(|words| [words]), result, Refusal::number)
+    }
+
+    fn add(&self, update: &Update, from: &[u32], to: &[u32], lent: &mut Renewal<'_>) -> u32 {
+        let Update { offsets, targets, .. } = update;
+        kullneyra::add(offsets, targets, from, to, lent.offsets, lent.targets, lent.marks, lent.work)
+            .map_or_else(Refusal::number, |()| 0)
+    }
+
+    fn remove(&self, update: &Update, numbers: &[u32], starts: &[u32], lent: &mut Renewal<'_>) -> u32 {
+        let Update { offsets, targets, .. } = update;
+        kullneyra::remove(offsets, targets, numbers, starts, lent.offsets, lent.targets, lent.marks, lent.work)
+            .map_or_else(Refusal::number, |()| 0)
     }
 }
 
@@ -324,6 +370,22 @@ impl Side for Reference {
     fn hops(&self, offsets: &[u32], targets: &[u32], starts: &[u32], hops: &mut [u32], work: &mut [u32]) -> u32 {
         reference::hops(offsets, targets, starts, hops, work).map_or_else(u32::from, |()| 0)
     }
+
+    fn update_words(&self, objects: u32, result: &mut [u64]) -> u32 {
+        if result.len() != 1 {
+            return WRONG_LENGTH;
+        }
+        written(reference::update_words(objects as usize).map(|words| [words]), result, u32::from)
+    }
+
+    fn add(&self, update: &Update, from: &[u32], to: &[u32], lent: &mut Renewal<'_>) -> u32 {
+        reference::add(&update.offsets, &update.targets, from, to, &mut lent.renewed()).map_or_else(u32::from, |()| 0)
+    }
+
+    fn remove(&self, update: &Update, numbers: &[u32], starts: &[u32], lent: &mut Renewal<'_>) -> u32 {
+        reference::remove(&update.offsets, &update.targets, numbers, starts, &mut lent.renewed())
+            .map_or_else(u32::from, |()| 0)
+    }
 }
 
 /// What the proved calls are measured against; where there is no tuned call, the plain one.
@@ -392,6 +454,18 @@ impl Side for Tuned {
 
     fn hops(&self, offsets: &[u32], targets: &[u32], starts: &[u32], hops: &mut [u32], work: &mut [u32]) -> u32 {
         tuned::hops(offsets, targets, starts, hops, work).map_or_else(u32::from, |()| 0)
+    }
+
+    fn update_words(&self, objects: u32, result: &mut [u64]) -> u32 {
+        Reference.update_words(objects, result)
+    }
+
+    fn add(&self, update: &Update, from: &[u32], to: &[u32], lent: &mut Renewal<'_>) -> u32 {
+        Reference.add(update, from, to, lent)
+    }
+
+    fn remove(&self, update: &Update, numbers: &[u32], starts: &[u32], lent: &mut Renewal<'_>) -> u32 {
+        Reference.remove(update, numbers, starts, lent)
     }
 }
 
@@ -496,6 +570,18 @@ impl Side for Untouched {
 
     fn hops(&self, _: &[u32], _: &[u32], _: &[u32], _: &mut [u32], _: &mut [u32]) -> u32 {
         WRONG_LENGTH // as beside a refusal, where the work words are looked at, too
+    }
+
+    fn update_words(&self, _: u32, _: &mut [u64]) -> u32 {
+        0
+    }
+
+    fn add(&self, _: &Update, _: &[u32], _: &[u32], _: &mut Renewal<'_>) -> u32 {
+        WRONG_LENGTH
+    }
+
+    fn remove(&self, _: &Update, _: &[u32], _: &[u32], _: &mut Renewal<'_>) -> u32 {
+        WRONG_LENGTH
     }
 }
 
@@ -681,7 +767,39 @@ pub fn after(case: &Case, side: &dyn Side) -> After {
             }
             After { number, buffers: vec![("hops", Whole::Words(hops.0)), ("work", Whole::Words(work.0))] }
         }
+        Call::UpdateWords { objects } => {
+            let mut result = longs(case.result, case.fill(0));
+            let number = side.update_words(*objects, result.part());
+            After { number, buffers: vec![("result", Whole::Longs(result.0))] }
+        }
+        Call::Add { update, from, to } => after_update(case, update, |lent| side.add(update, from, to, lent)),
+        Call::Remove { update, numbers, starts } => {
+            after_update(case, update, |lent| side.remove(update, numbers, starts, lent))
+        }
     }
+}
+
+fn after_update(case: &Case, update: &Update, call: impl FnOnce(&mut Renewal<'_>) -> u32) -> After {
+    let (mut offsets, mut targets) = (words(update.new_offsets, case.fill(1)), words(update.new_targets, case.fill(2)));
+    let mut marks = Lent::holding(&update.marks, case.fill(3), 0xff);
+    let mut work = words(update.work, case.fill(4));
+    let number = call(&mut Renewal {
+        offsets: offsets.part(),
+        targets: targets.part(),
+        marks: marks.part(),
+        work: work.part(),
+    });
+    // Nothing is said of the work words of an accepted call, but that no other word is touched.
+    if number == 0 {
+        work.part().fill(0);
+    }
+    let buffers = vec![
+        ("new offsets", Whole::Words(offsets.0)),
+        ("new targets", Whole::Words(targets.0)),
+        ("marks", Whole::Bytes(marks.0)),
+        ("work", Whole::Words(work.0)),
+    ];
+    After { number, buffers }
 }
 
 fn after_read(case: &Case, side: &dyn Side, bytes: &[u8], lengths: [usize; 4]) -> After {

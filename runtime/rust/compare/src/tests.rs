@@ -1,9 +1,9 @@
 //! The comparison finds what it should: sides with one fault each, made from the reference.
 
-use crate::case::{Call, Mark};
+use crate::case::{Call, Mark, Update};
 use crate::judge::{demands, same};
 use crate::large::LARGE;
-use crate::sides::{after, Buffers, Reference, Side};
+use crate::sides::{after, Buffers, Reference, Renewal, Side};
 use crate::{case_of, SEED};
 
 /// The reference with one fault.
@@ -50,6 +50,10 @@ enum Fault {
     /// The seed is moved by one draw too few.
     SeedOneDrawBehind,
     FarthestLost,
+    /// 255 is written over an older mark.
+    OlderMarkLost,
+    /// A start is marked as what it reaches.
+    StartsNotTold,
 }
 
 impl Side for Fault {
@@ -208,6 +212,26 @@ impl Side for Fault {
         }
         number
     }
+
+    fn update_words(&self, objects: u32, result: &mut [u64]) -> u32 {
+        Reference.update_words(objects, result)
+    }
+
+    fn add(&self, update: &Update, from: &[u32], to: &[u32], lent: &mut Renewal<'_>) -> u32 {
+        let number = Reference.add(update, from, to, lent);
+        if *self == Fault::OlderMarkLost && number == 0 {
+            lent.marks.iter_mut().filter(|mark| **mark != 0).for_each(|mark| *mark = 255);
+        }
+        number
+    }
+
+    fn remove(&self, update: &Update, numbers: &[u32], starts: &[u32], lent: &mut Renewal<'_>) -> u32 {
+        let number = Reference.remove(update, numbers, starts, lent);
+        if *self == Fault::StartsNotTold && number == 0 {
+            lent.marks.iter_mut().filter(|mark| **mark != 0).for_each(|mark| *mark = 255);
+        }
+        number
+    }
 }
 
 /// The first small case in which the faulty side differs.
@@ -242,6 +266,8 @@ fn faults_are_found() {
     assert!(found(Fault::RefusedSeedMoved).is_some());
     assert!(found(Fault::SeedOneDrawBehind).is_some());
     assert!(found(Fault::FarthestLost).is_some());
+    assert!(found(Fault::OlderMarkLost).is_some());
+    assert!(found(Fault::StartsNotTold).is_some());
 }
 
 #[test]

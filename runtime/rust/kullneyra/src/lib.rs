@@ -147,12 +147,14 @@ pub enum Refusal {
     Cards,
     /// 16: a seed whose first word is 0.
     Seed,
+    /// 17: a marked object has a reference to an unmarked one.
+    Marks,
     /// A number that this crate has no name for: the library is newer than the crate.
     Other(u32),
 }
 
 /// The refusals that have a name.
-const NAMED: [Refusal; 14] = [
+const NAMED: [Refusal; 15] = [
     Refusal::Short,
     Refusal::Kind,
     Refusal::Place,
@@ -167,6 +169,7 @@ const NAMED: [Refusal; 14] = [
     Refusal::Saved,
     Refusal::Cards,
     Refusal::Seed,
+    Refusal::Marks,
 ];
 
 impl Refusal {
@@ -191,6 +194,7 @@ impl Refusal {
             Refusal::Saved => (14, "saved words that hold no sound collection"),
             Refusal::Cards => (15, "a card that is not in the deck, or more workers than a card has"),
             Refusal::Seed => (16, "the first word of a seed is 0"),
+            Refusal::Marks => (17, "a marked object has a reference to an unmarked one"),
             Refusal::Other(number) => (number, "a number newer than this crate"),
         }
     }
@@ -671,6 +675,85 @@ pub fn hops(
     answer(raw::hops(offsets, targets, starts, hops, work))
 }
 
+/// The mark of an object that [`add`] or [`remove`] finds live, where it is no start.
+pub const NEWLY_LIVE: u8 = 255;
+
+/// How many work words [`add`] and [`remove`] take for n objects.
+pub const fn update_words(objects: usize) -> usize {
+    objects
+}
+
+/// The same number by the library.
+///
+/// ```
+/// use kullneyra::{update_length, update_words, Refusal};
+///
+/// assert_eq!(update_length(6), Ok(update_words(6) as u64));
+/// assert_eq!(update_length(0), Err(Refusal::Count));
+/// ```
+pub fn update_length(objects: u32) -> Result<u64, Refusal> {
+    let mut result = [0];
+    answer(raw::update_words(objects, &mut result))?;
+    Ok(result[0])
+}
+
+/// Adds the references from `from[i]` to `to[i]` to a store and brings its marks up to date. The enlarged store goes to
+/// `new_offsets`, as long as `offsets`, and `new_targets`, as long as `targets` and `from` together; an object's new
+/// references stand behind its old ones. Objects newly live get [`NEWLY_LIVE`], and marks that are set keep their value.
+///
+/// ```
+/// use kullneyra::{add, update_words, NEWLY_LIVE};
+///
+/// // 0→1, 2→3, and 0 and 1 live. With 1→2 the others do, too.
+/// let (offsets, targets, mut marks) = ([0, 1, 1, 2, 2], [1, 3], [1, 1, 0, 0]);
+/// let (mut new_offsets, mut new_targets, mut work) = ([0; 5], [0; 3], [0; update_words(4)]);
+/// add(&offsets, &targets, &[1], &[2], &mut new_offsets, &mut new_targets, &mut marks, &mut work)?;
+/// assert_eq!((new_offsets, new_targets), ([0, 1, 2, 3, 3], [1, 2, 3]));
+/// assert_eq!(marks, [1, 1, NEWLY_LIVE, NEWLY_LIVE]);
+/// # Ok::<(), kullneyra::Refusal>(())
+/// ```
+#[allow(clippy::too_many_arguments)]
+pub fn add(
+    offsets: &[u32],
+    targets: &[u32],
+    from: &[u32],
+    to: &[u32],
+    new_offsets: &mut [u32],
+    new_targets: &mut [u32],
+    marks: &mut [u8],
+    work: &mut [u32],
+) -> Result<(), Refusal> {
+    answer(raw::add(offsets, targets, from, to, new_offsets, new_targets, marks, work))
+}
+
+/// Takes the references with these numbers out of a store, a repeated number counting once, and marks afresh: 1 for a
+/// start, [`NEWLY_LIVE`] for what else is reached. `new_targets` is as long as references remain.
+///
+/// ```
+/// use kullneyra::{remove, update_words, NEWLY_LIVE};
+///
+/// // 0→1, 0→2, 1→2: without reference 1 object 2 is still reached.
+/// let (offsets, targets, mut marks) = ([0, 2, 3, 3], [1, 2, 2], [0; 3]);
+/// let (mut new_offsets, mut new_targets, mut work) = ([0; 4], [0; 2], [0; update_words(3)]);
+/// remove(&offsets, &targets, &[1, 1], &[0], &mut new_offsets, &mut new_targets, &mut marks, &mut work)?;
+/// assert_eq!((new_offsets, new_targets), ([0, 1, 2, 2], [1, 2]));
+/// assert_eq!(marks, [1, NEWLY_LIVE, NEWLY_LIVE]);
+/// # Ok::<(), kullneyra::Refusal>(())
+/// ```
+#[allow(clippy::too_many_arguments)]
+pub fn remove(
+    offsets: &[u32],
+    targets: &[u32],
+    numbers: &[u32],
+    starts: &[u32],
+    new_offsets: &mut [u32],
+    new_targets: &mut [u32],
+    marks: &mut [u8],
+    work: &mut [u32],
+) -> Result<(), Refusal> {
+    answer(raw::remove(offsets, targets, numbers, starts, new_offsets, new_targets, marks, work))
+}
+
 #[cfg(test)]
 mod tests {
     use super::*;
@@ -679,7 +762,7 @@ mod tests {
 
     #[test]
     fn numbers_are_places_in_the_table() {
-        for number in (1..=10).chain([13, 14, 15, 16]) {
+        for number in (1..=10).chain([13, 14, 15, 16, 17]) {
             let refusal = Refusal::of(number);
             assert!(!matches!(refusal, Refusal::Other(_)));
             assert_eq!(refusal.number(), number);

@@ -137,6 +137,43 @@ mod c {
             work: *mut u32,
             work_len: usize,
         ) -> u32;
+        pub fn kullneyra_update_words(objects: u32, result: *mut u64, result_len: usize) -> u32;
+        pub fn kullneyra_add(
+            offsets: *const u32,
+            offsets_len: usize,
+            targets: *const u32,
+            targets_len: usize,
+            from: *const u32,
+            from_len: usize,
+            to: *const u32,
+            to_len: usize,
+            new_offsets: *mut u32,
+            new_offsets_len: usize,
+            new_targets: *mut u32,
+            new_targets_len: usize,
+            marks: *mut u8,
+            marks_len: usize,
+            work: *mut u32,
+            work_len: usize,
+        ) -> u32;
+        pub fn kullneyra_remove(
+            offsets: *const u32,
+            offsets_len: usize,
+            targets: *const u32,
+            targets_len: usize,
+            numbers: *const u32,
+            numbers_len: usize,
+            starts: *const u32,
+            starts_len: usize,
+            new_offsets: *mut u32,
+            new_offsets_len: usize,
+            new_targets: *mut u32,
+            new_targets_len: usize,
+            marks: *mut u8,
+            marks_len: usize,
+            work: *mut u32,
+            work_len: usize,
+        ) -> u32;
     }
 }
 
@@ -390,6 +427,82 @@ pub fn hops(offsets: &[u32], targets: &[u32], starts: &[u32], hops: &mut [u32], 
             starts.len(),
             hops.as_mut_ptr(),
             hops.len(),
+            work.as_mut_ptr(),
+            work.len(),
+        )
+    }
+}
+
+/// How many work words adding and taking out take. One result word.
+pub fn update_words(objects: u32, result: &mut [u64]) -> u32 {
+    // SAFETY: as in `header`.
+    unsafe { c::kullneyra_update_words(objects, result.as_mut_ptr(), result.len()) }
+}
+
+/// Adds references and brings the marks up to date. There are no result words.
+#[allow(clippy::too_many_arguments)]
+pub fn add(
+    offsets: &[u32],
+    targets: &[u32],
+    from: &[u32],
+    to: &[u32],
+    new_offsets: &mut [u32],
+    new_targets: &mut [u32],
+    marks: &mut [u8],
+    work: &mut [u32],
+) -> u32 {
+    // SAFETY: as in `header`.
+    unsafe {
+        c::kullneyra_add(
+            offsets.as_ptr(),
+            offsets.len(),
+            targets.as_ptr(),
+            targets.len(),
+            from.as_ptr(),
+            from.len(),
+            to.as_ptr(),
+            to.len(),
+            new_offsets.as_mut_ptr(),
+            new_offsets.len(),
+            new_targets.as_mut_ptr(),
+            new_targets.len(),
+            marks.as_mut_ptr(),
+            marks.len(),
+            work.as_mut_ptr(),
+            work.len(),
+        )
+    }
+}
+
+/// Takes references out and marks afresh. There are no result words.
+#[allow(clippy::too_many_arguments)]
+pub fn remove(
+    offsets: &[u32],
+    targets: &[u32],
+    numbers: &[u32],
+    starts: &[u32],
+    new_offsets: &mut [u32],
+    new_targets: &mut [u32],
+    marks: &mut [u8],
+    work: &mut [u32],
+) -> u32 {
+    // SAFETY: as in `header`.
+    unsafe {
+        c::kullneyra_remove(
+            offsets.as_ptr(),
+            offsets.len(),
+            targets.as_ptr(),
+            targets.len(),
+            numbers.as_ptr(),
+            numbers.len(),
+            starts.as_ptr(),
+            starts.len(),
+            new_offsets.as_mut_ptr(),
+            new_offsets.len(),
+            new_targets.as_mut_ptr(),
+            new_targets.len(),
+            marks.as_mut_ptr(),
+            marks.len(),
             work.as_mut_ptr(),
             work.len(),
         )

@@ -11,6 +11,7 @@ mod report;
 mod saved;
 mod seed;
 mod sweep;
+mod updates;
 
 pub use cards::{deal, deck, schedule_length, CARD_WORKERS, DECK};
 pub use catalogue::{header, part, read, references, Contents, Header};
@@ -20,6 +21,7 @@ pub use report::report;
 pub use saved::{begin, resume, saved_words, unsound, Places, FORM};
 pub use seed::{deal_seed, draw, Seed};
 pub use sweep::{sweep, Swept};
+pub use updates::{add, remove, update_words, Renewed};
 
 pub const MOST_OBJECTS: usize = 65_536;
 pub const MOST_REFERENCES: usize = 1_048_576;
