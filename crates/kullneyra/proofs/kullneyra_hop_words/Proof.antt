@@ -1,9 +1,6 @@
--- By the result words' length, and then by the answer: its word is written (`sets-all`), or none (`kept`).
-use mathlib.Core.List.{[], _∷_}
+-- By the result words' length, and then as `give_length` says.
 use lib.ListN.{length}
 use borrow.Author.Tests.{eq-eqb, ne-eqb}
-use Rattle.laws.proofs.Stores.{sets-all}
-use Rattle.kullneyra.proofs.Results.{kept}
 use borrow.Author.Needs.{needs}
 use Rattle.kullneyra.proofs.kullneyra_hop_words.Statement.{statement}
 use Rattle.kullneyra.proofs.kullneyra_hop_words.Tie as tie
@@ -16,31 +13,13 @@ returns c =
 
 returns-2 : tie.Need-returns-2
 returns-2 c =
-    let at-words = c .before in
-    let at-length = at-words .before .before in
-    let at-if1 = at-length .before in
-    let start = at-if1 .before .before in
-    let r = start .args .result .now in
-    let l = at-if1 .if1 .left in
-    let f = eq-eqb (length r) 1 l in
-    let v = at-words .words .given in
-    let h = rw (v .1) at (at-length .work-words .ensures) in
-    (rw (f, ← h), rw (f, ← h) (sets-all (v .0 .0 ∷ []) r l))
-
-returns-3 : tie.Need-returns-3
-returns-3 c =
-    let at-refusal = c .before .before in
-    let at-length = at-refusal .before .before in
-    let at-if1 = at-length .before in
-    let start = at-if1 .before .before in
-    let r = start .args .result .now in
-    let f = eq-eqb (length r) 1 (at-if1 .if1 .left) in
-    let v = at-refusal .refusal .given in
-    let h = rw (v .1) at (at-length .work-words .ensures) in
-    (rw (f, ← h) (c .number-of .ensures), rw (f, ← h) (kept (v .0 .0) (0 ∷ []) r))
+    let given = c .before .before in
+    let found = given .before .before in
+    let at-if1 = found .before in
+    let f = eq-eqb (length (at-if1 .before .before .args .result .now)) 1 (at-if1 .if1 .left) in
+    let h = found .work-words .ensures in
+    (rw (f, ← h) (given .give-length .ensures .0), rw (f, ← h) (given .give-length .ensures .1))
 
 pub kullneyra-hop-words-spec : {M : Type 1} → statement M
 kullneyra-hop-words-spec =
-    tie.close
-    (tie.spec returns (λ c κs. search needs) (λ c. search needs) (λ c. search needs) (λ c. search needs)
-    (λ c κs. search needs) (λ c. search needs) (λ c. search needs) returns-2 returns-3)
+    tie.close (tie.spec returns (λ c κs. search needs) (λ c κs. search needs) (λ c. search needs) returns-2)
