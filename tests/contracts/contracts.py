@@ -30,6 +30,9 @@ CALLS = (
     "seed::deal",
     "hops::work_words",
     "hops::count",
+    "updates::work_words",
+    "updates::add::add",
+    "updates::remove::remove",
 )
 EXPORTS = Path("crates/kullneyra/src/lib.rt")
 HEADER = Path("runtime/include/kullneyra.h")
@@ -75,8 +78,9 @@ def faults(top: Path) -> Iterator[str]:
 
     promises = text(PROMISES)
     for call in CALLS:
-        crate, name = call.split("::")
-        wrong = fault(bare(text(f"crates/{crate}/src/lib.rt")), rf"\bpub\s+fn\s+{name}")
+        crate, *module, name = call.split("::")
+        file = "/".join(module) or "lib"
+        wrong = fault(bare(text(f"crates/{crate}/src/{file}.rt")), rf"\bpub\s+fn\s+{name}")
         if wrong:
             yield f"{call} {wrong}"
         if f"`{call}`" not in promises:

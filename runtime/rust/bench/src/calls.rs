@@ -4,6 +4,7 @@ use crate::graphs::Graph;
 use crate::measure::{medians, Medians};
 use kullneyra::{Schedule, Settings};
 use reference::{Call, Outcome};
+use std::cell::RefCell;
 use std::hint::black_box;
 
 /// Lent buffers, all written once before anything is measured.
@@ -151,6 +152,17 @@ fn schedule(graph: &Graph, settings: Settings, buffers: &mut Buffers) -> Vec<u8>
     }
     turns.truncate(2 * enough);
     turns
+}
+
+/// A whole collection by the proved marker, one worker.
+pub fn fresh(graph: &Graph) -> impl Fn() + '_ {
+    let settings = Settings { workers: 1, batch: 64, cutoff: 64 };
+    let mut buffers = Buffers::new(graph, 1);
+    let turns = schedule(graph, settings, &mut buffers);
+    let buffers = RefCell::new(buffers);
+    move || {
+        black_box(run_proved(graph, settings, &turns, &mut buffers.borrow_mut()));
+    }
 }
 
 /// All sides finish, with the same counts and tallies.

@@ -13,6 +13,7 @@ mod hops;
 mod measure;
 mod plot;
 mod table;
+mod updates;
 
 use graphs::Graph;
 use kullneyra::Settings;
@@ -78,7 +79,8 @@ fn main() -> io::Result<()> {
     let sweep = call_rows(&graphs, Graph::n, |graph| calls::sweep(graph, repetitions));
     let deal = hands::deal_rows(repetitions);
     let hops = hops::rows(&graphs, repetitions);
-    eprintln!("bench: read, swept, dealt and counted hops");
+    let [add, remove] = updates::rows(&graphs, repetitions);
+    eprintln!("bench: read, swept, dealt, counted hops and updated");
     let marks = mark_rows(&graphs, repetitions);
     let stops = stop_rows(&graphs, repetitions);
     let growth = growth_rows(repetitions);
@@ -92,6 +94,8 @@ fn main() -> io::Result<()> {
         table::calls("Sweep", "object", &sweep),
         table::calls("Schedule of a hand and of a seed", "turn", &deal),
         table::calls("Hops; Rust is a plain queue, tuned the same search on the same bag", "reference", &hops),
+        table::calls("100 references added; tuned is a whole collection by the proved marker", "reference", &add),
+        table::calls("100 references taken out; tuned is a whole collection by the proved marker", "reference", &remove),
         table::stops(&stops),
         table::growth(&growth),
         table::goals(&marks),
