@@ -47,7 +47,7 @@ extern "C" {
 #define KULLNEYRA_UNSOUND 14 /* saved words that hold no sound collection of this graph, these starts and settings */
 #define KULLNEYRA_CARDS 15   /* a card that is not in the deck, or more workers than KULLNEYRA_CARD_WORKERS */
 #define KULLNEYRA_NO_SEED 16 /* a seed whose first word is 0 */
-#define KULLNEYRA_MARKS 17   /* a marked object has a reference to an unmarked one */
+#define KULLNEYRA_NOT_CLOSED 17 /* a marked object has a reference to an unmarked one */
 
 /* Limits. Objects, starts, workers, batch and cutoff are 1 at least; references and sizes may be 0. */
 #define KULLNEYRA_MOST_OBJECTS 65536
@@ -246,7 +246,7 @@ uint32_t kullneyra_update_words(uint32_t objects, uint64_t *result, size_t resul
 /* Adds the references from[i] -> to[i] to a store. new_offsets has as many words as offsets, and new_targets as many as
  * targets and from together: an object's new references stand behind its old ones, in list order. An object that is newly
  * live gets the mark 255, and a mark that is set keeps its value. The marks must be closed under the old references
- * (KULLNEYRA_MARKS), as those of a finished collection are. Beside a fault all four are as they were. Beside the number
+ * (KULLNEYRA_NOT_CLOSED), as those of a finished collection are. Beside a fault all four are as they were. Beside the number
  * there is no answer. */
 uint32_t kullneyra_add(const uint32_t *offsets, size_t offsets_len, const uint32_t *targets, size_t targets_len,
                        const uint32_t *from, size_t from_len, const uint32_t *to, size_t to_len, uint32_t *new_offsets,

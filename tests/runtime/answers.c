@@ -262,33 +262,33 @@ int main(void) {
     expect("hops of what it leads to", 1, hops[1]);
 
     uint64_t update_words;
-    uint32_t new_offsets[3] = {7, 7, 7}, new_targets[2] = {7, 7}, list[2] = {7, 7};
+    uint32_t new_offsets[3] = {7, 7, 7}, new_targets[2] = {7, 7}, todo[2] = {7, 7};
     uint8_t live[2] = {1, 0};
     const uint32_t zero = 0, two = 2;
     expect("update words, no objects", KULLNEYRA_COUNT, kullneyra_update_words_into(0, &update_words));
     expect("update words beside a fault", 0, (uint32_t)update_words);
     expect("update words", KULLNEYRA_OK, kullneyra_update_words_into(2, &update_words));
     expect("update words of two objects", 2, (uint32_t)update_words);
-    expect("add, marks not closed", KULLNEYRA_MARKS,
-           kullneyra_add(from_0, 3, &to_1, 1, &zero, 1, &to_1, 1, new_offsets, 3, new_targets, 2, live, 2, list, 2));
+    expect("add, marks not closed", KULLNEYRA_NOT_CLOSED,
+           kullneyra_add(from_0, 3, &to_1, 1, &zero, 1, &to_1, 1, new_offsets, 3, new_targets, 2, live, 2, todo, 2));
     expect("add, no such object", KULLNEYRA_OBJECT,
-           kullneyra_add(from_0, 3, &to_1, 1, &zero, 1, &two, 1, new_offsets, 3, new_targets, 2, live, 2, list, 2));
+           kullneyra_add(from_0, 3, &to_1, 1, &zero, 1, &two, 1, new_offsets, 3, new_targets, 2, live, 2, todo, 2));
     expect("add, unchanged", 7, new_offsets[0]);
     expect("add, marks unchanged", 0, live[1]);
-    const uint32_t none[3] = {0, 0, 0};
+    const uint32_t bare[3] = {0, 0, 0};
     expect("add", KULLNEYRA_OK,
-           kullneyra_add(none, 3, NULL, 0, &zero, 1, &to_1, 1, new_offsets, 3, new_targets, 1, live, 2, list, 2));
+           kullneyra_add(bare, 3, NULL, 0, &zero, 1, &to_1, 1, new_offsets, 3, new_targets, 1, live, 2, todo, 2));
     expect("add, where the references of 0 end", 1, new_offsets[1]);
     expect("add, where it leads", 1, new_targets[0]);
     expect("add, the mark that was set", 1, live[0]);
     expect("add, newly live", 255, live[1]);
     const uint32_t twice[2] = {0, 0};
     expect("remove, no such reference", KULLNEYRA_OBJECT,
-           kullneyra_remove(from_0, 3, &to_1, 1, &to_1, 1, &zero, 1, new_offsets, 3, new_targets, 2, live, 2, list, 2));
+           kullneyra_remove(from_0, 3, &to_1, 1, &to_1, 1, &zero, 1, new_offsets, 3, new_targets, 2, live, 2, todo, 2));
     expect("remove, one target long", KULLNEYRA_BUFFER,
-           kullneyra_remove(from_0, 3, &to_1, 1, twice, 2, &zero, 1, new_offsets, 3, new_targets, 1, live, 2, list, 2));
+           kullneyra_remove(from_0, 3, &to_1, 1, twice, 2, &zero, 1, new_offsets, 3, new_targets, 1, live, 2, todo, 2));
     expect("remove", KULLNEYRA_OK,
-           kullneyra_remove(from_0, 3, &to_1, 1, twice, 2, &zero, 1, new_offsets, 3, NULL, 0, live, 2, list, 2));
+           kullneyra_remove(from_0, 3, &to_1, 1, twice, 2, &zero, 1, new_offsets, 3, NULL, 0, live, 2, todo, 2));
     expect("remove, nothing left", 0, new_offsets[2]);
     expect("remove, the start", 1, live[0]);
     expect("remove, no longer live", 0, live[1]);

@@ -95,7 +95,11 @@ fn main() -> io::Result<()> {
         table::calls("Schedule of a hand and of a seed", "turn", &deal),
         table::calls("Hops; Rust is a plain queue, tuned the same search on the same bag", "reference", &hops),
         table::calls("100 references added; tuned is a whole collection by the proved marker", "reference", &add),
-        table::calls("100 references taken out; tuned is a whole collection by the proved marker", "reference", &remove),
+        table::calls(
+            "100 references taken out; tuned is a whole collection by the proved marker",
+            "reference",
+            &remove,
+        ),
         table::stops(&stops),
         table::growth(&growth),
         table::goals(&marks),

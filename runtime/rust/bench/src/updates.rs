@@ -56,7 +56,8 @@ fn add(graph: &Graph, repetitions: usize) -> Times {
     let proved = |lent: &mut Lent| {
         lent.marks.copy_from_slice(&marks);
         let Lent { offsets: new_offsets, targets: new_targets, marks, work } = lent;
-        black_box(kullneyra::add(offsets, targets, &from, &to, new_offsets, new_targets, marks, work)).expect("a graph");
+        black_box(kullneyra::add(offsets, targets, &from, &to, new_offsets, new_targets, marks, work))
+            .expect("a graph");
     };
     let plain = |lent: &mut Lent| {
         lent.marks.copy_from_slice(&marks);

@@ -139,7 +139,16 @@ impl Side for Proved {
     }
 
     fn remove(&self, update: &Update, numbers: &[u32], starts: &[u32], lent: &mut Renewal<'_>) -> u32 {
-        raw::remove(&update.offsets, &update.targets, numbers, starts, lent.offsets, lent.targets, lent.marks, lent.work)
+        raw::remove(
+            &update.offsets,
+            &update.targets,
+            numbers,
+            starts,
+            lent.offsets,
+            lent.targets,
+            lent.marks,
+            lent.work,
+        )
     }
 }
 
@@ -783,12 +792,8 @@ fn after_update(case: &Case, update: &Update, call: impl FnOnce(&mut Renewal<'_>
     let (mut offsets, mut targets) = (words(update.new_offsets, case.fill(1)), words(update.new_targets, case.fill(2)));
     let mut marks = Lent::holding(&update.marks, case.fill(3), 0xff);
     let mut work = words(update.work, case.fill(4));
-    let number = call(&mut Renewal {
-        offsets: offsets.part(),
-        targets: targets.part(),
-        marks: marks.part(),
-        work: work.part(),
-    });
+    let number =
+        call(&mut Renewal { offsets: offsets.part(), targets: targets.part(), marks: marks.part(), work: work.part() });
     // Nothing is said of the work words of an accepted call, but that no other word is touched.
     if number == 0 {
         work.part().fill(0);

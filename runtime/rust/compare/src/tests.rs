@@ -1,7 +1,7 @@
 //! The comparison finds what it should: sides with one fault each, made from the reference.
 
-use crate::case::{Call, Mark, Update};
-use crate::judge::{demands, same};
+use crate::case::{Call, Case, Mark, Update};
+use crate::judge::{demands, judge, same};
 use crate::large::LARGE;
 use crate::sides::{after, Buffers, Reference, Renewal, Side};
 use crate::{case_of, SEED};
@@ -275,6 +275,26 @@ fn a_case_depends_on_its_seed_and_number_alone() {
     assert_eq!(case_of(7, 1_234), case_of(7, 1_234));
     assert_ne!(case_of(7, 1_234), case_of(8, 1_234));
     assert_ne!(case_of(7, 1_234), case_of(7, 1_235));
+}
+
+/// As many references as a store may have, and one more.
+#[test]
+fn the_enlarged_store_at_its_limit() {
+    for (count, wanted) in [(reference::MOST_REFERENCES, 0), (reference::MOST_REFERENCES + 1, 4)] {
+        let update = Update {
+            offsets: vec![0, 0],
+            targets: Vec::new(),
+            marks: vec![1],
+            new_offsets: 2,
+            new_targets: count,
+            work: 1,
+        };
+        let (from, to) = (vec![0; count], vec![0; count]);
+        let case = Case { result: 0, fill: 5, call: Call::Add { update, from, to } };
+        let plain = after(&case, &Reference);
+        assert_eq!(plain.number, wanted);
+        assert_eq!(judge(&case), Ok(plain));
+    }
 }
 
 /// A million draws of the library and of the reference.

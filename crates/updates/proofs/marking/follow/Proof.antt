@@ -26,7 +26,7 @@ touch-all-requires : tie.Need-touch-all-requires Inv-loop μ-loop
 touch-all-requires c κs =
     let r = c .before .before in
     let t = r .before .before in
-    let f = last-of (t .before .loop .inv) (t .loop-test .taken) in
+    let f = last-of (t .before .loop .inv) (omega (arith, t .loop-test .taken)) in
     (follow-room f, rw (r .references-of .ensures) (follow-below f), omega arith)
 
 loop-less : tie.Need-loop-less Inv-loop μ-loop
@@ -40,7 +40,7 @@ loop-again c =
     let a = c .before .before .before .before in
     let r = a .before .before .before in
     let t = r .before .before in
-    following-next (t .before .loop .inv) (t .loop-test .taken) (rw (r .references-of .ensures) at (a .touch-all .ensures))
+    following-next (t .before .loop .inv) (omega (arith, t .loop-test .taken)) (rw (r .references-of .ensures) at (a .touch-all .ensures))
 
 returns : tie.Need-returns Inv-loop μ-loop
 returns c = following-end (c .before .loop .inv) (omega (arith, c .loop-test .left))
