@@ -44,6 +44,12 @@ EXPORT = re.compile(r'\bextern\s+"C"\s+fn\s+(\w+)')
 PROTOTYPE = re.compile(r"^uint32_t (kullneyra_\w+)\(", re.MULTILINE)
 
 
+def source_of(call: str) -> tuple[Path, str]:
+    """The file of a call and the name of its function; a call may stand in a module of its crate."""
+    crate, *module, name = call.split("::")
+    return Path(f"crates/{crate}/src/{'/'.join(module) or 'lib'}.rt"), name
+
+
 def bare(source: str) -> str:
     """The source with comments and literals blanked, but for the "C" of an exported function."""
     return SKIPPED.sub(lambda found: found[0] if found[0] == '"C"' else " " * len(found[0]), source)
@@ -78,9 +84,8 @@ def faults(top: Path) -> Iterator[str]:
 
     promises = text(PROMISES)
     for call in CALLS:
-        crate, *module, name = call.split("::")
-        file = "/".join(module) or "lib"
-        wrong = fault(bare(text(f"crates/{crate}/src/{file}.rt")), rf"\bpub\s+fn\s+{name}")
+        path, name = source_of(call)
+        wrong = fault(bare(text(path)), rf"\bpub\s+fn\s+{name}")
         if wrong:
             yield f"{call} {wrong}"
         if f"`{call}`" not in promises:

@@ -6,7 +6,7 @@ import unittest
 from pathlib import Path
 
 import contracts
-from contracts import CALLS, EXPORTS, HEADER, PROMISES, TOP
+from contracts import CALLS, EXPORTS, HEADER, PROMISES, TOP, source_of
 
 ASKING = "\n    requires { ⌜ record { n = 1 } ≡ record { n = 1 } ⌝ }"
 FUNCTIONS = tuple(
@@ -26,6 +26,9 @@ FUNCTIONS = tuple(
         "deal_seed",
         "hop_words",
         "hops",
+        "update_words",
+        "add",
+        "remove",
     )
 )
 
@@ -35,11 +38,11 @@ class Contracts(unittest.TestCase):
 
     def setUp(self):
         self.top = Path(tempfile.mkdtemp())
-        sources = [Path(f"crates/{call.split('::')[0]}/src/lib.rt") for call in CALLS]
+        sources = [source_of(call)[0] for call in CALLS]
         for path in {*sources, EXPORTS, HEADER, PROMISES}:
             (self.top / path).parent.mkdir(parents=True, exist_ok=True)
             shutil.copy(TOP / path, self.top / path)
-        self.calls = {call: (path, f"pub fn {call.split('::')[1]}") for call, path in zip(CALLS, sources)}
+        self.calls = {call: (path, f"pub fn {source_of(call)[1]}") for call, path in zip(CALLS, sources)}
         self.calls |= {name: (EXPORTS, f'pub extern "C" fn {name}') for name in FUNCTIONS}
 
     def tearDown(self):
