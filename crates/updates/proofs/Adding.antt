@@ -1,28 +1,25 @@
 -- The enlarged store: its references are the old ones and the pairs. What the pairs seed is all that is left to follow.
-use mathlib.Core.Path.{_≡_, refl, sym, ap, subst, _∙_}
-use mathlib.Core.Bool.{true}
-use mathlib.Core.List.{List, [], _∷_, _++_, map}
+use mathlib.Core.Path.{_≡_, refl, sym, ap, _∙_}
+use mathlib.Core.List.{List, _++_}
 use mathlib.Core.Logic.{by-cases, ⊎-elim}
 use Prim.Native.Nat.{ℕ, zero, suc, _+_, _*_, _≤_, _<_}
 use native.Mathlib.Decide.{decLt}
 use native.Mathlib.Omega.{arith}
-use lib.ListN.{length, getD, take}
+use lib.ListN.{length, getD}
 use Rattle.laws.specs.Every.{Every}
 use Rattle.laws.specs.Sum.{sum, hit}
-use Rattle.laws.specs.Grouping.{grouped, starts}
-use Rattle.laws.proofs.Every.{every-append, every-at}
+use Rattle.laws.proofs.Every.{every-append}
 use Rattle.laws.proofs.Sum.{hit-same, hit-equal, either-positive, sum-append, sum-at, sum-positive, sum-below, sum-one}
-use Rattle.graph.specs.Graph.{Graph, graph, Leaves, objects, referencesOf, target, allBelow}
+use Rattle.graph.specs.Graph.{Graph, Leaves, objects, referencesOf, target}
 use Rattle.graph.specs.Formed.{Formed}
 use Rattle.graph.specs.Chain.{closure, Closed}
 use Rattle.graph.specs.Leaving.{unset?}
-use Rattle.graph.proofs.Formed.{below-all}
 use Rattle.graph.proofs.Grouped.{among, grouped-objects, grouped-formed, grouped-view}
 use Rattle.graph.proofs.Reached.{closure-holds, closure-closed}
 use Rattle.graph.proofs.View.{view-has, view-only}
 use Rattle.machine.specs.Sound.{Marked}
-use Rattle.updates.specs.Pairs.{Pair, pair, fromOf, toOf, pairsOf, paired, leading}
-use Rattle.updates.specs.Stores.{storeOf, added, completed}
+use Rattle.updates.specs.Pairs.{Pair, fromOf, toOf, pairsOf, paired, leading}
+use Rattle.updates.specs.Stores.{storeOf, added}
 use Rattle.updates.specs.Marking.{listed, unmarked, Roomy, Between, Followable, Seeded}
 use Rattle.updates.specs.Filling.{Addable}
 use Rattle.updates.proofs.Touching.{unset-some, unset-none, unset-zero, marked-below}

@@ -2,22 +2,20 @@
 use mathlib.Core.Path.{_≡_, refl, sym, ap, subst, _∙_}
 use mathlib.Core.List.{List}
 use mathlib.Core.Logic.{by-cases}
-use Prim.Native.Nat.{ℕ, zero, suc, _+_, _≤_, _<_}
+use Prim.Native.Nat.{ℕ, zero, suc, _+_, _<_}
 use native.Mathlib.Nat.{zero-add}
 use native.Mathlib.Decide.{decLt}
 use native.Mathlib.Omega.{arith}
-use lib.ListN.{length, getD, take, replicate, length-replicate, getD-replicate, List·getD-eq-default}
+use lib.ListN.{length, getD, replicate, length-replicate, getD-replicate, List·getD-eq-default}
 use lib.Seq.{ext-getD}
 use Rattle.laws.specs.Sum.{sum, hit}
-use Rattle.laws.specs.Span.{listing}
 use Rattle.laws.proofs.Span.{listing-length, listing-at}
-use Rattle.graph.specs.Graph.{Graph, Leaves, objects, target}
+use Rattle.graph.specs.Graph.{Graph, objects}
 use Rattle.graph.specs.Formed.{Formed}
 use Rattle.graph.specs.Chain.{set?}
-use Rattle.graph.specs.Leaving.{unset?}
 use Rattle.machine.specs.Sound.{Marked}
-use Rattle.updates.specs.Stores.{startMarks, completed, marksAfresh}
-use Rattle.updates.specs.Marking.{listed, unmarked, Roomy, Touched, Between, Followable}
+use Rattle.updates.specs.Stores.{startMarks}
+use Rattle.updates.specs.Marking.{listed, Roomy, Touched, Between, Followable}
 use Rattle.updates.proofs.Touching.{unset-some, unset-none, unset-zero, unmarked-at}
 use Rattle.updates.proofs.Following.{between-none}
 use Rattle.updates.proofs.Adding.{unmarked-limit}

@@ -2,10 +2,10 @@
 use mathlib.Core.Path.{_≡_, refl, sym, ap, _∙_}
 use mathlib.Core.Bool.{Bool, true, false, not, _||_}
 use mathlib.Core.List.{List}
-use Prim.Native.Nat.{ℕ, zero, suc, _+_, _-_, _≤_, _<_}
+use Prim.Native.Nat.{ℕ, _+_, _-_, _≤_, _<_}
 use native.Mathlib.Omega.{arith}
 use lib.Dec.{ltb, eqb}
-use lib.ListN.{length, getD}
+use lib.ListN.{length}
 use borrow.Author.Tests.{eqb-true, not-false, ltb-false, lt-ltb, le-ltb}
 use Rattle.laws.specs.Span.{span}
 use Rattle.laws.specs.Test.{allUpTo}
@@ -13,11 +13,11 @@ use Rattle.refusal.specs.declared.Refusal.{Refusal}
 use Rattle.refusal.specs.declared.Refusal.the-variants.{Count, Buffer, Graph as NoGraph, Starts, Object, Marks}
 use Rattle.refusal.specs.declared.Verdict.{Verdict}
 use Rattle.refusal.specs.declared.Verdict.the-variants.{Fine, Faulty}
-use Rattle.refusal.specs.Number.{number, numberOf}
+use Rattle.refusal.specs.Number.{number}
 use Rattle.refusal.specs.Order.{raise}
 use Rattle.refusal.proofs.None.{raise-none, first-none, or-none}
 use Rattle.refusal.proofs.Numbers.{numbered, when-fine, when-faulty}
-use Rattle.graph.specs.Graph.{Graph, graph, objects, references, allBelow, wellFormed}
+use Rattle.graph.specs.Graph.{Graph, graph, objects, allBelow, wellFormed}
 use Rattle.graph.specs.Chain.{Closed}
 use Rattle.graph.specs.Formed.{Formed}
 use Rattle.graph.specs.Limits.{most-objects, most-references, most-starts}

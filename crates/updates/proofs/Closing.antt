@@ -1,19 +1,17 @@
 -- Check 17: the scan of the marked objects' references, and what it says when it finds nothing.
 use mathlib.Core.Path.{_≡_, refl, sym, subst, _∙_}
-use mathlib.Core.Bool.{Bool, true, false, not}
+use mathlib.Core.Bool.{true, false, not}
 use mathlib.Core.List.{List}
 use mathlib.Core.Logic.{⊎-elim}
-use Prim.Native.Nat.{ℕ, suc, _+_, _≤_, _<_}
+use Prim.Native.Nat.{ℕ, _+_, _≤_, _<_}
 use native.Mathlib.Numerals.{add-one}
 use native.Mathlib.Omega.{arith}
 use lib.Dec.{eqb}
 use lib.ListN.{length, getD, drop}
 use borrow.Author.Tests.{eq-eqb, ne-eqb, eqb-false, not-true}
-use Rattle.laws.specs.Choice.{either}
-use Rattle.laws.specs.Sum.{sum, hit}
 use Rattle.laws.specs.Test.{all, allUpTo}
 use Rattle.laws.proofs.Decides.{never}
-use Rattle.laws.proofs.Test.{both-is, either-true, either-left, either-right, tested, all-step, all-stop, all-end, all-hit, up-to-each}
+use Rattle.laws.proofs.Test.{both-is, either-true, either-right, tested, all-step, all-stop, all-end, all-hit, up-to-each}
 use Rattle.graph.specs.Graph.{Graph, objects, referencesOf, target, allBelow, wellFormed}
 use Rattle.graph.specs.Formed.{Formed}
 use Rattle.graph.specs.Chain.{Closed}

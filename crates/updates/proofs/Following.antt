@@ -4,27 +4,25 @@ use mathlib.Core.Path.{_≡_, refl, sym, ap, subst, _∙_}
 use mathlib.Core.Bool.{true}
 use mathlib.Core.List.{List, [], _∷_}
 use mathlib.Core.Logic.{by-cases}
-use Prim.Native.Nat.{ℕ, zero, suc, _+_, _-_, _≤_, _<_}
+use Prim.Native.Nat.{ℕ, zero, suc, _-_, _<_}
 use native.Mathlib.Nat.{zero-add}
 use native.Mathlib.Decide.{ℕ-discrete, decLt}
 use native.Mathlib.Omega.{arith}
 use borrow.Author.Tests.{lt-ltb}
-use lib.ListN.{length, getD, set, take}
+use lib.ListN.{length, getD, set}
 use lib.Seq.{ext-getD}
 use Rattle.laws.specs.Sum.{sum, hit}
-use Rattle.laws.specs.Span.{listing}
 use Rattle.laws.proofs.Sum.{hit-same, hit-other}
 use Rattle.laws.proofs.Span.{listing-length, listing-at}
 use Rattle.graph.specs.Graph.{Graph, Leaves, objects, references, referencesOf, target, allBelow}
 use Rattle.graph.specs.Formed.{Formed}
 use Rattle.graph.specs.Chain.{closure, Closed}
-use Rattle.graph.specs.Leaving.{unset?}
 use Rattle.graph.proofs.OverMarked.{after-limit}
 use Rattle.graph.proofs.View.{view-has, view-only}
 use Rattle.graph.proofs.Reached.{closure-holds, closure-least, closure-closed}
 use Rattle.machine.specs.Sound.{Marked}
 use Rattle.updates.specs.Stores.{markBy, completed, new-mark}
-use Rattle.updates.specs.Marking.{listed, unmarked, Roomy, Touched, Between, Followable, Seeded}
+use Rattle.updates.specs.Marking.{listed, unmarked, Roomy, Touched, Between, Followable}
 use Rattle.updates.proofs.Touching.{unset-zero, unset-some, unset-none, marked-below, unmarked-at, list-less, stays-marked, roomy-next}
 
 -- ---- numbers below a bound

@@ -21,7 +21,6 @@ use Rattle.graph.specs.Limits.{most-references}
 use Rattle.graph.proofs.Formed.{below-all}
 use Rattle.slices.specs.Bits.{bit, Inserts, word-bits}
 use Rattle.slices.proofs.BitWords.{bit-low, bit-none}
-use Rattle.updates.specs.Stores.{distinct}
 use Rattle.updates.specs.Taking.{Gathered}
 
 set-some : (x : ℕ) → 0 < x → set? x ≡ 1

@@ -1,16 +1,15 @@
 -- What remains once numbers are taken out: counted, written, and a graph again.
 use mathlib.Core.Path.{_≡_, refl, sym, ap, _∙_}
-use mathlib.Core.Bool.{Bool, true, false, not}
+use mathlib.Core.Bool.{true, false}
 use mathlib.Core.List.{List, [], _∷_, _++_, map, append-nil}
-use mathlib.Core.Logic.{by-cases}
 use Prim.Native.Nat.{ℕ, zero, suc, _+_, _*_, _-_, _≤_, _<_}
 use native.Mathlib.Nat.{add-zero, zero-add}
 use native.Mathlib.Numerals.{add-one}
 use native.Mathlib.Omega.{arith}
 use borrow.Author.Tests.{eqb-true, eqb-false}
 use lib.Dec.{eqb}
-use lib.ListN.{length, getD, set, take, length-map, length-set, length-append, List·getD-map}
-use lib.Seq.{take-suc, take-suc-set, take-all, take-length, length-take-le}
+use lib.ListN.{length, getD, set, take, length-map, length-set, List·getD-map}
+use lib.Seq.{take-suc, take-suc-set, take-length, length-take-le}
 use Rattle.laws.specs.Every.{Every}
 use Rattle.laws.specs.Sum.{sum, hit}
 use Rattle.laws.specs.Span.{span}
@@ -22,8 +21,7 @@ use Rattle.graph.specs.Chain.{set?}
 use Rattle.graph.specs.Graph.{Graph, graph, objects, references, first, after}
 use Rattle.graph.specs.Formed.{Formed}
 use Rattle.graph.specs.Leaving.{unset?}
-use Rattle.graph.specs.Limits.{most-references}
-use Rattle.graph.proofs.OverMarked.{after-limit, offsets-rise}
+use Rattle.graph.proofs.OverMarked.{offsets-rise}
 use Rattle.slices.specs.Bits.{bit, word-bits}
 use Rattle.slices.proofs.BitWords.{bit-low}
 use Rattle.updates.specs.Stores.{keepIf, chosen, stays, staying, distinct, removed}

@@ -1,10 +1,9 @@
 -- The references of a graph as pairs: how many there are, where each stands, and sums over those of one object.
 use mathlib.Core.Path.{_≡_, refl, sym, ap, _∙_}
 use mathlib.Core.List.{List, [], _∷_, _++_, map}
-use mathlib.Core.Logic.{by-cases, ⊎-elim}
+use mathlib.Core.Logic.{by-cases}
 use Prim.Native.Nat.{ℕ, zero, suc, _+_, _*_, _-_, _≤_, _<_}
-use native.Mathlib.Nat.{zero-add}
-use native.Mathlib.Decide.{ℕ-discrete, decLt}
+use native.Mathlib.Decide.{ℕ-discrete}
 use native.Mathlib.Omega.{arith}
 use lib.ListN.{length, getD, length-append, length-map, List·getD-append, List·getD-map}
 use lib.Seq.{getD-append-add}
@@ -12,13 +11,13 @@ use Rattle.laws.specs.Every.{Every}
 use Rattle.laws.specs.Sum.{sum, hit}
 use Rattle.laws.specs.Grouping.{count, under}
 use Rattle.laws.proofs.Every.{at-every, every-append}
-use Rattle.laws.proofs.Sum.{hit-same, hit-equal, hit-other, hit-swap, sum-append, sum-agree, sum-one, default}
+use Rattle.laws.proofs.Sum.{hit-other, hit-swap, sum-append, sum-agree, sum-one, default}
 use Rattle.laws.proofs.Grouping.{under-suc, under-one}
 use Rattle.graph.specs.Graph.{Graph, Leaves, objects, references, first, after, degree, target, referencesOf}
 use Rattle.graph.specs.Formed.{Formed}
-use Rattle.graph.proofs.OverMarked.{after-limit, offsets-rise}
-use Rattle.graph.proofs.View.{view-long, view-at, view-only}
-use Rattle.updates.specs.Pairs.{Pair, pair, fromOf, toOf, pairsBelow, pairsOf, paired}
+use Rattle.graph.proofs.OverMarked.{offsets-rise}
+use Rattle.graph.proofs.View.{view-long, view-at}
+use Rattle.updates.specs.Pairs.{Pair, pair, fromOf, pairsBelow, pairsOf, paired}
 use Rattle.updates.proofs.Following.{leads-inside}
 
 abbrev pub none : Pair

@@ -2,9 +2,9 @@
 -- What carries the argument: two smallest sets of the same pairs are one, and a smallest set of some pairs and then of others is that of all.
 use mathlib.Core.Path.{_≡_, refl, sym, ap, subst, _∙_}
 use mathlib.Core.Bool.{true}
-use mathlib.Core.List.{List, [], _∷_, _++_}
+use mathlib.Core.List.{List, [], _∷_}
 use mathlib.Core.Logic.{_↔_, by-cases, ⊎-elim}
-use Prim.Native.Nat.{ℕ, zero, suc, _+_, _*_, _≤_, _<_}
+use Prim.Native.Nat.{ℕ, zero, suc, _+_, _*_, _<_}
 use native.Mathlib.Nat.{zero-add}
 use native.Mathlib.Decide.{decLt}
 use native.Mathlib.Omega.{arith}
@@ -12,24 +12,22 @@ use lib.ListN.{length, getD, List·getD-eq-default}
 use lib.Seq.{ext-getD}
 use Rattle.laws.specs.Every.{Every}
 use Rattle.laws.specs.Sum.{sum, hit}
-use Rattle.laws.specs.Span.{listing}
 use Rattle.laws.proofs.Every.{every-at, at-every}
 use Rattle.laws.proofs.Sum.{either-positive, sum-positive, hit-equal}
 use Rattle.laws.proofs.Span.{listing-length, listing-at}
-use Rattle.graph.specs.Graph.{Graph, graph, Leaves, objects, target, allBelow}
+use Rattle.graph.specs.Graph.{Graph, objects, target, allBelow}
 use Rattle.graph.specs.Formed.{Formed}
 use Rattle.graph.specs.Chain.{Reach, here, on, set?, closure, Closed}
 use Rattle.graph.proofs.Formed.{below-all}
 use Rattle.graph.proofs.Reached.{closure-length, closure-holds, closure-least, closure-closed}
 use Rattle.graph.proofs.View.{view-has, view-only}
-use Rattle.machine.specs.Demand2.{FinishedMarks}
 use Rattle.machine.specs.Sound.{Marked}
 use Rattle.machine.proofs.Demand2.{marked-is}
-use Rattle.updates.specs.Pairs.{Pair, pair, paired, leading}
-use Rattle.updates.specs.Stores.{markBy, added, completed, new-mark, startMarks, marksAfresh, removed}
+use Rattle.updates.specs.Pairs.{Pair, pair, leading}
+use Rattle.updates.specs.Stores.{markBy, added, completed, new-mark, startMarks, marksAfresh}
 use Rattle.updates.specs.Promise.{ClosedUnder, Smallest, singly, Alike, AddPromise, RemovePromise}
 use Rattle.updates.proofs.Touching.{marked-below, unmarked-at}
-use Rattle.updates.proofs.Pairing.{none, Inside, paired-inside}
+use Rattle.updates.proofs.Pairing.{none, Inside}
 use Rattle.updates.proofs.Adding.{refers, leading-one, one-leading, closed-by, by-closed, added-objects, added-formed, added-refers}
 
 -- ---- completed marks

@@ -1,13 +1,13 @@
 -- The pairs looked at, one after the other.
-use mathlib.Core.Path.{_≡_, refl, ap, _∙_}
+use mathlib.Core.Path.{_≡_, refl, _∙_}
 use mathlib.Core.Bool.{true}
 use mathlib.Core.List.{List, [], _∷_}
 use mathlib.Core.Logic.{by-cases}
-use Prim.Native.Nat.{ℕ, zero, suc, _+_, _≤_, _<_}
+use Prim.Native.Nat.{ℕ, _+_, _≤_, _<_}
 use native.Mathlib.Decide.{ℕ-discrete, decLt}
 use native.Mathlib.Omega.{arith}
-use lib.ListN.{length, getD, take}
-use Rattle.laws.specs.Sum.{sum, hit}
+use lib.ListN.{length, getD}
+use Rattle.laws.specs.Sum.{sum}
 use Rattle.laws.proofs.Sum.{hit-equal, hit-same}
 use Rattle.graph.specs.Graph.{allBelow}
 use Rattle.graph.specs.Leaving.{unset?}

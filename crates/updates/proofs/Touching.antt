@@ -1,10 +1,10 @@
 -- Objects that are looked at, one after the other. What carries the argument: an object leaves those without a mark exactly when it
 -- enters the list, so the two together stay as they are, and steps in a row are one step.
-use mathlib.Core.Path.{_≡_, refl, sym, ap, _∙_}
+use mathlib.Core.Path.{_≡_, refl, ap, _∙_}
 use mathlib.Core.Bool.{true}
 use mathlib.Core.List.{List, [], _∷_, _++_}
 use mathlib.Core.Logic.{by-cases, ⊎-elim}
-use Prim.Native.Nat.{ℕ, zero, suc, _+_, _*_, _-_, _≤_, _<_}
+use Prim.Native.Nat.{ℕ, zero, suc, _+_, _-_, _≤_, _<_}
 use native.Mathlib.Numerals.{add-one}
 use native.Mathlib.Decide.{ℕ-discrete, decLt}
 use native.Mathlib.Omega.{arith}
@@ -16,7 +16,7 @@ use Rattle.graph.specs.Graph.{allBelow}
 use Rattle.graph.specs.Leaving.{unset?}
 use Rattle.graph.proofs.Formed.{below-all}
 use Rattle.machine.specs.Sound.{Marked}
-use Rattle.updates.specs.Marking.{listed, unmarked, Roomy, Touched}
+use Rattle.updates.specs.Marking.{listed, Roomy, Touched}
 
 -- ---- marks
 

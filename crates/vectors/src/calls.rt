@@ -432,31 +432,38 @@ fn update(cells: &[u64], places: &[usize; 512], adds: bool) {
     let p = copy_words(cells, places, 5, &mut leads);
     let m = copy_bytes(cells, places, 6, &mut marks);
     let w = copy_words(cells, places, 7, &mut work);
-    show::hop_words(updates::work_words(least(m, 64) as u32));
+    update_into(
+        adds,
+        &offsets[..o],
+        &targets[..t],
+        &one[..f],
+        &other[..g],
+        &mut bounds[..b],
+        &mut leads[..p],
+        &mut marks[..m],
+        &mut work[..w],
+    );
+}
+
+fn update_into(
+    adds: bool,
+    offsets: &[u32],
+    targets: &[u32],
+    one: &[u32],
+    other: &[u32],
+    bounds: &mut [u32],
+    leads: &mut [u32],
+    marks: &mut [u8],
+    work: &mut [u32],
+) {
+    let objects = least(marks.len(), 64);
+    show::hop_words(updates::work_words(objects as u32));
     io::write_all(1, b" |");
     if adds {
-        add_into(
-            &offsets[..o],
-            &targets[..t],
-            &one[..f],
-            &other[..g],
-            &mut bounds[..b],
-            &mut leads[..p],
-            &mut marks[..m],
-            &mut work[..w],
-        );
-    } else {
-        take_into(
-            &offsets[..o],
-            &targets[..t],
-            &one[..f],
-            &other[..g],
-            &mut bounds[..b],
-            &mut leads[..p],
-            &mut marks[..m],
-            &mut work[..w],
-        );
+        add_into(offsets, targets, one, other, bounds, leads, marks, work);
+        return;
     }
+    take_into(offsets, targets, one, other, bounds, leads, marks, work);
 }
 
 fn add_into(

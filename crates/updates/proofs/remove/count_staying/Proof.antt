@@ -1,9 +1,7 @@
 -- `updates::remove::count_staying` meets its contract: before turn e those below e are counted.
 use Prim.Native.Nat.{_-_}
-use mathlib.Core.Path.{_∙_, sym}
 use mathlib.Core.Logic.{⊎-elim}
 use native.Mathlib.Omega.{arith}
-use borrow.Author.Needs.{needs}
 use borrow.Author.Tests.{not-true, not-false}
 use Rattle.marker.proofs.Checks.{so}
 use Rattle.updates.proofs.Keeping.{StayingTo, covered, staying-none, staying-low, staying-more, staying-over, staying-end}

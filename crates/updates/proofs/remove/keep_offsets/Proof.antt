@@ -2,7 +2,7 @@
 use Prim.Native.Nat.{_-_}
 use mathlib.Core.Path.{_∙_, sym}
 use native.Mathlib.Omega.{arith}
-use lib.ListN.{length, length-map}
+use lib.ListN.{length}
 use borrow.Author.Needs.{needs}
 use Rattle.updates.proofs.Keeping.{OffsetsTo, counts-long, offsets-none, part-order, part-covers, total-fits, offsets-next, offsets-end}
 use Rattle.updates.proofs.remove.keep_offsets.Statement.{statement}

@@ -1,5 +1,5 @@
 -- `updates::remove::mark_afresh` meets its contract: from zeros to the starts' marks, to what they reach.
-use mathlib.Core.Path.{_≡_, refl, _∙_}
+use mathlib.Core.Path.{_≡_, _∙_}
 use native.Mathlib.Omega.{arith}
 use lib.ListN.{length, replicate}
 use borrow.Author.Needs.{needs}
