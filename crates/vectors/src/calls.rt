@@ -414,30 +414,50 @@ fn nearest_into(
     }
 }
 
-// The lists of a line that adds references or takes them out.
+// The lists of a line that adds references or takes them out: those that are read, then those that are written.
 fn update(cells: &[u64], places: &[usize; 512], adds: bool) {
     let mut offsets = [0u32; 64];
     let mut targets = [0u32; 64];
     let mut one = [0u32; 512];
     let mut other = [0u32; 512];
-    let mut bounds = [0u32; 64];
-    let mut leads = [0u32; 64];
-    let mut marks = [0u8; 64];
-    let mut work = [0u32; 128];
     let o = copy_words(cells, places, 0, &mut offsets);
     let t = copy_words(cells, places, 1, &mut targets);
     let f = copy_words(cells, places, 2, &mut one);
     let g = copy_words(cells, places, 3, &mut other);
+    update_lent(
+        cells,
+        places,
+        adds,
+        &offsets[..o],
+        &targets[..t],
+        &one[..f],
+        &other[..g],
+    );
+}
+
+fn update_lent(
+    cells: &[u64],
+    places: &[usize; 512],
+    adds: bool,
+    offsets: &[u32],
+    targets: &[u32],
+    one: &[u32],
+    other: &[u32],
+) {
+    let mut bounds = [0u32; 64];
+    let mut leads = [0u32; 64];
+    let mut marks = [0u8; 64];
+    let mut work = [0u32; 128];
     let b = copy_words(cells, places, 4, &mut bounds);
     let p = copy_words(cells, places, 5, &mut leads);
     let m = copy_bytes(cells, places, 6, &mut marks);
     let w = copy_words(cells, places, 7, &mut work);
     update_into(
         adds,
-        &offsets[..o],
-        &targets[..t],
-        &one[..f],
-        &other[..g],
+        offsets,
+        targets,
+        one,
+        other,
         &mut bounds[..b],
         &mut leads[..p],
         &mut marks[..m],
