@@ -58,6 +58,22 @@ span-hit-one e f (suc k) h q =
     omega (arith, ap (hit e) same, hit-same e, span-hit-out e (suc f) k (omega arith)))
     (λ (p : ¬ (e ≤ f)). omega (arith, hit-other e f (omega arith), span-hit-one e (suc f) k (omega arith) (omega arith)))
 
+-- a number's share of the sum
+pub span-at : (g : ℕ → ℕ) (e f k : ℕ) → f ≤ e → e < f + k → g e ≤ span g f k
+unfolding span
+span-at g e f zero h q = absurd (omega arith)
+span-at g e f (suc k) h q =
+    by-cases (decLe e f)
+    (λ (p : e ≤ f). let same : e ≡ f = omega arith in omega (arith, ap g same))
+    (λ (p : ¬ (e ≤ f)). omega (arith, span-at g e (suc f) k (omega arith) (omega arith)))
+
+-- the sums are equal where what is summed is
+pub span-agree : (g h : ℕ → ℕ) (f k : ℕ) → ((i : ℕ) → f ≤ i → i < f + k → g i ≡ h i) → span g f k ≡ span h f k
+unfolding span
+span-agree g h f zero e = refl
+span-agree g h f (suc k) e =
+    omega (arith, e f (omega arith) (omega arith), span-agree g h (suc f) k (λ (i : ℕ) (l : suc f ≤ i) (u : i < suc f + k). e i (omega arith) (omega arith)))
+
 -- ---- lists over consecutive numbers
 
 module _ {A : Type 0} where

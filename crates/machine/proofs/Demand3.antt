@@ -12,11 +12,11 @@ use Rattle.graph.specs.Graph.{Graph, Leaves, degree}
 use Rattle.graph.specs.Chain.{Reach, reached, leavingReached}
 use Rattle.graph.proofs.OverMarked.{over-below, over-degree, over-total, over-once, over-leaves, over-source}
 use Rattle.graph.proofs.Reached.{reached-chain, chain-reached}
-use Rattle.machine.specs.Machine.{Setting, State, Entry, Worker, idle, asking, denied, ended, given, busy, Cell, empty, from, worker, carriedBy, carriedAll, start, allEnded, result}
+use Rattle.machine.specs.Machine.{Setting, State, Entry, Worker, idle, asking, denied, ended, given, busy, Cell, empty, from, worker, carriedBy, carriedAll, start, allEnded, result, stopped}
 use Rattle.machine.specs.Accepted.{Accepted}
-use Rattle.machine.specs.Sound.{Marked, WorkerSound, stopped, cellTurns, turnsOf, upTo, Sound, Fresh}
+use Rattle.machine.specs.Sound.{Marked, WorkerSound, cellTurns, turnsOf, upTo, Sound, Fresh}
 use Rattle.machine.specs.Demand2.{outcome}
-use Rattle.machine.specs.Demand3.{stretchBound, handedBound, AllHave, joined, Cut, Demand3}
+use Rattle.machine.specs.Demand3.{movedBound, stretchBound, fewestStretches, handedBound, AllHave, joined, Cut, Demand3}
 use Rattle.machine.proofs.Runs.{length-carried}
 use Rattle.machine.proofs.Ended.{stopped-limit, ended-count}
 use Rattle.machine.proofs.Step.{over, phase-turns-limit}
@@ -24,7 +24,8 @@ use Rattle.machine.proofs.Kept.{carried-all-is}
 use Rattle.machine.proofs.Start.{sound-start, sound, fresh}
 use Rattle.machine.proofs.Demand2.{none-held, all-marked}
 use Rattle.machine.proofs.Events.{moved-counts, replies-count}
-use Rattle.machine.proofs.Progress.{stretches-move}
+use Rattle.machine.proofs.Passes.{reserve-limit}
+use Rattle.machine.proofs.Progress.{Spent, stretches-spend}
 
 cell-turns-limit : (c : Cell) → cellTurns c ≤ 2
 cell-turns-limit empty = omega arith
@@ -73,7 +74,7 @@ module _ {G : Graph} {starts : List ℕ} {W : ℕ} {g : Setting} {s : State} {l 
         sum-combine 7 carriedBy stopped (s .workers),
       )
 
-  moved-limit : s .counts .moved ≤ stretchBound (leavingReached G starts) W
+  moved-limit : s .counts .moved ≤ movedBound (leavingReached G starts) W
   moved-limit = omega (arith, moved-stopped, stopped-limit (s .workers), S .workers-length)
 
   handed-limit : s .counts .handed * g .cutoff ≤ handedBound (leavingReached G starts)
@@ -117,18 +118,41 @@ module _ {G : Graph} {starts : List ℕ} {W : ℕ} {g : Setting} {s : State} {l 
         )
 
 module _ {G : Graph} {starts : List ℕ} {W : ℕ} {g : Setting} (A : Accepted G starts W g) where
-  -- 7R + W stretches: each changes something, and there are no more changes
-  stretches-finish : (xss : List (List Entry)) → length xss ≡ stretchBound (leavingReached G starts) W → AllHave W xss
+  none-moved : start G starts W .counts .moved ≡ 0
+  unfolding start
+  none-moved = refl
+
+  -- 7R + 4W - 2 stretches or more: each spends something, and there is no more to spend
+  stretches-finish : (xss : List (List Entry)) → fewestStretches (leavingReached G starts) W ≤ length xss → AllHave W xss
       → allEnded (outcome G starts W g (joined xss) .workers) ≡ true
   stretches-finish xss k h =
       let xs = joined xss in
+      let s = start G starts W in
       ⊎-elim
       (λ (e : allEnded (outcome G starts W g xs .workers) ≡ true). e)
-      (λ (m : start G starts W .counts .moved + length xss ≤ outcome G starts W g xs .counts .moved).
+      (λ (m : Spent W s (length xss) (outcome G starts W g xs)).
       ended-count
       (outcome G starts W g xs .workers)
-      (omega (arith, k, m, moved-stopped A (sound A xs) (fresh A xs), sound A xs .workers-length)))
-      (stretches-move A (sound-start A) xss h)
+      (omega (
+        arith,
+        k,
+        m,
+        none-moved,
+        moved-stopped A (sound A xs) (fresh A xs),
+        reserve-limit W s (sound-start A .holder-below),
+        sound A xs .workers-length,
+        A .some-worker,
+      )))
+      (stretches-spend A (sound-start A) xss h)
+
+  -- so a cut into so many finishes
+  cut-finishes : (k : ℕ) (xs : List Entry) → fewestStretches (leavingReached G starts) W ≤ k → Cut W k xs
+      → allEnded (outcome G starts W g xs .workers) ≡ true
+  cut-finishes k xs h c =
+      subst
+      (λ (l : List Entry). allEnded (outcome G starts W g l .workers) ≡ true)
+      (c .whole)
+      (stretches-finish (c .stretches) (omega (arith, h, c .number)) (c .each))
 
 -- demand 3
 pub demand3 : {G : Graph} {starts : List ℕ} {W : ℕ} {g : Setting} → Accepted G starts W g → (xs : List Entry)
@@ -147,9 +171,6 @@ demand3 {G} {starts} {W} {g} A xs =
       whole = λ done. followed-trail A S F ∙ trail-whole A S F done;
       handed = handed-limit A S F;
       moved = moved-limit A S F;
-      finishes = λ (c : Cut W (stretchBound (leavingReached G starts) W) xs).
-          subst
-          (λ (l : List Entry). allEnded (outcome G starts W g l .workers) ≡ true)
-          (c .whole)
-          (stretches-finish A (c .stretches) (c .number) (c .each));
+      finishes = cut-finishes A (stretchBound (leavingReached G starts) W) xs (omega arith);
+      sooner = cut-finishes A (fewestStretches (leavingReached G starts) W) xs (omega arith);
     }

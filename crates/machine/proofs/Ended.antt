@@ -8,8 +8,7 @@ use lib.ListN.{length, getD}
 use Rattle.laws.specs.Sum.{sum}
 use Rattle.laws.proofs.Sum.{sum-share}
 use Rattle.graph.specs.Graph.{Graph}
-use Rattle.machine.specs.Machine.{Setting, State, Entry, Worker, idle, asking, denied, ended, given, busy, allEnded, workerTurn, turn, turns}
-use Rattle.machine.specs.Sound.{stopped}
+use Rattle.machine.specs.Machine.{Setting, State, Entry, Worker, idle, asking, denied, ended, given, busy, allEnded, workerTurn, turn, turns, stopped}
 use Rattle.machine.proofs.Facts.{there}
 
 -- then each has, and a worker that is not there counts as ended

@@ -1,4 +1,5 @@
--- The counts count what they say: a turn changes nothing, or it raises moved by one and some worker differs afterwards;
+-- The counts count what they say: a turn changes no mark and no worker, or it raises moved by one and some worker differs
+-- afterwards;
 -- handed and refused are raised by the replies that the turn gives.
 use mathlib.Core.Path.{_≡_, refl, sym, ap, _∙_, subst}
 use mathlib.Core.List.{List, [], _∷_}
@@ -15,7 +16,7 @@ use Rattle.machine.specs.Machine.{Claimed, onward, follows, turn, turns}
 use Rattle.machine.specs.Accepted.{Accepted}
 use Rattle.machine.specs.Sound.{Sound}
 use Rattle.machine.specs.Events.{Same, Changing, none, unchanged, changed, owed?, refused?, answered}
-use Rattle.machine.specs.Move.{Alone, wakes, takes-up, ends, polls, looks, Waiting, Move, still, alone, asked, hands, refuses, follow}
+use Rattle.machine.specs.Move.{Alone, wakes, takes-up, ends, polls, looks, Waiting, Move, still, passed, alone, asked, hands, refuses, follow}
 use Rattle.machine.proofs.Facts.{there, busy-carried}
 use Rattle.machine.proofs.Move.{move}
 use Rattle.machine.proofs.Kept.{sound-turn}
@@ -40,9 +41,9 @@ seen : (ws l : List Worker) (b : ℕ) (x y : Worker) → getD ws b ended ≡ x �
 seen ws l b x y e h d q =
     d (ap sight (sym (getD-set-same l b y ended h) ∙ ap (λ (ws : List Worker). getD ws b ended) q ∙ e))
 
--- the turn changes nothing, or is counted and leaves something other than it was
+-- the turn changes no mark and no worker, or is counted and leaves something other than it was
 abbrev Told : State → State → Type 0
-Told s s′ = (s′ ≡ s) ⊎ ((Same s s′ → ⊥) × (s′ .counts .moved ≡ suc (s .counts .moved)))
+Told s s′ = (Same s s′ × (s′ .counts .moved ≡ s .counts .moved)) ⊎ ((Same s s′ → ⊥) × (s′ .counts .moved ≡ suc (s .counts .moved)))
 
 phase-sight : (k : ℕ) → phaseSight (phase k) ≤ 1
 unfolding phaseSight
@@ -76,7 +77,7 @@ module _ {G : Graph} {starts : List ℕ} {W : ℕ} {g : Setting} {s : State} (A 
   two-seen b a {x} y z q h d e =
       seen (s .workers) (set (s .workers) b y) a x z q (rw length-set (low a q h)) d e
 
-  alone-sight : (b : ℕ) {x y : Worker} → worker s b ≡ x → Alone G g s x y → (0 < there x) × (sight y ≢ sight x)
+  alone-sight : (b : ℕ) {x y : Worker} → worker s b ≡ x → Alone G g s b x y → (0 < there x) × (sight y ≢ sight x)
   unfolding phaseSight
   alone-sight b q wakes = (omega arith, λ e. omega (arith, e))
   alone-sight b q takes-up = (omega arith, λ e. omega (arith, e))
@@ -94,7 +95,8 @@ module _ {G : Graph} {starts : List ℕ} {W : ℕ} {g : Setting} {s : State} (A 
   follow-seen b k (from a) {n} {p} {rs} o (r ∷ rs′) q w e = one-seen b _ q (omega arith) (onward-sight (from a) n k p rs (r ∷ rs′)) e
 
   move-told : {b : ℕ} {t : List ℕ} {s′ : State} → Move G g s b t s′ → Told s s′
-  move-told (still h) = inl refl
+  move-told (still h) = inl (record { marks = refl; workers = refl }, refl)
+  move-told (passed q e o h) = inl (record { marks = refl; workers = refl }, refl)
   move-told {b} (alone {y = y} q r) =
       let d = alone-sight b q r in
       inr (λ e. one-seen b y q (d .0) (d .1) (e .workers), omega arith)
@@ -121,8 +123,8 @@ module _ {G : Graph} {starts : List ℕ} {W : ℕ} {g : Setting} (A : Accepted G
       by (inl e) m =
           record {
             number = m .number;
-            changing = unchanged (record { marks = ap (λ (t : State). t .marks) e; workers = ap (λ (t : State). t .workers) e }) (m .changing);
-            counted = omega (arith, m .counted, ap (λ (t : State). t .counts .moved) e);
+            changing = unchanged (e .0) (m .changing);
+            counted = omega (arith, m .counted, e .1);
           }
       by (inr d) m =
           record { number = suc (m .number); changing = changed (d .0) (m .changing); counted = omega (arith, m .counted, d .1) }

@@ -15,9 +15,9 @@ use Rattle.graph.specs.Leaving.{leavingSum, leavingUnmarked}
 use Rattle.graph.proofs.OverMarked.{over-below, over-total, over-once, over-leaves, over-source}
 use Rattle.machine.specs.Run.{Run}
 use Rattle.machine.specs.Tally.{Tally}
-use Rattle.machine.specs.Machine.{Setting, State, Entry, Worker, idle, asking, denied, ended, given, busy, worker, runsOf, carriedBy, carries?, carriedAll, takes, turn}
+use Rattle.machine.specs.Machine.{Setting, State, Entry, Worker, idle, asking, denied, ended, given, busy, worker, runsOf, carriedBy, carries?, carriedAll, takes, turn, stopped}
 use Rattle.machine.specs.Accepted.{Accepted}
-use Rattle.machine.specs.Sound.{Marked, Within, Carries, WorkerSound, holds, waits, stopped, sinceOf, heldSum, carriedTimes, tallyOf, Sound, asks?, turnsOf, upTo, Fresh}
+use Rattle.machine.specs.Sound.{Marked, Within, Carries, WorkerSound, holds, waits, sinceOf, heldSum, carriedTimes, tallyOf, Sound, asks?, turnsOf, upTo, Fresh}
 use Rattle.machine.proofs.Facts.{runs-within}
 use Rattle.machine.proofs.Runs.{carried-is, within-more, within-source}
 use Rattle.machine.proofs.Marks.{live-grows}
@@ -25,6 +25,7 @@ use Rattle.machine.proofs.Change.{before, after, beforeAt, afterAt, put
 use Rattle.machine.proofs.Move.{move}
 use Rattle.machine.proofs.Step.{over, Step, step}
 use Rattle.machine.proofs.Rested.{Rested, rested-move}
+use Rattle.machine.proofs.Ring.{Ringed, ringed-move}
 use Rattle.machine.proofs.Tallied.{raised-length, raised-sum, raised-at, Tallied, tallied-move}
 
 -- what all carry is the sum of 1 over the references that they hold
@@ -36,6 +37,14 @@ times : (k x y z : ℕ) → k ≤ 1 → x + y ≤ z → k * x + k * y ≤ k * z
 times zero x y z h l = omega arith
 times (suc zero) x y z h l = omega arith
 times (suc (suc k)) x y z h l = absurd (omega arith)
+
+stopped-one : (w : Worker) → stopped w ≤ 1
+stopped-one idle = omega arith
+stopped-one asking = omega arith
+stopped-one denied = omega arith
+stopped-one ended = omega arith
+stopped-one (given rs) = omega arith
+stopped-one (busy c n p rs) = omega arith
 
 -- a worker is sound also when more is marked
 worker-more : (G : Graph) (g : Setting) (ms ms′ : List ℕ) → ((v : ℕ) → Marked ms v → Marked ms′ v) → (w : Worker)
@@ -122,6 +131,23 @@ module _ {G : Graph} {starts : List ℕ} {W : ℕ} {g : Setting} {s : State} (A 
         (λ (p : 0 < carriedAll s). absurd (omega (arith, S .stopped-empty (omega (arith, T .weighs .stops p, sums stopped)))))
         (λ (p : ¬ (0 < carriedAll s)). omega (arith, T .weighs .rests (omega arith), sums carriedBy))
 
+    -- where nothing is carried, nothing will be
+    kept-none : carriedAll s ≡ 0 → carriedAll s′ ≡ 0
+    kept-none z = omega (arith, T .weighs .rests z, sums carriedBy)
+
+    -- worker 0 ends first, with the token
+    kept-first : 0 < sum stopped (s′ .workers) → (stopped (worker s′ 0) ≡ 1) × (s′ .ring .holder ≡ 0)
+    kept-first h =
+        let now = places stopped 0 in
+        let most = stopped-one (worker s′ 0) in
+        by-cases (decLt 0 (sum stopped (s .workers)))
+        (λ (p : 0 < sum stopped (s .workers)).
+        let first = S .first-ended p in
+        omega (arith, now, most, first, T .weighs .running 0, T .weighs .holder-stays (omega (arith, first))))
+        (λ (p : ¬ (0 < sum stopped (s .workers))).
+        let some : 0 < after stopped (T .changes) = omega (arith, h, p, sums stopped) in
+        omega (arith, now, T .weighs .running 0, T .weighs .ends-first some, T .weighs .holder-stays (omega (arith, some))))
+
     -- a claim is followed
     kept-claims : {b k : ℕ} → Tallied G s b s′ k → (i : ℕ) → tallyOf s′ i .won + tallyOf s′ i .lost ≤ tallyOf s′ i .followed
     kept-claims {b} Y i =
@@ -135,8 +161,8 @@ module _ {G : Graph} {starts : List ℕ} {W : ℕ} {g : Setting} {s : State} (A 
         )
 
     -- the tallies grow with the counts
-    sound-step : {b k : ℕ} → Tallied G s b s′ k → Rested s′ W → Sound G starts W g s′
-    sound-step Y R =
+    sound-step : {b k : ℕ} → Tallied G s b s′ k → Rested s b s′ W → Ringed A S s′ → Sound G starts W g s′
+    sound-step Y R N =
         record {
           marks-length = long ∙ S .marks-length;
           workers-length = ap length (T .workers) ∙ put-length (s .workers) (T .changes) ∙ S .workers-length;
@@ -155,6 +181,10 @@ module _ {G : Graph} {starts : List ℕ} {W : ℕ} {g : Setting} {s : State} (A 
           targets-marked = kept-targets;
           cells = λ (a : ℕ). omega (arith, S .cells a, T .weighs .cells a, sums (holds a), places waits a);
           stopped-empty = kept-stopped;
+          colours-length = N .long;
+          holder-below = N .below;
+          above-holder = N .clear;
+          first-ended = kept-first;
           rested-length = R .long;
           rested-carrying = R .none;
           since-followed = omega (arith, S .since-followed, T .weighs .since, T .weighs .followed, sums sinceOf);
@@ -184,8 +214,15 @@ module _ {G : Graph} {starts : List ℕ} {W : ℕ} {g : Setting} {s : State} (A 
 
   -- a turn keeps a state sound
   pub sound-turn : (x : Entry) → Sound G starts W g (turn G g s x)
-  sound-turn x = sound-step (step A S (move A S x)) (tallied-move A S (move A S x)) (rested-move A S (move A S x))
+  sound-turn x =
+      let m = move A S x in
+      let R = rested-move A S m in
+      sound-step (step A S m) (tallied-move A S m) R (ringed-move A S m R)
 
   -- and a collection fresh, with what the turn takes off in its trail
   pub fresh-turn : {l : List ℕ} → Fresh G starts g s l → (x : Entry) → Fresh G starts g (turn G g s x) (l ++ takes (worker s (x .worker)) G s)
   fresh-turn F x = fresh-step (step A S (move A S x)) F
+
+  -- nothing is carried any more once nothing is
+  pub none-turn : (x : Entry) → carriedAll s ≡ 0 → carriedAll (turn G g s x) ≡ 0
+  none-turn x z = kept-none (step A S (move A S x)) z

@@ -2,6 +2,8 @@ pub mod Accept
 pub mod Runs
 pub mod Marks
 pub mod Facts
+pub mod Rested
+pub mod Ring
 pub mod Move
 pub mod Change
 pub mod Step
@@ -13,8 +15,8 @@ pub mod Ended
 pub mod Demand2
 pub mod Owners
 pub mod Events
+pub mod Passes
 pub mod Progress
-pub mod Rested
 pub mod Demand3
 pub mod Instances
 pub mod Lamp

@@ -15,7 +15,9 @@ use Rattle.graph.specs.Graph.{Graph, objects, target}
 use Rattle.graph.specs.Chain.{marksAt}
 use Rattle.machine.specs.Run.{Run, run, carried}
 use Rattle.machine.specs.Machine.{Setting, State, Entry, Worker, idle, asking, denied, ended, given, busy, Cell, empty, from, Phase, poll, look, claim, claimMark, worker, markOf}
-use Rattle.machine.specs.Machine.{asks, idleTurn, shares, answer, claims, lookTurn, claimTurn, busyTurn, workerTurn, unmarked, start, turn, turns, result}
+use lib.Dec.{eqb}
+use Rattle.machine.specs.Ring.{Colour, white, black, colourOf}
+use Rattle.machine.specs.Machine.{stopped, asks, homeTurn, holderTurn, idleTurn, shares, answer, claims, lookTurn, claimTurn, busyTurn, workerTurn, unmarked, start, turn, turns, result}
 use Rattle.machine.specs.Accepted.{Accepted}
 use Rattle.machine.specs.Sound.{Marked}
 use Rattle.machine.specs.Demand2.{outcome, FinishedMarks}
@@ -70,16 +72,26 @@ module _ (G : Graph) (g : Setting) (s : State) where
   wrote-asks (busy empty n p rs) b v = nothing
   wrote-asks (busy (from a) n p rs) b v = nothing
 
-  wrote-idle : (k b v : ℕ) → Wrote (s .marks) [] (idleTurn k s b v .marks)
-  wrote-idle zero b v = nothing
-  wrote-idle (suc k) b v = wrote-asks (worker s v) b v
+  wrote-home : (c d : Colour) → Wrote (s .marks) [] (homeTurn c d s .marks)
+  wrote-home white white = nothing
+  wrote-home white black = nothing
+  wrote-home black d = nothing
+
+  wrote-holder : (b : ℕ) → Wrote (s .marks) [] (holderTurn b s .marks)
+  wrote-holder zero = wrote-home (s .ring .token) (colourOf (s .ring) 0)
+  wrote-holder (suc b) = nothing
+
+  wrote-idle : (k : ℕ) (t : Bool) (b v : ℕ) → Wrote (s .marks) [] (idleTurn k t s b v .marks)
+  wrote-idle (suc k) t b v = nothing
+  wrote-idle zero true b v = wrote-holder b
+  wrote-idle zero false b v = wrote-asks (worker s v) b v
 
   wrote-worker : (w : Worker) (b v : ℕ) → Wrote (s .marks) (wins w G s b) (workerTurn w G g s b v .marks)
   wrote-worker ended b v = nothing
   wrote-worker asking b v = nothing
   wrote-worker denied b v = nothing
   wrote-worker (given rs) b v = nothing
-  wrote-worker idle b v = wrote-idle (s .counts .carrying) b v
+  wrote-worker idle b v = wrote-idle (stopped (worker s 0)) (eqb b (s .ring .holder)) b v
   wrote-worker (busy c n p rs) b v = wrote-busy p rs b c n
 
   wrote : (x : Entry) → Wrote (s .marks) (wins (worker s (x .worker)) G s (x .worker)) (turn G g s x .marks)

@@ -1,4 +1,4 @@
--- The sinces of workers that carry nothing: what every move does to them.
+-- The sinces of workers that carry nothing, and who carries: what every move does to them.
 use mathlib.Core.Path.{_≡_, refl, ap, _∙_}
 use mathlib.Core.List.{List, [], _∷_}
 use mathlib.Core.Logic.{_⊎_, inl, inr, ⊎-elim, _≢_}
@@ -11,10 +11,11 @@ use Rattle.laws.specs.Sum.{sum}
 use Rattle.laws.proofs.Sum.{inside}
 use Rattle.graph.specs.Graph.{Graph}
 use Rattle.machine.specs.Run.{Run, run, carried, rest, half}
+use Rattle.machine.specs.Ring.{blackened}
 use Rattle.machine.specs.Machine.{Setting, State, Worker, idle, asking, denied, ended, given, busy, Cell, empty, from, Phase, phase, worker, carriedBy, resting, onward, dismiss, giver, receiver, Claimed, follows, onwardRuns}
 use Rattle.machine.specs.Accepted.{Accepted}
 use Rattle.machine.specs.Sound.{Sound}
-use Rattle.machine.specs.Move.{Alone, wakes, takes-up, ends, polls, looks, Waiting, Move, still, alone, asked, hands, refuses, follow}
+use Rattle.machine.specs.Move.{Alone, wakes, takes-up, ends, polls, looks, Waiting, Move, still, passed, alone, asked, hands, refuses, follow}
 use Rattle.machine.proofs.Facts.{busy-carried}
 
 -- one number written: the sum grows by at most that
@@ -51,10 +52,19 @@ carried-written (w ∷ ws) (suc b) y (suc i) h =
     (λ (p : (i ≡ b) × (0 < carriedBy y)). inr (ap suc (p .0), p .1))
     (carried-written ws b y i h)
 
--- a turn from s to s′: as many sinces, and none of a worker that carries
-pub record Rested (s′ : State) (W : ℕ) : Type 0 where
+-- who carries after a turn did before
+abbrev pub Carriers : State → State → Type 0
+Carriers s s′ = (i : ℕ) → 0 < carriedBy (worker s′ i) → 0 < carriedBy (worker s i)
+
+-- worker b, which carries, hands over and is black
+abbrev pub Blackens : State → ℕ → State → Type 0
+Blackens s b s′ = (0 < carriedBy (worker s b)) × (s′ .ring ≡ blackened b (s .ring))
+
+-- a turn of b from s to s′: as many sinces, and none of a worker that carries; nobody carries who did not, but for a hand-over
+pub record Rested (s : State) (b : ℕ) (s′ : State) (W : ℕ) : Type 0 where
   pub long : length (s′ .rested) ≡ W
   pub none : (i : ℕ) → 0 < carriedBy (worker s′ i) → getD (s′ .rested) i 0 ≡ 0
+  pub carriers : Carriers s s′ ⊎ Blackens s b s′
 
 module _ {G : Graph} {starts : List ℕ} {W : ℕ} {g : Setting} {s : State} (A : Accepted G starts W g) (S : Sound G starts W g s) where
   -- the worker b, which carried, changes
@@ -71,10 +81,10 @@ module _ {G : Graph} {starts : List ℕ} {W : ℕ} {g : Setting} {s : State} (A 
   same i p = p
 
   -- the sinces stay
-  still-rested : {s′ : State} → s′ .rested ≡ s .rested → ((i : ℕ) → 0 < carriedBy (worker s′ i) → 0 < carriedBy (worker s i)) → Rested s′ W
-  still-rested e k = record { long = ap length e ∙ S .rested-length; none = λ i p. rw e (S .rested-carrying i (k i p)) }
+  still-rested : {b : ℕ} {s′ : State} → s′ .rested ≡ s .rested → Carriers s s′ → Rested s b s′ W
+  still-rested e k = record { long = ap length e ∙ S .rested-length; none = λ i p. rw e (S .rested-carrying i (k i p)); carriers = inl k }
 
-  lonely : (b : ℕ) {x y : Worker} → worker s b ≡ x → Alone G g s x y → 0 < carriedBy y → 0 < carriedBy (worker s b)
+  lonely : (b : ℕ) {x y : Worker} → worker s b ≡ x → Alone G g s b x y → 0 < carriedBy y → 0 < carriedBy (worker s b)
   unfolding carried sum
   lonely b q wakes h = absurd (omega arith)
   lonely b q takes-up h = rw q h
@@ -83,13 +93,14 @@ module _ {G : Graph} {starts : List ℕ} {W : ℕ} {g : Setting} {s : State} (A 
   lonely b q (looks m) h = rw q h
 
   -- a worker that is left with nothing keeps its since
-  left : (b : ℕ) (c : Cell) (n k : ℕ) (o : Claimed) (rs : List Run) → 0 < carriedBy (worker s b) → Rested (follows s b c n k o rs) W
+  left : (b : ℕ) (c : Cell) (n k : ℕ) (o : Claimed) (rs : List Run) → 0 < carriedBy (worker s b) → Rested s b (follows s b c n k o rs) W
   unfolding carried sum
   left b c n k o [] h =
       record {
         long = simp length-set (S .rested-length);
         none = λ (i : ℕ) (p : 0 < carriedBy (getD (dismiss c [] (set (s .workers) b idle)) i ended)).
             let q = gone c i p in getD-set-other (s .rested) b i (suc n) 0 (q .1) ∙ S .rested-carrying i (q .0);
+        carriers = inl (λ (i : ℕ) (p : 0 < carriedBy (getD (dismiss c [] (set (s .workers) b idle)) i ended)). gone c i p .0);
       }
     where
       one : (i : ℕ) → 0 < carriedBy (getD (set (s .workers) b idle) i ended) → (0 < carriedBy (worker s i)) × (i ≢ b)
@@ -109,9 +120,10 @@ module _ {G : Graph} {starts : List ℕ} {W : ℕ} {g : Setting} {s : State} (A 
   left b empty n k o (r ∷ rs) h = still-rested refl (kept b (busy empty (suc n) (phase k) (r ∷ rs)) (s .workers) (λ p. h) same)
   left b (from a) n k o (r ∷ rs) h = still-rested refl (kept b (busy (from a) (suc n) (phase k) (r ∷ rs)) (s .workers) (λ p. h) same)
 
-  pub rested-move : {b : ℕ} {t : List ℕ} {s′ : State} → Move G g s b t s′ → Rested s′ W
+  pub rested-move : {b : ℕ} {t : List ℕ} {s′ : State} → Move G g s b t s′ → Rested s b s′ W
   unfolding carried sum
   rested-move (still h) = still-rested refl same
+  rested-move (passed q e o h) = still-rested refl same
   rested-move {b} (alone {y = y} q r) = still-rested refl (kept b y (s .workers) (lonely b q r) same)
   rested-move {b} (asked v {n} {p} {rs} q r) =
       still-rested refl (kept b asking (set (s .workers) v (busy (from b) n p rs)) (λ h. absurd (omega arith)) (kept v (busy (from b) n p rs) (s .workers) (λ h. rw q h) same))
@@ -128,6 +140,7 @@ module _ {G : Graph} {starts : List ℕ} {W : ℕ} {g : Setting} {s : State} (A 
             written-none (s .rested) a i (S .rested-carrying i (kept b (giver g n rs) (s .workers) (λ j. rw q (busy-carried A S b q)) same i (k .0))))
             (λ (k : (i ≡ a) × (0 < carriedBy (receiver rs))). rw (k .0) (written-there (s .rested) a))
             (carried-written (set (s .workers) b (giver g n rs)) a (receiver rs) i p);
+        carriers = inr (rw q (busy-carried A S b q), refl);
       }
   rested-move {b} (follow {c} {n} {k} {e} {j} {p} {rs} {o} q r w) =
       left b c n k o (onwardRuns e j (o .opened) rs) (rw q (busy-carried A S b q))

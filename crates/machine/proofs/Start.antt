@@ -21,9 +21,10 @@ use Rattle.graph.proofs.OverMarked.{over-set-again, over-none, over-total, over
 use Rattle.graph.proofs.Reached.{rounds-grows, reached-chain, starts-marked}
 use Rattle.machine.specs.Run.{Run, carried, leaving}
 use Rattle.machine.specs.Tally.{Tally, noTally}
-use Rattle.machine.specs.Machine.{Setting, State, Entry, Worker, idle, ended, busy, empty, poll, runsOf, carriedBy, worker, carries?, live, newRun, startRuns, withRuns, unmarked, start, turns, trail}
+use Rattle.machine.specs.Ring.{white}
+use Rattle.machine.specs.Machine.{Setting, State, Entry, Worker, idle, ended, busy, empty, poll, runsOf, carriedBy, worker, carries?, live, newRun, startRuns, withRuns, unmarked, start, turns, trail, stopped}
 use Rattle.machine.specs.Accepted.{Accepted}
-use Rattle.machine.specs.Sound.{Marked, Within, Whole, Carries, WorkerSound, holds, waits, stopped, sinceOf, runsSum, heldSum, carriedTimes, distinctStarts, Sound, asks?, Fresh}
+use Rattle.machine.specs.Sound.{Marked, Within, Whole, Carries, WorkerSound, holds, waits, sinceOf, runsSum, heldSum, carriedTimes, distinctStarts, Sound, asks?, Fresh}
 use Rattle.machine.specs.Demand2.{outcome}
 use Rattle.machine.specs.Demand3.{trailOf}
 use Rattle.machine.proofs.Runs.{runs-append, runs-from, length-from, leaving-runs, inside-all}
@@ -193,6 +194,16 @@ module _ {G : Graph} {starts : List ℕ} {W : ℕ} {g : Setting} (A : Accepted G
   unfolding start carried sum
   carrying-start = omega (arith, sum-none carries? (W - 1) idle refl)
 
+  others-start : (b : ℕ) → 0 < b → carriedBy (worker (start G starts W) b) ≡ 0
+  unfolding start carried sum
+  others-start zero h = absurd (omega arith)
+  others-start (suc b) h = by (W - 1) b
+    where
+      by : (k i : ℕ) → carriedBy (getD (replicate k idle) i ended) ≡ 0
+      by zero i = refl
+      by (suc k) zero = refl
+      by (suc k) (suc i) = by k i
+
   -- the marks set are the distinct starts
   starts-live : live (marksAt starts (unmarked G)) ≡ distinctStarts G starts
   unfolding start
@@ -239,6 +250,11 @@ module _ {G : Graph} {starts : List ℕ} {W : ℕ} {g : Setting} (A : Accepted G
             none-start (holds i) refl (λ (l : List Run). refl)
             ∙ sym (each-start (λ (w : Worker). waits w ≡ 0) rs (W - 1) (λ (h : 0 < length rs). refl) refl refl i);
         stopped-empty = λ (h : 0 < sum stopped (start G starts W .workers)).
+            absurd (omega (arith, none-start stopped refl (λ (l : List Run). refl)));
+        colours-length = length-replicate W white;
+        holder-below = omega (arith, A .some-worker);
+        above-holder = λ none b h. others-start b (omega arith);
+        first-ended = λ (h : 0 < sum stopped (start G starts W .workers)).
             absurd (omega (arith, none-start stopped refl (λ (l : List Run). refl)));
         rested-length = length-replicate W 0;
         rested-carrying = λ (b : ℕ) (h : 0 < carriedBy (worker (start G starts W) b)). none-marked W b;

@@ -22,17 +22,18 @@ use Rattle.graph.specs.Leaving.{leavingSum}
 use Rattle.graph.proofs.Formed.{both-true}
 use Rattle.graph.proofs.OverMarked.{over-below}
 use Rattle.machine.specs.Run.{Run, run, carried, runFrom, keep, half}
-use Rattle.machine.specs.Machine.{Setting, State, Worker, idle, asking, denied, ended, busy, Cell, empty, from, Phase, poll, look, claim, phase, worker, markOf, claimMark}
+use Rattle.machine.specs.Machine.{Setting, State, Worker, idle, asking, denied, ended, busy, Cell, empty, from, Phase, poll, look, claim, phase, worker, markOf, claimMark, stopped}
 use Rattle.machine.specs.Machine.{runsOf, carriedBy, carries?, carriedAll, live, shares, giver, receiver, Claimed, notClaimed, claimLost, claimWon, onwardRuns, follows}
 use Rattle.machine.specs.Accepted.{Accepted}
-use Rattle.machine.specs.Sound.{Marked, Within, Whole, WholeInside, Carries, batchOf, Working, WorkerSound, holds, waits, stopped, sinceOf, runsSum, heldSum, Sound, asks?}
+use Rattle.machine.specs.Sound.{Marked, Within, Whole, WholeInside, Carries, batchOf, Working, WorkerSound, holds, waits, sinceOf, runsSum, heldSum, Sound, asks?}
 use Rattle.machine.specs.Sound.{phaseTurns, turnsOf, upTo}
 use Rattle.machine.specs.Events.{owed?, refused?, replies}
-use Rattle.machine.specs.Move.{wakes, takes-up, ends, polls, looks, asked, hands, refuses, Taken, seen, lost, won, Waiting, Move, still, alone, follow}
-use Rattle.machine.proofs.Facts.{there, given-carries, busy-below, busy-working, busy-carried, busy-carried-all, carrying-none, carrying-at, first-target, set-some, run-counts}
+use Rattle.machine.specs.Move.{wakes, takes-up, ends, polls, looks, asked, hands, refuses, Taken, seen, lost, won, Waiting, Move, still, passed, alone, follow}
+use Rattle.machine.proofs.Facts.{there, given-carries, busy-below, busy-working, busy-carried, busy-carried-all, carrying-at, first-target, set-some, run-counts}
 use Rattle.machine.proofs.Runs.{cuts, runs-append, runs-from, runs-cut, carried-is, carried-length, halves, length-from, length-cut, within-part}
 use Rattle.machine.proofs.Runs.{within-cut, within-more, leaving-runs, whole-append, inside-from, inside-keep, inside-rest}
 use Rattle.machine.proofs.Rested.{sum-written}
+use Rattle.machine.proofs.Ring.{over-none, over-first}
 use Rattle.machine.proofs.Marks.{claim-mark-set, claim-mark-limit, marked-keeps, marked-from, marked-there, over-more, live-more}
 use Rattle.machine.proofs.Change.{Change, put, Fits, before, after, beforeAt, afterAt, one, two, fits-two, replied, replies-none, replies-one, replies-two}
 
@@ -62,6 +63,10 @@ pub record Weighs (g : Setting) (s s′ : State) (k : ℕ) (cs : List Change) : 
   -- who enters a cell waits from then on, and who leaves it has a reply
   pub cells : (i : ℕ) → after (holds i) cs + beforeAt waits i cs ≡ before (holds i) cs + afterAt waits i cs
   pub since : after sinceOf cs + sum itself (s′ .rested) ≤ before sinceOf cs + sum itself (s .rested) + k
+  -- who changes had not ended; who ends is worker 0, or worker 0 has ended before, and the token stays there then
+  pub running : (i : ℕ) → (before stopped cs ≡ 0) × (beforeAt stopped i cs ≡ 0)
+  pub ends-first : 0 < after stopped cs → (stopped (worker s 0) + afterAt stopped 0 cs ≡ 1) × (s .ring .holder ≡ 0)
+  pub holder-stays : 0 < stopped (worker s 0) + after stopped cs → s′ .ring .holder ≡ s .ring .holder
   -- nobody ends while references are carried, and none enter when none are
   pub stops : 0 < carriedAll s → after stopped cs ≤ before stopped cs
   pub rests : carriedAll s ≡ 0 → after carriedBy cs ≤ before carriedBy cs
@@ -349,11 +354,22 @@ module _ {G : Graph} {starts : List ℕ} {W : ℕ} {g : Setting} {s : State} (A 
         weighs = omega arith;
         marking = none-taken;
       }
+  step {b} (passed q e o h) =
+      record {
+        changes = [];
+        workers = refl;
+        fits = tt;
+        now-sound = tt;
+        held = λ (f : ℕ → ℕ). omega arith;
+        replies-are = λ f z. replies-none f z (s .workers);
+        weighs = omega (arith, o);
+        marking = none-taken;
+      }
   step {b} (alone q wakes) = step-one b idle q (omega arith) refl tt (λ (f : ℕ → ℕ). omega arith) (omega arith) none-taken
   step {b} (alone q (takes-up {rs})) =
       let w : Working G g (s .marks) poll rs = record { carries = given-carries A S b q; batch-limit = omega arith; batch-carried = omega arith } in
       step-one b (busy empty 0 poll rs) q (omega arith) refl w (λ (f : ℕ → ℕ). omega arith) (omega arith) none-taken
-  step {b} (alone q (ends h)) = step-one b ended q (omega arith) refl tt (λ (f : ℕ → ℕ). omega arith) (omega (arith, carrying-none A S h)) none-taken
+  step {b} (alone q (ends h)) = step-one b ended q (omega arith) refl tt (λ (f : ℕ → ℕ). omega arith) (omega (arith, over-none A S q h, over-first A S q h)) none-taken
   step {b} (alone q (polls {n} {rs})) =
       let k = min (g .batch) (carried rs) in
       let three = phase-turns k (omega (arith, A .some-batch, busy-carried A S b q)) in

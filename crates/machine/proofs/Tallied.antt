@@ -14,7 +14,7 @@ use Rattle.machine.specs.Accepted.{Accepted}
 use Rattle.machine.specs.Sound.{Sound}
 use Rattle.machine.specs.Owners.{Win, wins}
 use Rattle.machine.specs.Tallies.{workerLoses, winsOf}
-use Rattle.machine.specs.Move.{Quiet, gone, waiting, unable, Alone, wakes, takes-up, ends, polls, looks, Taken, seen, lost, won, Move, still, alone, asked, hands, refuses, follow}
+use Rattle.machine.specs.Move.{Quiet, gone, waiting, unable, Alone, wakes, takes-up, ends, polls, looks, Taken, seen, lost, won, Move, still, passed, alone, asked, hands, refuses, follow}
 use Rattle.machine.proofs.Facts.{busy-below}
 
 -- the tallies after a turn of worker b that counts y: as they were, or b's raised
@@ -76,12 +76,12 @@ module _ {G : Graph} {starts : List ℕ} {W : ℕ} {g : Setting} {s : State} (A 
         losses-are = c .losses-none;
       }
 
-  quiet : {b : ℕ} {w : Worker} → worker s b ≡ w → Quiet s w → Claimless b
+  quiet : {b : ℕ} {w : Worker} → worker s b ≡ w → Quiet s b w → Claimless b
   quiet q gone = record { wins-none = rw q refl; losses-none = rw q refl }
   quiet q waiting = record { wins-none = rw q refl; losses-none = rw q refl }
-  quiet q (unable h) = record { wins-none = rw q refl; losses-none = rw q refl }
+  quiet q (unable h k) = record { wins-none = rw q refl; losses-none = rw q refl }
 
-  lonely : {b : ℕ} {x y : Worker} → worker s b ≡ x → Alone G g s x y → Claimless b
+  lonely : {b : ℕ} {x y : Worker} → worker s b ≡ x → Alone G g s b x y → Claimless b
   lonely q wakes = record { wins-none = rw q refl; losses-none = rw q refl }
   lonely q takes-up = record { wins-none = rw q refl; losses-none = rw q refl }
   lonely q (ends h) = record { wins-none = rw q refl; losses-none = rw q refl }
@@ -106,6 +106,7 @@ module _ {G : Graph} {starts : List ℕ} {W : ℕ} {g : Setting} {s : State} (A 
   -- every move counts so
   pub tallied-move : {b : ℕ} {t : List ℕ} {s′ : State} → Move G g s b t s′ → Tallied G s b s′ (length t)
   tallied-move (still h) = nothing refl (quiet refl h) refl refl refl
+  tallied-move (passed q e o h) = nothing refl (record { wins-none = rw q refl; losses-none = rw q refl }) refl refl refl
   tallied-move (alone q r) = nothing refl (lonely q r) refl (omega arith) refl
   tallied-move (asked v q r) = nothing refl (record { wins-none = rw r refl; losses-none = rw r refl }) refl (omega arith) refl
   tallied-move (refuses a q r h) = nothing refl (record { wins-none = rw q refl; losses-none = rw q refl }) refl (omega arith) refl

@@ -21,7 +21,7 @@ use Rattle.machine.specs.Machine.{Setting, State, Entry, Worker, idle, a
 use Rattle.machine.specs.Machine.{shares, giver, receiver, answer, dismiss, Claimed, notClaimed, claims, onward, onwardRuns, follows, lookTurn, busyTurn, workerTurn, turn, turns}
 use Rattle.machine.specs.Accepted.{Accepted}
 use Rattle.machine.specs.Sound.{batchOf, holds, waits, Sound}
-use Rattle.machine.specs.Move.{Waiting, Move, still, alone, asked, hands, refuses, follow}
+use Rattle.machine.specs.Move.{Waiting, Move, still, passed, alone, asked, hands, refuses, follow}
 use Rattle.machine.specs.Events.{owed?}
 use Rattle.machine.specs.Demand2.{outcome}
 use Rattle.machine.specs.Demand3.{entriesOf}
@@ -160,6 +160,7 @@ module _ {G : Graph} {starts : List ℕ} {W : ℕ} {g : Setting} {s : State} (A 
 
     pub other-move : {c : ℕ} {t : List ℕ} {s′ : State} → Move G g s c t s′ → b ≢ c → worker s′ b ≡ busy (from a) n p rs
     other-move (still h) d = q
+    other-move (passed r e o h) d = q
     other-move {c} (alone {y = y} r m) d = other-one c y d
     other-move {c} (asked v r m) d = other-two v c _ asking (apart (holds a) b v q r (λ e. omega (arith, e, hit-same a))) d
     other-move {c} (hands i r m h) d = other-two c i _ _ d (not-asking i m)

@@ -3,7 +3,7 @@ use mathlib.Core.Path.{_≡_}
 use mathlib.Core.Bool.{true}
 use mathlib.Core.List.{List, [], _∷_, _++_}
 use mathlib.Core.Logic.{_↔_}
-use Prim.Native.Nat.{ℕ, zero, suc, _+_, _*_, _≤_, _<_}
+use Prim.Native.Nat.{ℕ, zero, suc, _+_, _-_, _*_, _≤_, _<_}
 use lib.ListN.{length}
 use Rattle.laws.specs.Blocks.{laid}
 use Rattle.laws.specs.Sum.{sum, hit}
@@ -13,9 +13,17 @@ use Rattle.machine.specs.Row.{Row}
 use Rattle.machine.specs.Machine.{Setting, Entry, start, trail}
 use Rattle.machine.specs.Events.{Changing, owed?, refused?, answered}
 
--- the most turns that change something, and the stretches that finish
+-- the most turns that change something; passing the token is not counted
+abbrev pub movedBound : ℕ → ℕ → ℕ
+movedBound R W = 7 * R + W
+
+-- the stretches that finish
 abbrev pub stretchBound : ℕ → ℕ → ℕ
-stretchBound R W = 7 * R + W
+stretchBound R W = 7 * R + 4 * W + 2
+
+-- so many do already
+abbrev pub fewestStretches : ℕ → ℕ → ℕ
+fewestStretches R W = 7 * R + 4 * W - 2
 
 -- the most hand-overs, times K
 abbrev pub handedBound : ℕ → ℕ
@@ -61,9 +69,10 @@ pub record Demand3 (G : Graph) (starts : List ℕ) (W : ℕ) (g : Setting) (xs :
   -- 3. handed × K is at most 3R
   pub handed : r .counts .handed * g .cutoff ≤ handedBound (leavingReached G starts)
   -- 4. moved is at most 7R + W
-  pub moved : r .counts .moved ≤ stretchBound (leavingReached G starts) W
-  -- 5. 7R + W stretches finish
+  pub moved : r .counts .moved ≤ movedBound (leavingReached G starts) W
+  -- 5. 7R + 4W + 2 stretches finish, and 7R + 4W - 2 do already
   pub finishes : Cut W (stretchBound (leavingReached G starts) W) xs → r .finished ≡ true
+  pub sooner : Cut W (fewestStretches (leavingReached G starts) W) xs → r .finished ≡ true
 
 -- a turn of each of the first k workers, the last one first, naming 0: as bytes of a schedule
 unfoldable pub roundOf : ℕ → List ℕ
@@ -76,7 +85,7 @@ unfolding roundOf
 rounds W zero = []
 rounds W (suc k) = roundOf W ++ rounds W k
 
--- a schedule that clause 5 finishes: 7R + W rounds
+-- a schedule that clause 5 finishes: 7R + 4W + 2 rounds
 unfoldable pub longSchedule : Graph → List ℕ → ℕ → List ℕ
 unfolding rounds leavingReached
 longSchedule G starts W = rounds W (stretchBound (leavingReached G starts) W)

@@ -37,10 +37,10 @@ unfoldable pub naming0 : List ℕ → List ℕ
 naming0 [] = []
 naming0 (b ∷ bs) = b ∷ 0 ∷ naming0 bs
 
--- case A's turns
+-- case A's turns; with the last two, of workers 0 and 1, they end
 unfoldable pub turnsA : List ℕ
 unfolding naming0
-turnsA = naming0 (0 ∷ 1 ∷ 0 ∷ 0 ∷ 0 ∷ 1 ∷ 1 ∷ 0 ∷ 1 ∷ 0 ∷ 0 ∷ 0 ∷ 1 ∷ 0 ∷ 1 ∷ 1 ∷ 0 ∷ 1 ∷ [])
+turnsA = naming0 (0 ∷ 1 ∷ 0 ∷ 0 ∷ 0 ∷ 1 ∷ 1 ∷ 0 ∷ 1 ∷ 0 ∷ 0 ∷ 0 ∷ 1 ∷ 0 ∷ 1 ∷ 1 ∷ 0 ∷ 1 ∷ 0 ∷ 1 ∷ [])
 
 -- no refusal; finished or not, live, followed, handed, refused, moved, carrying
 abbrev pub gives : Bool → ℕ → ℕ → ℕ → ℕ → ℕ → ℕ → Row

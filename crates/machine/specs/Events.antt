@@ -7,7 +7,7 @@ use Rattle.graph.specs.Graph.{Graph}
 use Rattle.machine.specs.Machine.{Setting, State, Entry, Worker, idle, asking, denied, ended, given, busy, turn}
 use Rattle.machine.specs.Sound.{waits}
 
--- marks and workers are as they were
+-- marks and workers are as they were; the token may have been passed
 pub record Same (s s′ : State) : Type 0 where
   pub marks : s′ .marks ≡ s .marks
   pub workers : s′ .workers ≡ s .workers

@@ -1,28 +1,18 @@
--- SPECIFICATION 4.6, the count of workers that carry references: it is that number after every turn, and 0 says that the
--- collection is over.
+-- SPECIFICATION 4.6, the count of workers that carry references: it is that number after every turn. It is reported, and no
+-- turn reads it.
 use mathlib.Core.Path.{_≡_, refl}
 use mathlib.Core.Bool.{true}
-use mathlib.Core.List.{List, [], _∷_, _++_, map}
-use Prim.Native.Nat.{ℕ, _≤_}
+use mathlib.Core.List.{List, [], _∷_, map}
+use Prim.Native.Nat.{ℕ}
 use lib.ListN.{take}
 use Rattle.laws.specs.Sum.{sum}
 use Rattle.graph.specs.Graph.{Graph}
 use Rattle.graph.specs.Chain.{marksAt}
 use Rattle.machine.specs.Row.{Row}
 use Rattle.machine.specs.Run.{carried, keep, rest}
-use Rattle.machine.specs.Machine.{Setting, Entry, Worker, idle, asking, denied, ended, given, busy, worker, carries?, live, startRuns, start, turns, allEnded, entries}
+use Rattle.machine.specs.Machine.{Setting, Entry, carries?, live, startRuns, start, turns, entries}
 use Rattle.machine.specs.Demand2.{outcome}
-use Rattle.machine.specs.Demand3.{entriesOf}
 use Rattle.machine.specs.Drawings.{S, turnsA}
-
--- the turns that a worker needs to end where nobody carries anything: a refusal that waits for it takes one of its own
-abbrev pub needs : Worker → ℕ
-needs idle = 1
-needs asking = 0
-needs denied = 2
-needs ended = 0
-needs (given rs) = 0
-needs (busy c n p rs) = 0
 
 pub record Lamp (G : Graph) (starts : List ℕ) (W : ℕ) (g : Setting) (xs : List Entry) (r : Row) : Type 0 where
   -- before the first turn, and after every one: the number of workers that carry references
@@ -31,16 +21,12 @@ pub record Lamp (G : Graph) (starts : List ℕ) (W : ℕ) (g : Setting) (xs : Li
   pub reported : r .counts .carrying ≡ sum carries? (outcome G starts W g xs .workers)
   -- finished: nobody carries anything
   pub finished-none : r .finished ≡ true → r .counts .carrying ≡ 0
-  -- where nobody carries anything, further turns finish that give each worker those that it needs
-  pub none-finishes : r .counts .carrying ≡ 0 → (ys : List Entry)
-      → ((b : ℕ) → needs (worker (outcome G starts W g xs) b) ≤ entriesOf b ys)
-      → allEnded (outcome G starts W g (xs ++ ys) .workers) ≡ true
 
 -- the count before case A's first turn and after each: the hand-over of its fifth turn counts from that turn on, and taking
 -- it up in the sixth counts nobody again
 pub lamp-A :
     map (λ (k : ℕ). outcome S (0 ∷ []) 2 (record { batch = 1; cutoff = 1 }) (take k (entries turnsA)) .counts .carrying)
-    (0 ∷ 1 ∷ 2 ∷ 3 ∷ 4 ∷ 5 ∷ 6 ∷ 7 ∷ 8 ∷ 9 ∷ 10 ∷ 11 ∷ 12 ∷ 13 ∷ 14 ∷ 15 ∷ 16 ∷ 17 ∷ 18 ∷ [])
-    ≡ 1 ∷ 1 ∷ 1 ∷ 1 ∷ 1 ∷ 2 ∷ 2 ∷ 2 ∷ 2 ∷ 2 ∷ 2 ∷ 2 ∷ 2 ∷ 2 ∷ 1 ∷ 1 ∷ 0 ∷ 0 ∷ 0 ∷ []
+    (0 ∷ 1 ∷ 2 ∷ 3 ∷ 4 ∷ 5 ∷ 6 ∷ 7 ∷ 8 ∷ 9 ∷ 10 ∷ 11 ∷ 12 ∷ 13 ∷ 14 ∷ 15 ∷ 16 ∷ 17 ∷ 18 ∷ 19 ∷ 20 ∷ [])
+    ≡ 1 ∷ 1 ∷ 1 ∷ 1 ∷ 1 ∷ 2 ∷ 2 ∷ 2 ∷ 2 ∷ 2 ∷ 2 ∷ 2 ∷ 2 ∷ 2 ∷ 1 ∷ 1 ∷ 0 ∷ 0 ∷ 0 ∷ 0 ∷ 0 ∷ []
 unfolding turns start entries turnsA live startRuns carried marksAt keep rest
 lamp-A = refl

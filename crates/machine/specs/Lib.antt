@@ -9,6 +9,8 @@ pub mod Limits
 pub mod Machine
 pub mod Move
 pub mod Owners
+pub mod Ring
+pub mod RingDrawing
 pub mod Row
 pub mod Rules
 pub mod Starts

@@ -3,7 +3,7 @@ use Prim.Native.Nat.{ℕ, zero, suc, _+_, _-_, _*_, min}
 use mathlib.Core.Bool.{Bool, true, false}
 use mathlib.Core.List.{List, [], _∷_, _++_}
 use lib.ListN.{length, getD, set, replicate}
-use lib.Dec.{leb, ltb}
+use lib.Dec.{leb, ltb, eqb}
 use Rattle.laws.specs.Blocks.{laid}
 use Rattle.laws.specs.Choice.{both, either}
 use Rattle.laws.specs.Sum.{sum}
@@ -11,6 +11,7 @@ use Rattle.graph.specs.Graph.{Graph, objects, target}
 use Rattle.graph.specs.Chain.{set?, marksAt}
 use Rattle.machine.specs.declared.Counts.{Counts}
 use Rattle.machine.specs.Row.{Row, freshCounts, countMove, countFollow}
+use Rattle.machine.specs.Ring.{Colour, white, black, Ring, colourOf, freshRing, blackened, passedOn}
 use Rattle.machine.specs.Tally.{Tally, tally, noTally, tallied}
 use Rattle.machine.specs.Run.{Run, run, runFrom, carried, leaving, keep, rest, half, pairs}
 
@@ -33,11 +34,12 @@ pub data Worker : Type 0 where
   busy : Cell → ℕ → Phase → List Run → Worker
 
 -- What the turns change: a mark for each object, the workers, the since of each worker that carries nothing, as it was when
--- it last carried something (0 for one that carries), the tally of each worker, and the counts.
+-- it last carried something (0 for one that carries), the token ring, the tally of each worker, and the counts.
 pub record State : Type 0 where
   pub marks : List ℕ
   pub workers : List Worker
   pub rested : List ℕ
+  pub ring : Ring
   pub tallies : List Tally
   pub counts : Counts
 
@@ -71,6 +73,15 @@ carriedBy w = carried (runsOf w)
 -- 1 for a worker that carries references
 abbrev pub carries? : Worker → ℕ
 carries? w = set? (carriedBy w)
+
+-- 1 for a worker that has ended
+abbrev pub stopped : Worker → ℕ
+stopped idle = 0
+stopped asking = 0
+stopped denied = 0
+stopped ended = 1
+stopped (given rs) = 0
+stopped (busy c n p rs) = 0
 
 -- how many references all workers carry
 abbrev pub carriedAll : State → ℕ
@@ -117,11 +128,13 @@ start G starts W =
       marks = marksAt starts (unmarked G);
       workers = withRuns (startRuns G starts (unmarked G)) ∷ replicate (W - 1) idle;
       rested = replicate W 0;
+      ring = freshRing W;
       tallies = replicate W noTally;
       counts = freshCounts (live (marksAt starts (unmarked G))) (carries? (withRuns (startRuns G starts (unmarked G))));
     }
 
--- ---- One turn. A turn that changes something goes through `moves` or `follows`, which count it.
+-- ---- One turn. A turn that changes marks or workers goes through `moves` or `follows`, which count it. One that passes the
+-- token goes through `passes` and is not counted.
 
 -- the state with these workers, and the counts raised by these
 abbrev pub moves : State → List Worker → ℕ → ℕ → State
@@ -130,6 +143,7 @@ moves s ws handed⁺ refused⁺ =
       marks = s .marks;
       workers = ws;
       rested = s .rested;
+      ring = s .ring;
       tallies = s .tallies;
       counts = countMove (s .counts) handed⁺ refused⁺;
     }
@@ -154,10 +168,35 @@ asks (given rs) s b v = s
 asks (busy empty n p rs) s b v = moves s (set (set (s .workers) v (busy (from b) n p rs)) b asking) 0 0
 asks (busy (from a) n p rs) s b v = s
 
--- an idle worker ends if nobody carries anything; the first argument is how many workers carry references
-abbrev pub idleTurn : ℕ → State → ℕ → ℕ → State
-idleTurn zero s b v = becomes s b ended
-idleTurn (suc k) s b v = asks (worker s v) s b v
+-- worker b passes the token on
+abbrev pub passes : State → ℕ → State
+passes s b =
+    record {
+      marks = s .marks;
+      workers = s .workers;
+      rested = s .rested;
+      ring = passedOn (length (s .workers)) b (s .ring);
+      tallies = s .tallies;
+      counts = s .counts;
+    }
+
+-- worker 0 is idle, and the token has come back: where the token and the worker are white, it ends, and the collection with
+-- it; else it sends a white one
+abbrev pub homeTurn : Colour → Colour → State → State
+homeTurn white white s = becomes s 0 ended
+homeTurn white black s = passes s 0
+homeTurn black c s = passes s 0
+
+-- worker b is idle and holds the token: it passes it instead of asking
+abbrev pub holderTurn : ℕ → State → State
+holderTurn zero s = homeTurn (s .ring .token) (colourOf (s .ring) 0) s
+holderTurn (suc b) s = passes s (suc b)
+
+-- an idle worker ends where worker 0 has ended, which the first argument tells; the second is whether it holds the token
+abbrev pub idleTurn : ℕ → Bool → State → ℕ → ℕ → State
+idleTurn (suc k) t s b v = becomes s b ended
+idleTurn zero true s b v = holderTurn b s
+idleTurn zero false s b v = asks (worker s v) s b v
 
 -- a poll shares where more than K are carried, or where since is at least K and at least 2 are carried
 abbrev pub shares : ℕ → ℕ → ℕ → Bool
@@ -173,13 +212,14 @@ giver g n rs =
 abbrev pub receiver : List Run → Worker
 receiver rs = given (rest (half (carried rs)) rs)
 
--- the state as worker b hands over to asker a, before the runs move: b's tally counts it, and a's since is 0
+-- the state as worker b hands over to asker a, before the runs move: b's tally counts it, b is black, and a's since is 0
 abbrev pub handing : State → ℕ → ℕ → State
 handing s b a =
     record {
       marks = s .marks;
       workers = s .workers;
       rested = set (s .rested) a 0;
+      ring = blackened b (s .ring);
       tallies = tallied (s .tallies) b (tally 0 0 0 1);
       counts = s .counts;
     }
@@ -260,6 +300,7 @@ follows s b c n k o rs =
       marks = o .marks;
       workers = dismiss c rs (set (s .workers) b (onward c (suc n) k rs));
       rested = resting rs (s .rested) b (suc n);
+      ring = s .ring;
       tallies = tallied (s .tallies) b (tally 1 (o .won) (o .lost) 0);
       counts = countFollow (s .counts) (o .won) (dismissed c rs) (emptied rs);
     }
@@ -289,7 +330,7 @@ workerTurn ended G g s b v = s
 workerTurn asking G g s b v = s
 workerTurn denied G g s b v = becomes s b idle
 workerTurn (given rs) G g s b v = becomes s b (busy empty 0 poll rs)
-workerTurn idle G g s b v = idleTurn (s .counts .carrying) s b v
+workerTurn idle G g s b v = idleTurn (stopped (worker s 0)) (eqb b (s .ring .holder)) s b v
 workerTurn (busy c n p rs) G g s b v = busyTurn p rs G g s b c n
 
 unfoldable pub turn : Graph → Setting → State → Entry → State

@@ -14,7 +14,8 @@ use Rattle.graph.specs.Leaving.{leavingSum, leavingUnmarked}
 use Rattle.machine.specs.Run.{Run, run, size, carried}
 use Rattle.machine.specs.Machine.{Setting, State, Worker, idle, asking, denied, ended, given, busy, Cell, empty, from, Phase, poll, look, claim}
 use Rattle.machine.specs.Tally.{Tally, noTally}
-use Rattle.machine.specs.Machine.{worker, runsOf, carriedBy, carries?, carriedAll, live}
+use Rattle.machine.specs.Machine.{worker, runsOf, carriedBy, carries?, stopped, carriedAll, live}
+use Rattle.machine.specs.Ring.{blackBelow}
 
 -- object v is marked
 abbrev pub Marked : List ℕ → ℕ → Type 0
@@ -105,15 +106,6 @@ waits ended = 0
 waits (given rs) = 0
 waits (busy c n p rs) = 0
 
--- 1 for a worker that has ended
-abbrev pub stopped : Worker → ℕ
-stopped idle = 0
-stopped asking = 0
-stopped denied = 0
-stopped ended = 1
-stopped (given rs) = 0
-stopped (busy c n p rs) = 0
-
 -- a busy worker's since
 abbrev pub sinceOf : Worker → ℕ
 sinceOf idle = 0
@@ -184,6 +176,13 @@ pub record Sound (G : Graph) (starts : List ℕ) (W : ℕ) (g : Setting) (s : St
   pub cells : (a : ℕ) → sum (holds a) (s .workers) ≡ waits (worker s a)
   -- no worker has ended while references are carried
   pub stopped-empty : 0 < sum stopped (s .workers) → carriedAll s ≡ 0
+  -- each worker has a colour, and one of them holds the token
+  pub colours-length : length (s .ring .colours) ≡ W
+  pub holder-below : s .ring .holder < W
+  -- every worker above the holder carries nothing, unless the token, the holder or a lower one is black
+  pub above-holder : blackBelow (s .ring) ≡ 0 → (b : ℕ) → s .ring .holder < b → carriedBy (worker s b) ≡ 0
+  -- none has ended before worker 0, which then holds the token
+  pub first-ended : 0 < sum stopped (s .workers) → (stopped (worker s 0) ≡ 1) × (s .ring .holder ≡ 0)
   -- a since for each worker; one that carries has it beside its batch
   pub rested-length : length (s .rested) ≡ W
   pub rested-carrying : (b : ℕ) → 0 < carriedBy (worker s b) → getD (s .rested) b 0 ≡ 0

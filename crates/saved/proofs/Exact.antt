@@ -22,8 +22,8 @@ use Rattle.graph.specs.Leaving.{leavingUnmarked}
 use Rattle.graph.proofs.OverMarked.{after-limit}
 use Rattle.machine.specs.Run.{Run, run, carried}
 use Rattle.machine.specs.Tally.{Tally, noTally}
-use Rattle.machine.specs.Machine.{Setting, State, Worker, idle, asking, denied, ended, given, busy, Cell, empty, from, worker, runsOf, carriedBy, carries?, carriedAll, live}
-use Rattle.machine.specs.Sound.{Marked, Within, Whole, WholeButLast, WholeInside, holds, waits, stopped, sinceOf, heldSum, carriedTimes, followedSum, handedSum, wonSum, distinctStarts}
+use Rattle.machine.specs.Machine.{Setting, State, Worker, idle, asking, denied, ended, given, busy, Cell, empty, from, worker, runsOf, carriedBy, carries?, carriedAll, live, stopped}
+use Rattle.machine.specs.Sound.{Marked, Within, Whole, WholeButLast, WholeInside, holds, waits, sinceOf, heldSum, carriedTimes, followedSum, handedSum, wonSum, distinctStarts}
 use Rattle.machine.specs.Demand3.{stretchBound, handedBound}
 use Rattle.machine.proofs.Runs.{within-source}
 use Rattle.saved.specs.Sound.{batchIn, Supplied, SavedSound}

@@ -9,8 +9,8 @@ use Rattle.laws.specs.Sum.{sum, hit}
 use Rattle.graph.specs.Graph.{Graph, Leaves, objects, references, target}
 use Rattle.graph.specs.Leaving.{leavingUnmarked}
 use Rattle.machine.specs.Run.{Run, carried}
-use Rattle.machine.specs.Machine.{Setting, State, Worker, idle, asking, denied, ended, given, busy, worker, runsOf, carriedBy, carries?, carriedAll, live}
-use Rattle.machine.specs.Sound.{Marked, Within, WholeInside, batchOf, holds, waits, stopped, sinceOf, carriedTimes, followedSum, handedSum, wonSum, distinctStarts, tallyOf}
+use Rattle.machine.specs.Machine.{Setting, State, Worker, idle, asking, denied, ended, given, busy, worker, runsOf, carriedBy, carries?, carriedAll, live, stopped}
+use Rattle.machine.specs.Sound.{Marked, Within, WholeInside, batchOf, holds, waits, sinceOf, carriedTimes, followedSum, handedSum, wonSum, distinctStarts, tallyOf}
 use Rattle.machine.specs.Demand3.{stretchBound, handedBound}
 use Rattle.saved.specs.Layout.{savedWords}
 

@@ -12,8 +12,8 @@ use Rattle.graph.specs.Graph.{Graph, objects, references, first, after, target}
 use Rattle.graph.specs.Leaving.{leavingUnmarked}
 use Rattle.machine.specs.Run.{Run, run, carried}
 use Rattle.machine.specs.Tally.{Tally}
-use Rattle.machine.specs.Machine.{Setting, State, Worker, idle, asking, denied, ended, given, busy, Cell, empty, from, worker, runsOf, carriedBy, carries?, carriedAll, live}
-use Rattle.machine.specs.Sound.{holds, waits, stopped, sinceOf, carriedTimes, followedSum, handedSum, wonSum, distinctStarts}
+use Rattle.machine.specs.Machine.{Setting, State, Worker, idle, asking, denied, ended, given, busy, Cell, empty, from, worker, runsOf, carriedBy, carries?, carriedAll, live, stopped}
+use Rattle.machine.specs.Sound.{holds, waits, sinceOf, carriedTimes, followedSum, handedSum, wonSum, distinctStarts}
 use Rattle.machine.specs.Demand3.{stretchBound, handedBound}
 use Rattle.saved.specs.Layout.{savedWords, stateOf}
 use Rattle.saved.specs.Sound.{batchIn}

@@ -14,8 +14,8 @@ use Rattle.laws.proofs.Span.{listing-length, listing-at}
 use Rattle.graph.specs.Chain.{set?}
 use Rattle.machine.specs.Run.{Run, carried}
 use Rattle.machine.specs.Tally.{Tally, noTally}
-use Rattle.machine.specs.Machine.{Worker, ended, worker, runsOf, carriedBy, carries?, carriedAll}
-use Rattle.machine.specs.Sound.{holds, stopped, sinceOf, runsSum, heldSum, carriedTimes, tallyOf}
+use Rattle.machine.specs.Machine.{Worker, ended, worker, runsOf, carriedBy, carries?, carriedAll, stopped}
+use Rattle.machine.specs.Sound.{holds, sinceOf, runsSum, heldSum, carriedTimes, tallyOf}
 use Rattle.saved.specs.Layout.{marks-place, savedLength, workerWord, stretchIn, workerIn, restedIn, tallyIn, stateOf, runsIn}
 use Rattle.validate.specs.Heads.{HeadsSound, endedWords, sinceWords, holders}
 use Rattle.validate.specs.Runs.{runsAt, timesWords, carriedWords, carryingWords}
