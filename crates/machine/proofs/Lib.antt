@@ -6,6 +6,7 @@ pub mod Rested
 pub mod Ring
 pub mod Move
 pub mod Change
+pub mod Colours
 pub mod Step
 pub mod Tallied
 pub mod Kept

@@ -1,7 +1,7 @@
 -- SPECIFICATION 4.4, the token ring (Dijkstra, Feijen, van Gasteren): a token goes round the workers, from each to the next
 -- lower number and from worker 0 to the highest, and tells worker 0 that nobody carries anything any more.
-use Prim.Native.Nat.{ℕ, zero, suc, _+_, _-_}
-use mathlib.Core.List.{List}
+use Prim.Native.Nat.{ℕ, zero, suc, _+_, _-_, _*_}
+use mathlib.Core.List.{List, [], _∷_}
 use lib.ListN.{getD, set, replicate}
 use Rattle.laws.specs.Span.{span}
 
@@ -49,3 +49,8 @@ blackBelow r = shade (r .token) + span (λ (i : ℕ). shade (colourOf r i)) 0 (s
 
 abbrev pub blackAbove : ℕ → Ring → ℕ
 blackAbove W r = span (λ (i : ℕ). shade (colourOf r i)) (suc (r .holder)) (W - suc (r .holder))
+
+-- the black workers as bits of one number, worker 0 the lowest
+unfoldable pub blackSet : List Colour → ℕ
+blackSet [] = 0
+blackSet (c ∷ cs) = shade c + 2 * blackSet cs

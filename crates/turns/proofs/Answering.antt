@@ -25,7 +25,10 @@ use Rattle.worker.proofs.Blocks.{put-stored, puts-stored, store-stored}
 use Rattle.worker.specs.Status.{phaseWord}
 use Rattle.turns.specs.declared.Setup.{Setup}
 use Rattle.turns.specs.declared.Progress.{Progress}
-use Rattle.turns.specs.Counting.{movedOn}
+use Rattle.machine.specs.Ring.{blackened}
+use Rattle.turns.specs.declared.ring.Ring.{Ring as Words}
+use Rattle.turns.specs.Counting.{movedOn, withRing}
+use Rattle.turns.specs.Ringing.{ringOf}
 use Rattle.turns.specs.Polling.{batchedBlock, sharedBlock, givenBlock}
 use Rattle.worker.specs.Stretch.{Sharing}
 use Rattle.turns.specs.Held.{memory, settingOf, stretchAt, nextTarget, topOf, BusyIs, Holds, Scene}
@@ -131,6 +134,7 @@ module _ {G : Graph} {g : Setup} {s : State} {marks work tallies regs : List ℕ
       (h .marks-are)
       (h .tallies-are)
       (moved-counts h 0)
+      (h .ring-is)
       (λ i k. refl)
       tt)
 
@@ -172,6 +176,7 @@ module _ {G : Graph} {g : Setup} {s : State} {marks work tallies regs : List ℕ
         (h .marks-are)
         (h .tallies-are)
         (moved-counts h 1)
+        (h .ring-is)
         (s .rested)
         (λ i k. refl)
         tt
@@ -212,14 +217,14 @@ module _ {G : Graph} {g : Setup} {s : State} {marks work tallies regs : List ℕ
           by [] = refl
           by (run f j ∷ rs) = runs (ltb j k) f j rs k some
 
-      holds-shared-runs : (v : ℕ) (work′ : List ℕ) (kept gave : Top)
+      holds-shared-runs : (v : ℕ) (work′ : List ℕ) (kept gave : Top) {w : Words} → w ≡ ringOf (blackened b (s .ring))
           → Divided (g .stretch) work b a (topOf (blockAt regs b)) (half (carried rs)) work′ kept gave
           → Holds G g (turned g b v G s)
           (memory marks work′ (raisedWords tallies b (tally 0 0 0 1))
           (storeAt (storeAt regs b (sharedBlock (blockAt regs b) (min (g .batch) (half (carried rs))) (half (carried rs)) kept)) a
           (givenBlock gave (carried rs - half (carried rs))))
-          (movedOn p 1 0))
-      holds-shared-runs v work′ kept gave d =
+          (movedOn (withRing p w) 1 0))
+      holds-shared-runs v work′ kept gave r d =
           let k = half (carried rs) in
           let x = dividing k refl in
           let st = store-stored regs b (block-room c h b (poll-low b e) .long) (sharedBlock (blockAt regs b) (min (g .batch) k) k kept) in
@@ -246,6 +251,7 @@ module _ {G : Graph} {g : Setup} {s : State} {marks work tallies regs : List ℕ
           (h .marks-are)
           (raised-held c h b (poll-low b e) (tally 0 0 0 1))
           (shared-counts h b (there c h b (poll-low b e)))
+          r
           (s .rested)
           (λ i k. refl)
           tt
@@ -270,7 +276,7 @@ module _ {G : Graph} {g : Setup} {s : State} {marks work tallies regs : List ℕ
       pub dividing-words : Dividing (g .stretch) work b (blockAt regs b .cell - 1) (topOf (blockAt regs b)) (half (blockAt regs b .carried))
       dividing-words = rw (words .0, words .1) (dividing (half (carried rs)) refl)
 
-      pub holds-shared : (v : ℕ) (work′ : List ℕ) (kept gave : Top)
+      pub holds-shared : (v : ℕ) (work′ : List ℕ) (kept gave : Top) {w : Words} → w ≡ ringOf (blackened b (s .ring))
           → Divided (g .stretch) work b (blockAt regs b .cell - 1) (topOf (blockAt regs b)) (half (blockAt regs b .carried)) work′ kept gave
           → Holds G g (turned g b v G s)
           (memory marks work′ (raisedWords tallies b (tally 0 0 0 1))
@@ -278,9 +284,9 @@ module _ {G : Graph} {g : Setup} {s : State} {marks work tallies regs : List ℕ
           (storeAt regs b (sharedBlock (blockAt regs b) (min (g .batch) (half (blockAt regs b .carried))) (half (blockAt regs b .carried)) kept))
           (blockAt regs b .cell - 1)
           (givenBlock gave (blockAt regs b .carried - half (blockAt regs b .carried))))
-          (movedOn p 1 0))
-      holds-shared v work′ kept gave d =
-          rw (words .0, words .1) (holds-shared-runs v work′ kept gave (rw (words .0, words .1) at d))
+          (movedOn (withRing p w) 1 0))
+      holds-shared v work′ kept gave r d =
+          rw (words .0, words .1) (holds-shared-runs v work′ kept gave r (rw (words .0, words .1) at d))
 
 -- ---- the two kinds of a poll
 

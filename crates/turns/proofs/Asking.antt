@@ -5,11 +5,13 @@ use mathlib.Core.List.{List, [], _∷_}
 use Prim.Native.Nat.{ℕ, zero, suc, _+_, _≤_, _<_}
 use native.Mathlib.Omega.{arith}
 use lib.ListN.{length}
+use lib.Dec.{eqb}
+use borrow.Author.Tests.{eq-eqb, ne-eqb}
 use Rattle.laws.specs.Every.{Every}
 use Rattle.graph.specs.Graph.{Graph, references, target}
-use Rattle.machine.specs.declared.Counts.{Counts}
+use Rattle.machine.specs.Ring.{Colour, white, black, shade, colourOf, passedOn}
 use Rattle.machine.specs.Run.{Run, run}
-use Rattle.machine.specs.Machine.{State, Worker, idle, asking, denied, ended, given, busy, empty, from, Phase, poll, look, claim, worker, runsOf, turn, becomes, asks, idleTurn, workerTurn}
+use Rattle.machine.specs.Machine.{State, Worker, idle, asking, denied, ended, given, busy, empty, from, Phase, poll, look, claim, worker, runsOf, stopped, turn, becomes, passes, asks, homeTurn, holderTurn, idleTurn, workerTurn}
 use Rattle.machine.proofs.Facts.{below-workers, busy-below, busy-some, given-below, given-carries, given-runs-limit, InTargets}
 use Rattle.worker.specs.declared.registers.Block.{Block}
 use Rattle.worker.specs.declared.stretch.Top.{Top}
@@ -19,11 +21,15 @@ use Rattle.worker.proofs.Blocks.{put-stored, store-stored}
 use Rattle.worker.specs.Status.{phaseWord}
 use Rattle.turns.specs.declared.Setup.{Setup}
 use Rattle.turns.specs.declared.Progress.{Progress}
-use Rattle.turns.specs.Counting.{movedOn, endedOne}
+use Rattle.turns.specs.declared.ring.Ring.{Ring as Words}
+use Rattle.turns.specs.Counting.{movedOn, endedOne, withRing}
+use Rattle.turns.specs.Ringing.{ringOf}
 use Rattle.turns.specs.Claiming.{takenBlock}
-use Rattle.turns.specs.Held.{memory, settingOf, stretchAt, nextTarget, topOf, Carrying, BusyIs, BlockIs, Holds, Scene}
-use Rattle.turns.specs.Turned.{turned}
-use Rattle.turns.proofs.Bounds.{block-room, running-at}
+use Rattle.turns.specs.Held.{Memory, memory, settingOf, stretchAt, nextTarget, topOf, Carrying, BusyIs, BlockIs, Holds, Scene}
+use Rattle.turns.specs.Turned.{turned, Ready, IsIdle, IsHolder, IsAsking}
+use Rattle.machine.proofs.Colours.{shade-limit}
+use Rattle.turns.specs.Ringing.{RingAt}
+use Rattle.turns.proofs.Bounds.{block-room, running-at, ring-at}
 use Rattle.turns.proofs.Counting.{moved-counts, ended-counts}
 use Rattle.turns.proofs.Each.{SameBut, all-same, hold-one, hold-two}
 
@@ -32,6 +38,10 @@ pub turn-as : (g : Setup) (b v : ℕ) (G : Graph) (s : State) {w : Worker} → w
     → turned g b v G s ≡ workerTurn w G (settingOf g) s b v
 unfolding turn
 turn-as g b v G s e = rw e
+
+-- the same state, of which something else is known
+abbrev pub told-as : {P Q : Graph → State → Type 0} {g : Setup} {μ : Memory} (x : Ready P g μ) → Q (x .graph) (x .state) → Ready Q g μ
+told-as x q = record { graph = x .graph; state = x .state; scene = x .scene; holds = x .holds; here = q }
 
 -- the first reference of runs, as their top tells it: it is there, and where it leads
 pub first-told : (G : Graph) (rs : List Run) (t : Top) → 0 < length rs → Every (InTargets G) rs → TopIs rs t
@@ -58,6 +68,7 @@ module _ {G : Graph} {g : Setup} {s : State} {marks work tallies regs : List ℕ
       (h .marks-are)
       (h .tallies-are)
       (moved-counts h 0)
+      (h .ring-is)
       (λ i k. refl)
       (rw e at (h .rests b low)))
 
@@ -68,35 +79,77 @@ module _ {G : Graph} {g : Setup} {s : State} {marks work tallies regs : List ℕ
     pub idle-running : 1 ≤ p .running
     idle-running = rw e at (running-at c h b)
 
-    -- it ends
-    ends-as : p .carrying ≡ 0 → turned g b v G s ≡ becomes s b ended
-    ends-as z =
-        turn-as g b v G s e
-        ∙ ap (λ (k : ℕ). idleTurn k s b v) (sym (ap (λ (x : Counts). x .carrying) (h .counts-are)) ∙ z)
+    -- ---- it ends
 
-    pub holds-ended : p .carrying ≡ 0 → Holds G g (turned g b v G s) (memory marks work tallies (putAt regs b 0 3) (endedOne p))
+    pub holds-ended : turned g b v G s ≡ becomes s b ended → Holds G g (turned g b v G s) (memory marks work tallies (putAt regs b 0 3) (endedOne p))
     holds-ended z =
-        rw (ends-as z)
+        rw z
         (hold-one h long b idle-low e ended work (put-stored regs b (block-room c h b idle-low .long) 0 3 (omega arith)) refl (stays b) refl
         (omega (arith, rw e at (running-at c h b))) refl
         (h .marks-are)
         (h .tallies-are)
         (ended-counts h)
+        (h .ring-is)
         (λ i k. refl)
         (rw e at (h .rests b idle-low)))
 
-    -- it asks, by what the named worker is
-    asks-as : p .carrying ≢ 0 → turned g b v G s ≡ asks (worker s v) s b v
-    asks-as n = turn-as g b v G s e ∙ by (s .counts .carrying) (λ z. n (ap (λ (x : Counts). x .carrying) (h .counts-are) ∙ z))
-      where
-        by : (k : ℕ) → k ≢ 0 → idleTurn k s b v ≡ asks (worker s v) s b v
-        by zero q = absurd (q refl)
-        by (suc k) q = refl
+    -- where worker 0 has ended
+    pub ends-behind : stopped (worker s 0) ≡ 1 → turned g b v G s ≡ becomes s b ended
+    ends-behind z = turn-as g b v G s e ∙ ap (λ (k : ℕ). idleTurn k (eqb b (s .ring .holder)) s b v) z
+
+    -- ---- it holds the token
+
+    module _ (going : stopped (worker s 0) ≡ 0) (own : b ≡ s .ring .holder) where
+      holder-as : turned g b v G s ≡ holderTurn b s
+      holder-as = turn-as g b v G s e ∙ rw (going, eq-eqb b (s .ring .holder) own) refl
+
+      -- worker 0 ends where the token and it are white
+      pub ends-home : b ≡ 0 → shade (s .ring .token) + shade (colourOf (s .ring) b) ≡ 0 → turned g b v G s ≡ becomes s b ended
+      ends-home z none = holder-as ∙ rw z (by (s .ring .token) (colourOf (s .ring) 0) (rw z at none))
+        where
+          by : (t d : Colour) → shade t + shade d ≡ 0 → homeTurn t d s ≡ becomes s 0 ended
+          by white white n = refl
+          by white black n = absurd (omega arith)
+          by black d n = absurd (omega arith)
+
+      -- otherwise it passes the token, as any other worker does
+      passes-as : (b ≡ 0 → 0 < shade (s .ring .token) + shade (colourOf (s .ring) b)) → turned g b v G s ≡ passes s b
+      passes-as some = holder-as ∙ by b some
+        where
+          home : (t d : Colour) → 0 < shade t + shade d → homeTurn t d s ≡ passes s 0
+          home white white n = absurd (omega arith)
+          home white black n = refl
+          home black d n = refl
+
+          by : (i : ℕ) → (i ≡ 0 → 0 < shade (s .ring .token) + shade (colourOf (s .ring) i)) → holderTurn i s ≡ passes s i
+          by zero n = home (s .ring .token) (colourOf (s .ring) 0) (n refl)
+          by (suc i) n = refl
+
+      pub holds-passed : (b ≡ 0 → 0 < shade (s .ring .token) + shade (colourOf (s .ring) b)) → {w : Words}
+          → w ≡ ringOf (passedOn (g .workers) b (s .ring)) → Holds G g (turned g b v G s) (memory marks work tallies regs (withRing p w))
+      holds-passed some q =
+          rw (passes-as some)
+          (record {
+            marks-are = h .marks-are;
+            tallies-are = h .tallies-are;
+            counts-are = h .counts-are;
+            running-is = h .running-is;
+            ring-is = q ∙ ap (λ (n : ℕ). ringOf (passedOn n b (s .ring))) (sym long);
+            regs-long = h .regs-long;
+            work-long = h .work-long;
+            each = h .each;
+            rests = h .rests;
+          })
+
+    -- ---- it asks, by what the named worker is
+
+    asks-as : stopped (worker s 0) ≡ 0 → b ≢ s .ring .holder → turned g b v G s ≡ asks (worker s v) s b v
+    asks-as going other = turn-as g b v G s e ∙ rw (going, ne-eqb b (s .ring .holder) other) refl
 
     -- nobody is asked where the named worker is not busy with an empty cell
-    pub holds-still : p .carrying ≢ 0 → ((n : ℕ) (q : Phase) (rs : List Run) → worker s v ≡ busy empty n q rs → ⊥)
+    pub holds-still : stopped (worker s 0) ≡ 0 → b ≢ s .ring .holder → ((n : ℕ) (q : Phase) (rs : List Run) → worker s v ≡ busy empty n q rs → ⊥)
         → Holds G g (turned g b v G s) (memory marks work tallies regs p)
-    holds-still n none = rw (asks-as n ∙ still (worker s v) refl) h
+    holds-still going n none = rw (asks-as going n ∙ still (worker s v) refl) h
       where
         still : (w : Worker) → worker s v ≡ w → asks w s b v ≡ s
         still idle q = refl
@@ -108,16 +161,16 @@ module _ {G : Graph} {g : Setup} {s : State} {marks work tallies regs : List ℕ
         still (busy (from a) n r rs) q = refl
 
     -- it is asked
-    pub holds-asked : p .carrying ≢ 0 → v < g .workers → (n : ℕ) (q : Phase) (rs : List Run) → worker s v ≡ busy empty n q rs
+    pub holds-asked : stopped (worker s 0) ≡ 0 → b ≢ s .ring .holder → v < g .workers → (n : ℕ) (q : Phase) (rs : List Run) → worker s v ≡ busy empty n q rs
         → Holds G g (turned g b v G s) (memory marks work tallies (putAt (putAt regs v 2 (b + 1)) b 0 1) (movedOn p 0 0))
-    holds-asked m lv n q rs f =
+    holds-asked going m lv n q rs f =
         let r = block-room c h v lv in
         let st = put-stored regs v (r .long) 2 (b + 1) (omega arith) in
         let is : BusyIs G empty n q rs (blockAt regs v) (stretchAt (g .stretch) v work) = rw f at (h .each v lv) in
         let other : b ≢ v = λ z.
         omega (arith, ap (λ (w : Worker). length (runsOf w)) (sym e ∙ ap (λ (i : ℕ). worker s i) z ∙ f), busy-some (c .accepted) (c .sound) v f)
         in
-        rw (asks-as m, f)
+        rw (asks-as going m, f)
         (hold-two h long v lv f (busy (from b) n q rs) st b idle-low other e asking work
         (put-stored (putAt regs v 2 (b + 1)) b (rw (st .long) (block-room c h b idle-low .long)) 0 1 (omega arith))
         refl
@@ -136,6 +189,7 @@ module _ {G : Graph} {g : Setup} {s : State} {marks work tallies regs : List ℕ
         (h .marks-are)
         (h .tallies-are)
         (moved-counts h 0)
+        (h .ring-is)
         (s .rested)
         (λ i k. refl)
         tt
@@ -148,6 +202,19 @@ module _ {G : Graph} {g : Setup} {s : State} {marks work tallies regs : List ℕ
   phase-limit poll = omega arith
   phase-limit (look k) = omega arith
   phase-limit (claim k) = omega arith
+
+  -- whether a worker has ended, by its status
+  pub stopped-if : (v : ℕ) → v < g .workers → (blockAt regs v .status ≡ 3 → stopped (worker s v) ≡ 1) × (blockAt regs v .status ≢ 3 → stopped (worker s v) ≡ 0)
+  stopped-if v lv = by (worker s v) (h .each v lv)
+    where
+      by : (w : Worker) → BlockIs G w (blockAt regs v) (stretchAt (g .stretch) v work)
+          → (blockAt regs v .status ≡ 3 → stopped w ≡ 1) × (blockAt regs v .status ≢ 3 → stopped w ≡ 0)
+      by idle t = (λ z. absurd (omega (arith, t, z)), λ z. refl)
+      by asking t = (λ z. absurd (omega (arith, t, z)), λ z. refl)
+      by denied t = (λ z. absurd (omega (arith, t, z)), λ z. refl)
+      by ended t = (λ z. refl, λ z. absurd (z t))
+      by (given rs) t = (λ z. absurd (omega (arith, t .0, z)), λ z. refl)
+      by (busy c n q rs) t = (λ z. absurd (omega (arith, t .status, z, phase-limit q)), λ z. refl)
 
   -- a worker whose status is that of a busy one, with an empty cell
   pub record Free (v : ℕ) : Type 0 where
@@ -214,5 +281,41 @@ module _ {G : Graph} {g : Setup} {s : State} {marks work tallies regs : List ℕ
         (h .marks-are)
         (h .tallies-are)
         (moved-counts h 0)
+        (h .ring-is)
         (λ i k. refl)
         tt)
+
+-- ---- what an idle worker is told of the ring
+
+module _ {g : Setup} {marks work tallies regs : List ℕ} {p : Progress} {b : ℕ} (x : Ready (IsIdle b) g (memory marks work tallies regs p)) where
+  pub first-there : 0 < g .workers
+  first-there = x .scene .accepted .some-worker
+
+  -- worker 0 has ended
+  pub over-here : blockAt regs 0 .status ≡ 3 → stopped (worker (x .state) 0) ≡ 1
+  over-here z = stopped-if (x .scene) (x .holds) 0 first-there .0 z
+
+  pub holder-here : p .ring .holder ≡ x .state .ring .holder
+  holder-here = ap (λ (w : Words). w .holder) (x .holds .ring-is)
+
+  abbrev pub holding : blockAt regs 0 .status ≢ 3 → p .ring .holder ≡ b → Ready (IsHolder b) g (memory marks work tallies regs p)
+  holding z e =
+      told-as x (record { is = x .here; going = stopped-if (x .scene) (x .holds) 0 first-there .1 z; holds = sym e ∙ holder-here })
+
+  abbrev pub asking-here : blockAt regs 0 .status ≢ 3 → p .ring .holder ≢ b → Ready (IsAsking b) g (memory marks work tallies regs p)
+  asking-here z n =
+      told-as x (record { is = x .here; going = stopped-if (x .scene) (x .holds) 0 first-there .1 z; other = λ e. n (holder-here ∙ sym e) })
+
+-- the colours of the token and of worker b, as they are added up
+module _ {g : Setup} {marks work tallies regs : List ℕ} {p : Progress} {b : ℕ} (x : Ready (IsHolder b) g (memory marks work tallies regs p)) where
+  pub holder-low : b < g .workers
+  holder-low = idle-low (x .scene) (x .holds) b 0 (x .here .is)
+
+  abbrev pub holder-ring : RingAt (p .ring) b
+  holder-ring = ring-at (x .scene) (x .holds) b holder-low
+
+  pub token-is : p .ring .token ≡ shade (x .state .ring .token)
+  token-is = ap (λ (w : Words). w .token) (x .holds .ring-is)
+
+  pub both-low : {c : ℕ} → c ≡ shade (colourOf (x .state .ring) b) → p .ring .token + c ≤ 2
+  both-low e = omega (arith, token-is, e, shade-limit (x .state .ring .token), shade-limit (colourOf (x .state .ring) b))

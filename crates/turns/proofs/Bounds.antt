@@ -13,6 +13,7 @@ use Rattle.worker.specs.Registers.{Room}
 use Rattle.turns.specs.declared.Setup.{Setup}
 use Rattle.turns.specs.Counting.{running?, Roomy}
 use Rattle.turns.specs.Held.{Memory, Holds, Scene}
+use Rattle.turns.specs.Ringing.{RingAt}
 
 module _ {G : Graph} {g : Setup} {s : State} (c : Scene G g s) where
   pub workers-limit : g .workers ≤ 16
@@ -46,3 +47,14 @@ module _ {G : Graph} {g : Setup} {s : State} (c : Scene G g s) where
     -- a worker that has not ended counts as running
     pub running-at : (b : ℕ) → running? (worker s b) ≤ μ .progress .running
     running-at b = omega (arith, h .running-is, sum-share running? ended refl (s .workers) b)
+
+    -- the ring is that of a worker below W
+    abbrev pub ring-at : (b : ℕ) → b < g .workers → RingAt (μ .progress .ring) b
+    ring-at b low =
+        let n = c .sound in
+        record {
+          ring = s .ring;
+          words-are = h .ring-is;
+          low = omega (arith, n .colours-length);
+          few = omega (arith, n .colours-length, workers-limit);
+        }

@@ -17,6 +17,7 @@ use Rattle.worker.specs.Registers.{Stored}
 use Rattle.turns.specs.declared.Setup.{Setup}
 use Rattle.turns.specs.declared.Progress.{Progress}
 use Rattle.turns.specs.Counting.{running?, countsOf}
+use Rattle.turns.specs.Ringing.{ringOf}
 use Rattle.turns.specs.Held.{memory, stretchAt, BlockIs, RestIs, Each, Rests, Holds}
 
 -- every stretch but b's is as it was
@@ -60,13 +61,15 @@ module _ {G : Graph} {g : Setup} {s : State} {marks work tallies regs : List ℕ
       → SameBut (g .workers) (g .stretch) b work work′ → BlockIs G w r (stretchAt (g .stretch) b work′)
       → p′ .running + running? x ≡ p .running + running? w
       → {s′ : State} → s′ .workers ≡ set (s .workers) b w → marks′ ≡ s′ .marks → tallies′ ≡ talliesWords (s′ .tallies) → countsOf p′ (s′ .tallies) ≡ s′ .counts
+      → p′ .ring ≡ ringOf (s′ .ring)
       → RestsBut b (s .rested) (s′ .rested) → RestIs w (getD (s′ .rested) b 0) r → Holds G g s′ (memory marks′ work′ tallies′ regs′ p′)
-  hold-one w {r} {marks′} {tallies′} {regs′} work′ {p′} st wl same bl ru {s′} ws ma ta co rb re =
+  hold-one w {r} {marks′} {tallies′} {regs′} work′ {p′} st wl same bl ru {s′} ws ma ta co ri rb re =
       record {
         marks-are = ma;
         tallies-are = ta;
         counts-are = co;
         running-is = rw ws (omega (arith, ru, h .running-is, sum-set running? ended (s .workers) b x w is (omega (arith, long))));
+        ring-is = ri;
         regs-long = st .long ∙ h .regs-long;
         work-long = wl ∙ h .work-long;
         each = rw ws (each-set G (g .workers) (g .stretch) (s .workers) regs work long (h .each) b w work′ st same bl);
@@ -81,14 +84,16 @@ module _ {G : Graph} {g : Setup} {s : State} {marks work tallies regs : List ℕ
       → BlockIs G w r (stretchAt (g .stretch) b work′) → BlockIs G z q (stretchAt (g .stretch) a work′)
       → p′ .running + running? x + running? y ≡ p .running + running? w + running? z
       → {s′ : State} → s′ .workers ≡ set (set (s .workers) b w) a z → marks′ ≡ s′ .marks → tallies′ ≡ talliesWords (s′ .tallies) → countsOf p′ (s′ .tallies) ≡ s′ .counts
+      → p′ .ring ≡ ringOf (s′ .ring)
       → (ns : List ℕ) → RestsBut b (s .rested) ns → RestIs w (getD ns b 0) r → RestsBut a ns (s′ .rested) → RestIs z (getD (s′ .rested) a 0) q
       → Holds G g s′ (memory marks′ work′ tallies′ regs′ p′)
-  hold-two w {r} {regs₁} st a la other {y} iy z {q} {marks′} {tallies′} {regs′} work′ {p′} st′ wl same bl bl′ ru {s′} ws ma ta co ns rb re rb′ re′ =
+  hold-two w {r} {regs₁} st a la other {y} iy z {q} {marks′} {tallies′} {regs′} work′ {p′} st′ wl same bl bl′ ru {s′} ws ma ta co ri ns rb re rb′ re′ =
       record {
         marks-are = ma;
         tallies-are = ta;
         counts-are = co;
         running-is = rw ws (omega (arith, ru, h .running-is, sums, sums′));
+        ring-is = ri;
         regs-long = st′ .long ∙ st .long ∙ h .regs-long;
         work-long = wl ∙ h .work-long;
         each = rw ws each′;

@@ -11,3 +11,4 @@ pub mod Onward
 pub mod Parts
 pub mod Statuses
 pub mod Words
+pub mod Ringing

@@ -139,6 +139,7 @@ module _ {g : Setup} {targets : List ℕ} {b : ℕ} {marks work tallies regs : L
       (x .holds .marks-are)
       (x .holds .tallies-are)
       (moved-counts (x .holds) 0)
+      (x .holds .ring-is)
       (λ i k. refl)
       tt)
 

@@ -287,6 +287,7 @@ module _ {g : Setup} {targets marks′ tallies′ : List ℕ} {o : Opened} {b : 
       (y .marks-are)
       (y .tallies-are)
       (counts 0 0 ∙ sym (on .1 (x .state .counts) (y .found .won)))
+      (x .holds .ring-is)
       (λ i k. ap (λ (ns : List ℕ). getD ns i 0) (on .2 (x .state .rested) (suc (y .since))))
       tt)
 
@@ -327,6 +328,7 @@ module _ {g : Setup} {targets marks′ tallies′ : List ℕ} {o : Opened} {b : 
           (y .marks-are)
           (y .tallies-are)
           (counts 0 1)
+          (x .holds .ring-is)
           (λ i k. getD-set-other (x .state .rested) b i (suc (y .since)) 0 k)
           (last-since l ∙ sym (getD-set-same (x .state .rested) b (suc (y .since)) 0 rested-room)))
       by (from a) e q =
@@ -351,6 +353,7 @@ module _ {g : Setup} {targets marks′ tallies′ : List ℕ} {o : Opened} {b : 
           (y .marks-are)
           (y .tallies-are)
           (counts 1 1)
+          (x .holds .ring-is)
           (set (x .state .rested) b (suc (y .since)))
           (λ j k. getD-set-other (x .state .rested) b j (suc (y .since)) 0 k)
           (last-since l ∙ sym (getD-set-same (x .state .rested) b (suc (y .since)) 0 rested-room))

@@ -1,4 +1,4 @@
--- How far a collection is, by value: what the tallies do not tell of its counts, and how many workers have not ended.
+-- How far a collection is, by value: what the tallies do not tell of its counts, how many workers have not ended, and the ring.
 use Prim.Native.Nat.{ℕ, _+_, _-_, _≤_, _<_, _^_}
 use mathlib.Core.Path.{_≡_}
 use mathlib.Core.List.{List}
@@ -9,6 +9,8 @@ use Rattle.machine.specs.Limits.{most-workers}
 use Rattle.machine.specs.Tally.{Tally, tally-words, tallyWords, talliesWords}
 use Rattle.machine.specs.Machine.{Worker, idle, asking, denied, ended, given, busy}
 use Rattle.turns.specs.declared.Progress.{Progress}
+use Rattle.turns.specs.declared.ring.Ring.{Ring as Words}
+use Rattle.turns.specs.Ringing.{ringWith}
 
 -- 1 for a worker that has not ended
 abbrev pub running? : Worker → ℕ
@@ -59,7 +61,7 @@ pub record Countable (ws : List ℕ) (W : ℕ) (p : Progress) : Type 0 where
 
 -- before the first turn, with so many starts, and workers that carry references
 abbrev pub freshProgress : ℕ → ℕ → ℕ → Progress
-freshProgress starts carrying running = record { starts = starts; refused = 0; moved = 0; carrying = carrying; running = running }
+freshProgress starts carrying running = record { starts = starts; refused = 0; moved = 0; carrying = carrying; running = running; ring = ringWith 0 0 0 }
 
 -- none of the numbers that turns raise is at its end
 pub record Roomy (p : Progress) : Type 0 where
@@ -76,6 +78,7 @@ movedOn p handed⁺ refused⁺ =
       moved = p .moved + 1;
       carrying = p .carrying + handed⁺;
       running = p .running;
+      ring = p .ring;
     }
 
 -- after a worker has ended
@@ -87,6 +90,7 @@ endedOne p =
       moved = p .moved + 1;
       carrying = p .carrying;
       running = p .running - 1;
+      ring = p .ring;
     }
 
 -- after following: so many more refused, and so many workers left with nothing
@@ -98,4 +102,17 @@ followedOn p refused⁺ emptied =
       moved = p .moved + 1;
       carrying = p .carrying - emptied;
       running = p .running;
+      ring = p .ring;
+    }
+
+-- with another ring
+abbrev pub withRing : Progress → Words → Progress
+withRing p r =
+    record {
+      starts = p .starts;
+      refused = p .refused;
+      moved = p .moved;
+      carrying = p .carrying;
+      running = p .running;
+      ring = r;
     }

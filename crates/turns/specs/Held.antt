@@ -19,6 +19,7 @@ use Rattle.worker.specs.Stretch.{topWith, Told}
 use Rattle.turns.specs.declared.Setup.{Setup}
 use Rattle.turns.specs.declared.Progress.{Progress}
 use Rattle.turns.specs.Counting.{running?, countsOf}
+use Rattle.turns.specs.Ringing.{ringOf}
 
 -- what is lent and changed by turns, and what is kept by value
 pub record Memory : Type 0 where
@@ -98,6 +99,7 @@ pub record Holds (G : Graph) (g : Setup) (s : State) (μ : Memory) : Type 0 wher
   pub tallies-are : μ .tallies ≡ talliesWords (s .tallies)
   pub counts-are : countsOf (μ .progress) (s .tallies) ≡ s .counts
   pub running-is : μ .progress .running ≡ sum running? (s .workers)
+  pub ring-is : μ .progress .ring ≡ ringOf (s .ring)
   pub regs-long : length (μ .regs) ≡ block-words * g .workers
   pub work-long : length (μ .work) ≡ g .workers * g .stretch
   pub each : Each G (g .workers) (g .stretch) (s .workers) (μ .regs) (μ .work)

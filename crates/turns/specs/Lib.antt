@@ -4,3 +4,4 @@ pub mod Held
 pub mod Polling
 pub mod Raising
 pub mod Turned
+pub mod Ringing

@@ -8,7 +8,7 @@ use lib.ListN.{length}
 use Rattle.graph.specs.Graph.{Graph, graph, references}
 use Rattle.machine.specs.Run.{Run, run, runFrom, carried, keep, rest}
 use Rattle.machine.specs.Tally.{tally, tallied, talliesWords}
-use Rattle.machine.specs.Machine.{State, idle, given, busy, Cell, from, Phase, poll, look, claim, worker, turn, shares, Claimed, follows, onwardRuns}
+use Rattle.machine.specs.Machine.{State, idle, given, busy, Cell, from, Phase, poll, look, claim, worker, stopped, turn, shares, Claimed, follows, onwardRuns}
 use Rattle.machine.specs.Sound.{batchOf}
 use Rattle.machine.specs.Split.{held}
 use Rattle.machine.specs.declared.frontier.Held.the-variants.{Back}
@@ -42,6 +42,17 @@ DoesAny P g b μ μ′ = (v : ℕ) → Does P g b v μ μ′
 
 abbrev pub IsIdle : ℕ → Graph → State → Type 0
 IsIdle b G s = worker s b ≡ idle
+
+-- while the collection goes on: it holds the token, or does not
+pub record IsHolder (b : ℕ) (G : Graph) (s : State) : Type 0 where
+  pub is : worker s b ≡ idle
+  pub going : stopped (worker s 0) ≡ 0
+  pub holds : b ≡ s .ring .holder
+
+pub record IsAsking (b : ℕ) (G : Graph) (s : State) : Type 0 where
+  pub is : worker s b ≡ idle
+  pub going : stopped (worker s 0) ≡ 0
+  pub other : b ≢ s .ring .holder
 
 -- it is owed a hand-over; the targets are the graph's
 pub record IsGiven (targets : List ℕ) (b : ℕ) (G : Graph) (s : State) : Type 0 where

@@ -1,11 +1,15 @@
 // The counts of a collection: the part that is kept by value and changed by turns, and all of them at
 // the end. What the tallies add up to is not counted twice.
 use crate::Progress;
+use crate::ring;
+use crate::ring::Ring;
 use machine::Counts;
 ghost use mathlib.Core.Path.{_≡_};
 ghost use Prim.Native.Nat.{_≤_};
 ghost use Rattle.laws.specs.Sum.{sum};
-ghost use Rattle.turns.specs.Counting.{freshProgress, Roomy, movedOn, endedOne, followedOn, tallyWord, Summable, Countable, countsOf};
+ghost use Rattle.machine.specs.Ring.{blackened};
+ghost use Rattle.turns.specs.Ringing.{ringOf, RingAt};
+ghost use Rattle.turns.specs.Counting.{freshProgress, Roomy, movedOn, endedOne, followedOn, withRing, tallyWord, Summable, Countable, countsOf};
 
 // Words of a tally by their number.
 pub const FOLLOWED: usize = 0;
@@ -24,6 +28,7 @@ pub fn begun(starts: u64, carrying: u64, running: u64) -> Progress
         moved: 0,
         carrying,
         running,
+        ring: ring::fresh(),
     }
 }
 
@@ -33,12 +38,14 @@ pub fn moved(p: Progress, handed: u64, refused: u64) -> Progress
     requires { ⌜ Roomy p × (handed ≤ 1) × (refused ≤ 1) ⌝ }
     ensures { λ r. ⌜ r ≡ movedOn p handed refused ⌝ }
 {
+    let ring = p.ring;
     Progress {
         starts: p.starts,
         refused: p.refused + refused,
         moved: p.moved + 1,
         carrying: p.carrying + handed,
         running: p.running,
+        ring,
     }
 }
 
@@ -47,12 +54,14 @@ pub fn ended(p: Progress) -> Progress
     requires { ⌜ Roomy p × (1 ≤ p .running) ⌝ }
     ensures { λ r. ⌜ r ≡ endedOne p ⌝ }
 {
+    let ring = p.ring;
     Progress {
         starts: p.starts,
         refused: p.refused,
         moved: p.moved + 1,
         carrying: p.carrying,
         running: p.running - 1,
+        ring,
     }
 }
 
@@ -62,13 +71,38 @@ pub fn followed(p: Progress, refused: u64, emptied: u64) -> Progress
     requires { ⌜ Roomy p × (refused ≤ 1) × (emptied ≤ p .carrying) ⌝ }
     ensures { λ r. ⌜ r ≡ followedOn p refused emptied ⌝ }
 {
+    let ring = p.ring;
     Progress {
         starts: p.starts,
         refused: p.refused + refused,
         moved: p.moved + 1,
         carrying: p.carrying - emptied,
         running: p.running,
+        ring,
     }
+}
+
+// With another ring, and otherwise as it was.
+pub fn ringed(p: Progress, ring: Ring) -> Progress
+    ensures { λ r. ⌜ r ≡ withRing p ring ⌝ }
+{
+    Progress {
+        starts: p.starts,
+        refused: p.refused,
+        moved: p.moved,
+        carrying: p.carrying,
+        running: p.running,
+        ring,
+    }
+}
+
+// After worker b has handed over: its asker carries, and b is black.
+pub fn handed(p: Progress, b: u32) -> Progress
+    requires { ⌜ Roomy p × RingAt (p .ring) b ⌝ }
+    ensures { λ r. ⌜ ((x : RingAt (p .ring) b) → r ≡ movedOn (withRing p (ringOf (blackened b (x .ring)))) 1 0) ⌝ }
+{
+    let ring = ring::blackened(p.ring, b);
+    moved(ringed(p, ring), 1, 0)
 }
 
 // What the tallies' words number k add up to.

@@ -3,7 +3,9 @@ pub mod counts;
 mod follow;
 mod idle;
 mod poll;
+pub mod ring;
 
+use ring::Ring;
 use worker::registers;
 ghost use mathlib.Core.Path.{_≡_};
 ghost use Rattle.machine.specs.Tally.{tally};
@@ -19,8 +21,8 @@ pub struct Setup {
     pub stretch: usize,
 }
 
-// How far a collection is: what its tallies do not tell of its counts, and how many workers have not
-// ended. Words of another width than the registers': the compiler joins the writing of the two where
+// How far a collection is: what its tallies do not tell of its counts, how many workers have not
+// ended, and the token ring. Words of another width than the registers': the compiler joins the writing of the two where
 // they are of one.
 pub struct Progress {
     // The marks that no claim set.
@@ -29,6 +31,7 @@ pub struct Progress {
     pub moved: u64,
     pub carrying: u64,
     pub running: u64,
+    pub ring: Ring,
 }
 
 // Worker b's tally, with so many more followed, won, lost and handed. Where a number is 0, no word is

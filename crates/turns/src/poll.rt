@@ -164,7 +164,8 @@ fn given(t: Top, carried: u32) -> Block
     }
 }
 
-// The worker keeps the first half of its references, rounded up, and the asker gets the rest.
+// The worker keeps the first half of its references, rounded up, and the asker gets the rest. Whoever
+// hands over turns black.
 fn share(
     setup: Setup,
     work: &mut [u32],
@@ -193,7 +194,7 @@ fn share(
     registers::store(regs, b, shared(r, setup.batch, half, parts.kept));
     registers::store(regs, asker, given(parts.given, rest));
     crate::raise(tallies, b, 0, 0, 0, 1);
-    counts::moved(p, 1, 0)
+    counts::handed(p, b)
 }
 
 // The asker is answered no.

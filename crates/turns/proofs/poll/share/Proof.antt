@@ -1,12 +1,12 @@
 -- `share`: the work memory is divided, and both blocks are written.
 use Rattle.turns.proofs.Answering.{poll-low, poll-is, asker-low, asker-word, dividing-words, sharing-words, holds-shared}
 use native.Mathlib.Omega.{arith}
-use mathlib.Core.Path.{ap}
+use mathlib.Core.Path.{refl, ap}
 use Rattle.worker.specs.declared.registers.Block.{Block}
 use Rattle.machine.specs.Run.{carried}
 use Rattle.turns.proofs.Raising.{raisable}
 use Rattle.machine.proofs.Facts.{busy-carried-limit}
-use Rattle.turns.proofs.Bounds.{block-room, roomy}
+use Rattle.turns.proofs.Bounds.{block-room, roomy, ring-at}
 use borrow.Author.Needs.{needs}
 use Rattle.turns.proofs.poll.share.Statement.{statement}
 use Rattle.turns.proofs.poll.share.Tie as tie
@@ -73,11 +73,11 @@ raise-requires c κs =
     let low = poll-low (x .scene) (x .holds) (start .args .b) (x .here .is) in
     raisable (x .scene) (x .holds) (start .args .b) low _ (omega arith) (omega arith) (omega arith) (omega arith)
 
-moved-requires : tie.Need-moved-requires
-moved-requires c κs =
+handed-requires : tie.Need-handed-requires
+handed-requires c κs =
     let start = entry (divided (stored (c .before .before .before))) in
     let x = start .pre .1 .1 in
-    (roomy (x .scene) (x .holds), omega arith, omega arith)
+    (roomy (x .scene) (x .holds), ring-at (x .scene) (x .holds) (start .args .b) (poll-low (x .scene) (x .holds) (start .args .b) (x .here .is)))
 
 returns : tie.Need-returns
 returns c =
@@ -90,11 +90,12 @@ returns c =
     let start = at-divide .before .before .before .before .before .before in
     let d = rw (start .pre .0) at (at-divide .divide .ensures .1) in
     λ marks v x.
-    rw (at-raise .raise .ensures, at-store2 .store2 .ensures, at-store .store .ensures, at-shared .shared .ensures, at-given .given .ensures, c .moved .ensures, start .pre .0)
-    (holds-shared (x .scene) (x .holds) (start .args .b) (x .here .is) (x .here .answers) v _ _ _ d)
+    let r = ring-at (x .scene) (x .holds) (start .args .b) (poll-low (x .scene) (x .holds) (start .args .b) (x .here .is)) in
+    rw (at-raise .raise .ensures, at-store2 .store2 .ensures, at-store .store .ensures, at-shared .shared .ensures, at-given .given .ensures, c .handed .ensures r, start .pre .0)
+    (holds-shared (x .scene) (x .holds) (start .args .b) (x .here .is) (x .here .answers) v _ _ _ refl d)
 
 pub share-spec : {M : Type 1} → statement M
 share-spec =
     tie.close
     (tie.spec sub-asker add-half (λ c. search needs) divide-requires (λ c κs. search needs) store-requires (λ c κs. search needs)
-    store-requires-2 raise-requires moved-requires (λ c. search needs) (λ c. search needs) (λ c. search needs) returns)
+    store-requires-2 raise-requires handed-requires (λ c. search needs) (λ c. search needs) (λ c. search needs) returns)

@@ -1,0 +1,80 @@
+-- `ask`: each way out is one of the laws of Asking.
+use mathlib.Core.Logic.{inl, inr}
+use native.Mathlib.Omega.{arith}
+use Rattle.turns.proofs.Bounds.{block-room, roomy, workers-limit}
+use Rattle.turns.proofs.Asking.{idle-low, holds-still, holds-asked, free-if, not-free, not-there}
+use borrow.Author.Needs.{needs}
+use Rattle.turns.proofs.idle.ask.Statement.{statement}
+use Rattle.turns.proofs.idle.ask.Tie as tie
+
+-- back from where the named worker's block is loaded to the entry
+abbrev entry : tie.After-load → tie.Start
+entry c = c .before .before .before .before
+
+-- back to where it is loaded
+abbrev loaded : tie.After-put-arg → tie.After-load
+loaded c = c .before .before .before
+
+returns : tie.Need-returns
+returns c =
+    let a = c .before .before .args in
+    λ marks work tallies x.
+    holds-still (x .scene) (x .holds) (a .b) (a .v) (x .here .is) (x .here .going) (x .here .other) (not-there (x .scene) (x .holds) (a .v) (c .if1 .taken))
+
+returns-2 : tie.Need-returns-2
+returns-2 c =
+    let at-load = c .before in
+    let a = entry at-load .args in
+    let l = rw (at-load .load .ensures) at (c .if2 .taken) in
+    λ marks work tallies x.
+    holds-still (x .scene) (x .holds) (a .b) (a .v) (x .here .is) (x .here .going) (x .here .other) (not-free (x .scene) (x .holds) (a .v) (inl l))
+
+returns-3 : tie.Need-returns-3
+returns-3 c =
+    let at-load = c .before .before in
+    let a = entry at-load .args in
+    let l = rw (at-load .load .ensures) at (c .if3 .taken) in
+    λ marks work tallies x.
+    holds-still (x .scene) (x .holds) (a .b) (a .v) (x .here .is) (x .here .going) (x .here .other) (not-free (x .scene) (x .holds) (a .v) (inr l))
+
+add-put : tie.Need-add-put
+add-put c =
+    let start = entry (loaded c) in
+    let x = start .pre .1 .1 .1 in
+    omega (arith, idle-low (x .scene) (x .holds) (start .args .b) 0 (x .here .is), workers-limit (x .scene))
+
+put-requires-2 : tie.Need-put-requires-2
+put-requires-2 c κs =
+    let at-put = c .before .before .before in
+    let start = entry (loaded (at-put .before)) in
+    let x = start .pre .1 .1 .1 in
+    let r = block-room (x .scene) (x .holds) (start .args .b) (idle-low (x .scene) (x .holds) (start .args .b) 0 (x .here .is)) in
+    (record { low = r .low; long = omega (arith, r .long, at-put .put .kept .0) }, omega arith)
+
+moved-requires : tie.Need-moved-requires
+moved-requires c κs =
+    let start = entry (loaded (c .before .before .before .before .before .before .before)) in
+    let x = start .pre .1 .1 .1 in
+    (roomy (x .scene) (x .holds), omega arith, omega arith)
+
+returns-4 : tie.Need-returns-4
+returns-4 c =
+    let at-put2 = c .before .before .before in
+    let at-put = at-put2 .before .before .before .before in
+    let at-if3 = at-put .before .before in
+    let at-if2 = at-if3 .before in
+    let at-load = at-if2 .before in
+    let low = at-load .before .before .if1 .left in
+    let a = entry at-load .args in
+    let st = rw (at-load .load .ensures) at (at-if2 .if2 .left) in
+    let ce = rw (at-load .load .ensures) at (at-if3 .if3 .left) in
+    λ marks work tallies x.
+    let f = free-if (x .scene) (x .holds) (a .v) low st ce in
+    rw (at-put2 .put2 .ensures, at-put .put .ensures, c .moved .ensures)
+    (holds-asked (x .scene) (x .holds) (a .b) (a .v) (x .here .is) (x .here .going) (x .here .other) low (f .since) (f .phase) (f .runs) (f .is))
+
+pub ask-spec : {M : Type 1} → statement M
+ask-spec =
+    tie.close
+    (tie.spec returns (λ c κs. search needs) (λ c. search needs) returns-2 (λ c. search needs) returns-3 add-put (λ c κs. search needs)
+    put-requires-2 moved-requires (λ c. search needs) returns-4)
