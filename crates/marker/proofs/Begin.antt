@@ -26,6 +26,8 @@ use Rattle.laws.proofs.Blocks.{laid-replicate}
 use Rattle.machine.specs.Tally.{Tally, noTally, tallyWords, talliesWords}
 use Rattle.turns.specs.declared.Setup.{Setup}
 use Rattle.turns.specs.declared.Progress.{Progress}
+use Rattle.machine.specs.Ring.{freshRing}
+use Rattle.turns.proofs.Ringing.{fresh-words}
 use Rattle.turns.specs.Counting.{running?, countsOf, freshProgress}
 use Rattle.turns.specs.Held.{memory, BlockIs, Holds}
 use Rattle.turns.proofs.Each.{all-same, hold-one}
@@ -108,15 +110,16 @@ module _ {offsets targets starts : List ℕ} {g : Setup} {marks s regs : List �
 
   -- every worker is idle
   idle-holds : (starts k : ℕ) (s : State) → {marks′ tallies : List ℕ} → marks′ ≡ s .marks → tallies ≡ talliesWords (s .tallies) → s .workers ≡ idle ∷ replicate (g .workers - 1) idle
-      → countsOf (freshProgress starts k (g .workers)) (s .tallies) ≡ s .counts → ((b : ℕ) → getD (s .rested) b 0 ≡ 0) → (work : List ℕ) → length work ≡ g .workers * g .stretch
+      → countsOf (freshProgress starts k (g .workers)) (s .tallies) ≡ s .counts → s .ring ≡ freshRing (g .workers) → ((b : ℕ) → getD (s .rested) b 0 ≡ 0) → (work : List ℕ) → length work ≡ g .workers * g .stretch
       → Holds G g s (memory marks′ work tallies regs (freshProgress starts k (g .workers)))
   unfolding sum
-  idle-holds starts k s ma ta ws co rs work long =
+  idle-holds starts k s ma ta ws co ri rs work long =
       record {
         marks-are = ma;
         tallies-are = ta;
         counts-are = co;
         running-is = rw ws (omega (arith, idle-running (g .workers - 1), some-workers));
+        ring-is = rw ri (fresh-words (g .workers));
         regs-long = ap length (x .regs-are) ∙ length-replicate {A = ℕ} (9 * g .workers) 0;
         work-long = long;
         each = λ b h.
@@ -169,13 +172,18 @@ module _ {offsets targets starts : List ℕ} {g : Setup} {marks s regs : List �
     unfolding start
     begin-rested b = none-marked (g .workers) b
 
+    -- the ring is fresh
+    begin-ring : begin offsets targets starts g .ring ≡ freshRing (g .workers)
+    unfolding start
+    begin-ring = refl
+
     -- none has references
     pub begin-none : t .carried ≡ 0 → Started offsets targets starts g marks₂ s₁ regs (freshProgress (t .live) 0 (g .workers))
     unfolding carried sum
     begin-none z work tallies long is zeros =
         let none : runs ≡ [] = no-runs runs (sym (d .carried-is) ∙ z) in
         idle-holds (t .live) 0 (begin offsets targets starts g) begin-marks (begin-tallies zeros) (begin-workers idle (ap withRuns none))
-        (begin-counts 0 (sym (ap (λ (rs : List Run). carries? (withRuns rs)) none))) begin-rested work long
+        (begin-counts 0 (sym (ap (λ (rs : List Run). carries? (withRuns rs)) none))) begin-ring begin-rested work long
 
     module _ (h : t .carried ≢ 0) (sl : length s₁ ≡ length s) where
       some : 0 < length runs
@@ -197,14 +205,15 @@ module _ {offsets targets starts : List ℕ} {g : Setup} {marks s regs : List �
         begin-some regs₁ er work tallies long is zeros =
             let c = countsOf (freshProgress (t .live) 1 (g .workers)) [] in
             let counted : carries? (withRuns runs) ≡ 1 = ap carries? (some-runs runs some) ∙ set-some (carried runs) (omega (arith, d .carried-is, h)) in
-            let s₀ : State = record { marks = []; workers = idle ∷ replicate (g .workers - 1) idle; rested = []; tallies = []; counts = c } in
+            let s₀ : State = record { marks = []; workers = idle ∷ replicate (g .workers - 1) idle; rested = []; ring = freshRing (g .workers); tallies = []; counts = c } in
             let r = firstBlock (t .carried) top (getD targets (top .first) 0) in
             let st : Stored regs 0 r regs₁ = rw er (store-stored regs 0 (first-room .long) r) in
-            hold-one (idle-holds (t .live) 1 s₀ refl refl refl refl (λ b. refl) work long) (ap suc (length-replicate (g .workers - 1) idle) ∙ some-workers) 0
+            hold-one (idle-holds (t .live) 1 s₀ refl refl refl refl refl (λ b. refl) work long) (ap suc (length-replicate (g .workers - 1) idle) ∙ some-workers) 0
             (omega (arith, x .accepted .some-worker)) refl (busy empty 0 poll runs) work st refl (all-same (g .workers) (g .stretch) 0 work)
             (rw is (first-is G runs top s₂ told some (t .carried) (d .carried-is)))
             refl {s′ = begin offsets targets starts g} (begin-workers (busy empty 0 poll runs) (some-runs runs some)) begin-marks
             (begin-tallies zeros)
             (begin-counts 1 (sym counted))
+            (rw begin-ring (fresh-words (g .workers)))
             (λ i k. begin-rested i)
             tt

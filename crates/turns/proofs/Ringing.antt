@@ -6,14 +6,18 @@ use Prim.Native.Nat.{ℕ, zero, suc, _+_, _-_, _*_, _/_, _%_, _^_, _≤_, _<_}
 use native.Mathlib.Omega.{arith}
 use lib.ListN.{length, getD, set, length-set}
 use lib.Pow.{shl-exact, pow-mono}
-use Rattle.machine.specs.Ring.{Colour, white, black, shade, Ring, colourOf, darkened, blackened, passedOn, blackSet}
-use Rattle.machine.proofs.Colours.{shade-limit, set-at, set-limit, set-changed}
+use Rattle.machine.specs.Ring.{Colour, white, black, shade, Ring, colourOf, darkened, freshRing, blackened, passedOn, blackSet}
+use Rattle.machine.proofs.Colours.{shade-limit, set-at, set-limit, set-none, set-changed}
 use Rattle.turns.specs.declared.ring.Ring.{Ring as Words}
 use Rattle.turns.specs.Ringing.{ringWith, ringOf, RingAt}
 
 -- numbers that agree are the same ring's
 pub same-ring : {w v : Words} → w .holder ≡ v .holder → w .token ≡ v .token → w .black ≡ v .black → w ≡ v
 same-ring h t b = rw (h, t, b) refl
+
+-- a fresh ring's
+pub fresh-words : (W : ℕ) → ringWith 0 0 0 ≡ ringOf (freshRing W)
+fresh-words W = same-ring refl refl (sym (set-none W))
 
 -- worker b turns black, or white
 module _ (cs : List Colour) (b : ℕ) (h : b < length cs) where

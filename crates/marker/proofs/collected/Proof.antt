@@ -70,6 +70,13 @@ same-length c =
     let begun = started (clear turned) in
     omega (arith, begun .start .kept .1 .1 .1 .1 .0, turned .take-turns .kept .1 .1 .1 .1 .0)
 
+same-length-2 : tie.Need-same-length-2
+same-length-2 c =
+    let settled = c .before .before .before .before in
+    let turned = turns (settled .before) in
+    let part = clear turned .before .before .before .before .before in
+    omega (arith, settled .settle .kept .1 .0, turned .take-turns .kept .1 .1 .1 .1 .1 .0, part .work .given)
+
 same-length-3 : tie.Need-same-length-3
 same-length-3 c =
     let turned = turns (c .before .before .before .before .before) in
@@ -85,4 +92,4 @@ pub collected-spec : {M : Type 1} → statement M
 collected-spec =
     tie.close
     (tie.spec (λ c. search needs) (λ c. search needs) part-start-end start-requires (λ c κs. search needs) take-turns-requires settle-requires
-    answer-requires same-length (λ c. search needs) same-length-3 same-length-4 returns)
+    answer-requires same-length same-length-2 same-length-3 same-length-4 returns)

@@ -1,5 +1,6 @@
 -- The starts are gathered among marks that are zero; where they have references, worker 0's block tells of them.
 use Rattle.marker.proofs.Begin.{gather-ready, cleared, begin-none, lower-ready, first-inside, first-room, begin-some}
+use native.Mathlib.Omega.{arith}
 use borrow.Author.Needs.{needs}
 use Rattle.marker.proofs.start.start.Statement.{statement}
 use Rattle.marker.proofs.start.start.Tie as tie
@@ -58,9 +59,16 @@ returns-2 c =
     (begin-some (entry (clear gathered) .pre) (clear gathered .clear-marks .kept .0) (gathered .gather .ensures) (some .if1 .left)
     (gathered .gather .kept .1 .1 .1 .0) (low .lower .ensures) _ (store .store .ensures))
 
+same-marks : tie.Need-same-length-3
+same-marks c =
+    let store = c .before .before .before .before in
+    let low = store .before .before .before .before .before in
+    let gathered = gather (low .before .before .before) in
+    omega (arith, clear gathered .clear-marks .kept .0, gathered .gather .kept .1 .1 .0)
+
 pub start-spec : {M : Type 1} → statement M
 start-spec =
     tie.close
     (tie.spec (λ c κs. search needs) gather-requires (λ c. search needs) (λ c. search needs) (λ c κs. search needs) (λ c. search needs)
     (λ c. search needs) returns lower-requires (λ c. search needs) (λ c. search needs) shared-slice-read-t29 store-requires
-    (λ c. search needs) (λ c κs. search needs) (λ c. search needs) (λ c. search needs) (λ c. search needs) returns-2)
+    (λ c. search needs) (λ c κs. search needs) same-marks (λ c. search needs) (λ c. search needs) returns-2)
