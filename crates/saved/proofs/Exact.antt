@@ -20,14 +20,15 @@ use Rattle.graph.specs.Graph.{Graph, Leaves, objects, references, first, after,
 use Rattle.graph.specs.Formed.{Formed}
 use Rattle.graph.specs.Leaving.{leavingUnmarked}
 use Rattle.graph.proofs.OverMarked.{after-limit}
+use Rattle.machine.specs.Ring.{blackBelow}
 use Rattle.machine.specs.Run.{Run, run, carried}
 use Rattle.machine.specs.Tally.{Tally, noTally}
 use Rattle.machine.specs.Machine.{Setting, State, Worker, idle, asking, denied, ended, given, busy, Cell, empty, from, worker, runsOf, carriedBy, carries?, carriedAll, live, stopped}
 use Rattle.machine.specs.Sound.{Marked, Within, Whole, WholeButLast, WholeInside, holds, waits, sinceOf, heldSum, carriedTimes, followedSum, handedSum, wonSum, distinctStarts}
-use Rattle.machine.specs.Demand3.{stretchBound, handedBound}
+use Rattle.machine.specs.Demand3.{movedBound, handedBound}
 use Rattle.machine.proofs.Runs.{within-source}
 use Rattle.saved.specs.Sound.{batchIn, Supplied, SavedSound}
-use Rattle.saved.specs.Test.{marked?, withinAt?, wholeAt?, within?, whole?, wholeButLast?, wholeInside?, leaves?, targetMarked?, supplied?, cellKnown?, claims?, conditions, sound?}
+use Rattle.saved.specs.Test.{marked?, withinAt?, wholeAt?, within?, whole?, wholeButLast?, wholeInside?, leaves?, targetMarked?, supplied?, cellKnown?, claims?, clear?, conditions, sound?}
 
 -- ---- one run
 
@@ -258,6 +259,57 @@ module _ {G : Graph} (F : Formed G) (starts : List ℕ) (W : ℕ) (g : Setting) 
       (λ (p : 0 < carriedBy (worker s b)). either-right (eqb (carriedBy (worker s b)) 0) (eq-eqb (getD (s .rested) b 0) 0 (h b p)))
       (λ (p : ¬ (0 < carriedBy (worker s b))). either-left (eqb (getD (s .rested) b 0) 0) (eq-eqb (carriedBy (worker s b)) 0 (omega arith))))
 
+  -- a worker above the holder
+  above-from : either (ltb 0 (blackBelow (s .ring))) (allUpTo W (clear? s)) ≡ true → blackBelow (s .ring) ≡ 0 → (b : ℕ) → s .ring .holder < b
+      → carriedBy (worker s b) ≡ 0
+  unfolding carried sum
+  above-from h z b l =
+      ⊎-elim
+      (λ (e : ltb 0 (blackBelow (s .ring)) ≡ true). absurd (omega (arith, ltb-true 0 (blackBelow (s .ring)) e)))
+      (λ (e : allUpTo W (clear? s) ≡ true).
+      by-cases (decLt b W)
+      (λ (q : b < W).
+      ⊎-elim
+      (λ (k : leb b (s .ring .holder) ≡ true). absurd (omega (arith, leb-true b (s .ring .holder) k)))
+      (λ (k : eqb (carriedBy (worker s b)) 0 ≡ true). eqb-true (carriedBy (worker s b)) 0 k)
+      (either-true (leb b (s .ring .holder)) (eqb (carriedBy (worker s b)) 0) (up-to-each (clear? s) W e b q)))
+      (λ (q : ¬ (b < W)). ap carriedBy (beyond b (omega arith))))
+      (either-true (ltb 0 (blackBelow (s .ring))) (allUpTo W (clear? s)) h)
+
+  above-to : (blackBelow (s .ring) ≡ 0 → (b : ℕ) → s .ring .holder < b → carriedBy (worker s b) ≡ 0)
+      → either (ltb 0 (blackBelow (s .ring))) (allUpTo W (clear? s)) ≡ true
+  above-to h =
+      by-cases (decLt 0 (blackBelow (s .ring)))
+      (λ (p : 0 < blackBelow (s .ring)). either-left (allUpTo W (clear? s)) (lt-ltb 0 (blackBelow (s .ring)) p))
+      (λ (p : ¬ (0 < blackBelow (s .ring))).
+      either-right (ltb 0 (blackBelow (s .ring)))
+      (each-up-to (clear? s) W
+      (λ (b : ℕ) (q : b < W).
+      by-cases (decLt (s .ring .holder) b)
+      (λ (l : s .ring .holder < b). either-right (leb b (s .ring .holder)) (eq-eqb (carriedBy (worker s b)) 0 (h (omega arith) b l)))
+      (λ (l : ¬ (s .ring .holder < b)). either-left (eqb (carriedBy (worker s b)) 0) (le-leb b (s .ring .holder) (omega arith))))))
+
+  -- worker 0 has ended, with the token, where some have
+  abbrev first? : Bool
+  first? = both (eqb (stopped (worker s 0)) 1) (eqb (s .ring .holder) 0)
+
+  first-from : either (eqb (sum stopped (s .workers)) 0) first? ≡ true → 0 < sum stopped (s .workers) → (stopped (worker s 0) ≡ 1) × (s .ring .holder ≡ 0)
+  first-from h p =
+      ⊎-elim
+      (λ (e : eqb (sum stopped (s .workers)) 0 ≡ true). absurd (omega (arith, eqb-true (sum stopped (s .workers)) 0 e)))
+      (λ (e : first? ≡ true).
+      let t = both-true (eqb (stopped (worker s 0)) 1) (eqb (s .ring .holder) 0) e in
+      (eqb-true (stopped (worker s 0)) 1 (t .0), eqb-true (s .ring .holder) 0 (t .1)))
+      (either-true (eqb (sum stopped (s .workers)) 0) first? h)
+
+  first-to : (0 < sum stopped (s .workers) → (stopped (worker s 0) ≡ 1) × (s .ring .holder ≡ 0)) → either (eqb (sum stopped (s .workers)) 0) first? ≡ true
+  first-to h =
+      by-cases (decLt 0 (sum stopped (s .workers)))
+      (λ (p : 0 < sum stopped (s .workers)).
+      let t = h p in
+      either-right (eqb (sum stopped (s .workers)) 0) (both-is (eq-eqb (stopped (worker s 0)) 1 (t .0)) (eq-eqb (s .ring .holder) 0 (t .1))))
+      (λ (p : ¬ (0 < sum stopped (s .workers))). either-left first? (eq-eqb (sum stopped (s .workers)) 0 (omega arith)))
+
   -- the test says the conditions
   pub from-test : sound? G starts W g s ≡ true → SavedSound G starts W g s
   unfolding sound? conditions all carried sum
@@ -286,6 +338,9 @@ module _ {G : Graph} (F : Formed G) (starts : List ℕ) (W : ℕ) (g : Setting) 
       let t21 = t20 .1 in
       let t22 = t21 .1 in
       let t23 = t22 .1 in
+      let t24 = t23 .1 in
+      let t25 = t24 .1 in
+      let t26 = t25 .1 in
       let within = within-each (t4 .0) in
       record {
         marks-limit = λ (v : ℕ). leb-true (getD (s .marks) v 0) W (all-at (λ (x : ℕ). leb x W) 0 (le-leb 0 W (omega arith)) (s .marks) (t0 .0) v);
@@ -304,7 +359,7 @@ module _ {G : Graph} (F : Formed G) (starts : List ℕ) (W : ℕ) (g : Setting) 
         batch-carried = λ (b : ℕ).
             leb-true (batchIn (worker s b)) (carriedBy (worker s b)) (at-workers (λ (w : Worker). leb (batchIn w) (carriedBy w)) refl (t13 .0) b);
         stopped-empty = stopped-from (t14 .0);
-        moved-limit = leb-true (s .counts .moved) (stretchBound (references G) W) (t15 .0);
+        moved-limit = leb-true (s .counts .moved) (movedBound (references G) W) (t15 .0);
         handed-limit = leb-true (s .counts .handed * g .cutoff) (handedBound (references G)) (t16 .0);
         since-followed = leb-true (sum sinceOf (s .workers) + sum itself (s .rested)) (s .counts .followed) (t17 .0);
         rested-carrying = rested-from (t18 .0);
@@ -314,6 +369,9 @@ module _ {G : Graph} (F : Formed G) (starts : List ℕ) (W : ℕ) (g : Setting) 
         tallies-won = eqb-true (wonSum s + distinctStarts G starts) (s .counts .live) (t22 .0);
         tallies-claims = λ (b : ℕ).
             let y = getD (s .tallies) b noTally in leb-true (y .won + y .lost) (y .followed) (all-at claims? noTally refl (s .tallies) (t23 .0) b);
+        holder-below = ltb-true (s .ring .holder) W (t24 .0);
+        above-holder = above-from (t25 .0);
+        first-ended = first-from (t26 .0);
       }
 
   -- and the conditions the test
@@ -354,7 +412,7 @@ module _ {G : Graph} (F : Formed G) (starts : List ℕ) (W : ℕ) (g : Setting) 
                                   (
                                     stopped-to (S .stopped-empty),
                                     (
-                                      le-leb (s .counts .moved) (stretchBound (references G) W) (S .moved-limit),
+                                      le-leb (s .counts .moved) (movedBound (references G) W) (S .moved-limit),
                                       (
                                         le-leb (s .counts .handed * g .cutoff) (handedBound (references G)) (S .handed-limit),
                                         (
@@ -372,7 +430,10 @@ module _ {G : Graph} (F : Formed G) (starts : List ℕ) (W : ℕ) (g : Setting) 
                                                     (
                                                       at-all claims? noTally (s .tallies)
                                                           (λ (b : ℕ). let y = getD (s .tallies) b noTally in le-leb (y .won + y .lost) (y .followed) (S .tallies-claims b)),
-                                                      tt,
+                                                      (
+                                                        lt-ltb (s .ring .holder) W (S .holder-below),
+                                                        (above-to (S .above-holder), (first-to (S .first-ended), tt)),
+                                                      ),
                                                     ),
                                                   ),
                                                 ),

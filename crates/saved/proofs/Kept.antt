@@ -23,13 +23,13 @@ use Rattle.machine.specs.Machine.{Setting, State, Entry, Worker, idle, asking, 
 use Rattle.machine.specs.Accepted.{Accepted}
 use Rattle.machine.specs.Sound.{Within, WholeInside, Carries, Working, WorkerSound, heldSum, runsSum, Sound}
 use Rattle.machine.specs.Demand2.{outcome}
-use Rattle.machine.specs.Demand3.{stretchBound, handedBound}
+use Rattle.machine.specs.Demand3.{movedBound, handedBound}
 use Rattle.machine.specs.Waiting.{Waits}
 use Rattle.machine.proofs.Facts.{runs-room, runs-within}
 use Rattle.machine.proofs.Demand3.{demand3}
 use Rattle.machine.proofs.Start.{sound, sound-turns}
 use Rattle.machine.proofs.Waiting.{waits-all}
-use Rattle.saved.specs.Layout.{savedWords, savedLength, marks-place, stretches-place, workerIn, restedIn, tallyIn, stateOf}
+use Rattle.saved.specs.Layout.{savedWords, savedLength, marks-place, stretches-place, workerIn, restedIn, colourIn, tallyIn, stateOf}
 use Rattle.saved.specs.Sound.{batchIn, Supplied, SavedSound, SavedRun}
 use Rattle.saved.specs.Test.{sound?, held?, saved?}
 use Rattle.saved.proofs.Exact.{from-test, to-test}
@@ -83,6 +83,10 @@ module _ {G : Graph} {starts : List ℕ} {W : ℕ} {g : Setting} (A : Accepted G
           targets-marked = S .targets-marked;
           cells = S .cells;
           stopped-empty = S .stopped-empty;
+          colours-length = X .colours-length;
+          holder-below = S .holder-below;
+          above-holder = S .above-holder;
+          first-ended = S .first-ended;
           rested-length = X .rested-length;
           rested-carrying = S .rested-carrying;
           since-followed = S .since-followed;
@@ -151,6 +155,7 @@ module _ {G : Graph} {starts : List ℕ} {W : ℕ} {g : Setting} (A : Accepted G
           marks-length = S .marks-length;
           workers-length = S .workers-length;
           rested-length = S .rested-length;
+          colours-length = S .colours-length;
           tallies-length = S .tallies-length;
           room = runs-room A S;
         }
@@ -160,7 +165,7 @@ module _ {G : Graph} {starts : List ℕ} {W : ℕ} {g : Setting} (A : Accepted G
     told-back = state-told shaped supplied (S .rested-carrying)
 
     -- a sound state within the two bounds is saved soundly
-    pub sound-run : s .counts .moved ≤ stretchBound (references G) W → s .counts .handed * g .cutoff ≤ handedBound (references G)
+    pub sound-run : s .counts .moved ≤ movedBound (references G) W → s .counts .handed * g .cutoff ≤ handedBound (references G)
         → SavedRun G starts W g (savedWords (objects G) s) s
     sound-run m h =
         record {
@@ -168,6 +173,7 @@ module _ {G : Graph} {starts : List ℕ} {W : ℕ} {g : Setting} (A : Accepted G
           marks-length = S .marks-length;
           workers-length = S .workers-length;
           rested-length = S .rested-length;
+          colours-length = S .colours-length;
           tallies-length = S .tallies-length;
           sound =
               record {
@@ -194,6 +200,9 @@ module _ {G : Graph} {starts : List ℕ} {W : ℕ} {g : Setting} (A : Accepted G
                 tallies-handed = S .tallies-handed;
                 tallies-won = S .tallies-won;
                 tallies-claims = S .tallies-claims;
+                holder-below = S .holder-below;
+                above-holder = S .above-holder;
+                first-ended = S .first-ended;
               };
         }
 
@@ -231,6 +240,7 @@ module _ {G : Graph} {starts : List ℕ} {W : ℕ} {g : Setting} (A : Accepted G
               length-take-le (objects G) (drop (marks-place W) w) (rw length-drop (omega (arith, long)));
           workers-length = workers-long;
           rested-length = listing-length (restedIn w) 0 W;
+          colours-length = listing-length (colourIn w) 0 W;
           tallies-length = listing-length (tallyIn W w) 0 W;
           sound = from-test (A .formed) starts W g (stateOf (objects G) W w) workers-long (t .1);
         }

@@ -13,13 +13,15 @@ use Rattle.laws.proofs.Blocks.{length-laid, laid-part, laid-at}
 use Rattle.laws.proofs.Span.{listing-is, listing-length}
 use Rattle.machine.specs.declared.Counts.{Counts}
 use Rattle.machine.specs.Row.{countWords}
+use Rattle.machine.specs.Ring.{Colour, white, black, shade, blackSet}
 use Rattle.machine.specs.Run.{Run, run, carried, pairs}
 use Rattle.machine.specs.Tally.{Tally, noTally, tallyWords, talliesWords}
 use Rattle.machine.specs.Machine.{State, Worker, idle, asking, denied, ended, given, busy, Cell, empty, from, Phase, poll, look, claim, worker, runsOf, carriedBy, stretchLength, stretch, memory}
+use Rattle.machine.proofs.Colours.{set-at}
 use Rattle.machine.proofs.Runs.{length-carried}
 use Rattle.worker.proofs.Pairs.{length-pairs}
-use Rattle.saved.specs.Layout.{saved-form, twoWords, workerWords, workersWords, savedWords, workers-place, worker-words, tallies-place, marks-place, stretches-place, savedLength}
-use Rattle.saved.specs.Layout.{numberAt, runsIn, cellFrom, workerFrom, restedFrom, workerWord, stretchIn, workerIn, restedIn, tallyNumber, tallyIn, countIn, countsIn, stateOf}
+use Rattle.saved.specs.Layout.{saved-form, twoWords, ringWords, workerWords, workersWords, savedWords, workers-place, worker-words, tallies-place, marks-place, stretches-place, savedLength}
+use Rattle.saved.specs.Layout.{numberAt, runsIn, cellFrom, workerFrom, restedFrom, workerWord, stretchIn, workerIn, restedIn, tallyNumber, tallyIn, countIn, countsIn, colourFrom, ringIn, stateOf}
 use Rattle.saved.specs.Sound.{Supplied}
 
 -- ---- numbers
@@ -120,6 +122,11 @@ rested-told (busy c k poll rs) n t h = sym (h (omega (arith, t, length-carried r
 rested-told (busy c k (look j) rs) n t h = sym (h (omega (arith, t, length-carried rs)))
 rested-told (busy c k (claim j) rs) n t h = sym (h (omega (arith, t, length-carried rs)))
 
+-- a colour by its number
+colour-back : (c : Colour) → colourFrom (shade c) ≡ c
+colour-back white = refl
+colour-back black = refl
+
 -- ---- the state
 
 -- so many objects and workers, and stretches that hold the runs
@@ -127,13 +134,14 @@ pub record Shaped (n W : ℕ) (s : State) : Type 0 where
   pub marks-length : length (s .marks) ≡ n
   pub workers-length : length (s .workers) ≡ W
   pub rested-length : length (s .rested) ≡ W
+  pub colours-length : length (s .ring .colours) ≡ W
   pub tallies-length : length (s .tallies) ≡ W
   pub room : (b : ℕ) → length (runsOf (worker s b)) ≤ suc n
 
 module _ {n W : ℕ} {s : State} (X : Shaped n W s) where
   -- the parts
   abbrev A₀ : List ℕ
-  A₀ = saved-form ∷ laid twoWords (countWords (s .counts))
+  A₀ = saved-form ∷ (laid twoWords (countWords (s .counts)) ++ ringWords (s .ring))
 
   abbrev A₁ : List ℕ
   A₁ = workersWords (s .workers) (s .rested)
@@ -172,6 +180,7 @@ module _ {n W : ℕ} {s : State} (X : Shaped n W s) where
       ∙ ap (λ (m : ℕ). m * stretchLength n) (X .workers-length)
 
   pub saved-length : length (savedWords n s) ≡ savedLength n W
+  unfolding laid
   saved-length =
       rw (parts, length-append, length-append, length-append, length-append)
       (omega (arith, counts-long, workers-long, tallies-long, X .marks-length, stretches-long))
@@ -226,8 +235,25 @@ module _ {n W : ℕ} {s : State} (X : Shaped n W s) where
   unfolding savedWords laid
   counts-told = refl
 
+  -- the words of the ring
+  pub ring-words-told : take 3 (drop 13 (savedWords n s)) ≡ ringWords (s .ring)
+  unfolding savedWords laid
+  ring-words-told = refl
+
+  ring-back : ringIn W (savedWords n s) ≡ s .ring
+  unfolding savedWords laid
+  ring-back =
+      let r = s .ring in
+      rw (
+        colour-back (r .token),
+        listing-is (λ (b : ℕ). colourFrom (blackSet (r .colours) / 2 ^ b % 2)) white 0 W (r .colours) (X .colours-length)
+            (λ (b : ℕ) (h : b < W). rw (zero-add b, set-at (r .colours) b) (colour-back (getD (r .colours) b white))),
+      )
+      refl
+
   -- the marks
   pub marks-told : take n (drop (marks-place W) (savedWords n s)) ≡ s .marks
+  unfolding laid
   marks-told =
       let head = A₀ ++ (A₁ ++ A₂) in
       let e : savedWords n s ≡ head ++ (s .marks ++ A₄) = parts ∙ simp append-assoc in
@@ -247,6 +273,7 @@ module _ {n W : ℕ} {s : State} (X : Shaped n W s) where
 
   -- all stretches, laid end to end
   pub stretches-told : drop (stretches-place n W) (savedWords n s) ≡ memory n (s .workers)
+  unfolding laid
   stretches-told =
       let head = A₀ ++ (A₁ ++ (A₂ ++ s .marks)) in
       let e : savedWords n s ≡ head ++ A₄ = parts ∙ simp append-assoc in
@@ -287,6 +314,7 @@ module _ {n W : ℕ} {s : State} (X : Shaped n W s) where
           marks-told,
           listing-is (workerIn n W (savedWords n s)) ended 0 W (s .workers) (X .workers-length) worker-back,
           listing-is (restedIn (savedWords n s)) 0 0 W (s .rested) (X .rested-length) rested-back,
+          ring-back,
           listing-is (tallyIn W (savedWords n s)) noTally 0 W (s .tallies) (X .tallies-length) tally-back,
           count-told,
         )

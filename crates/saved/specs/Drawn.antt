@@ -10,6 +10,7 @@ use Rattle.laws.specs.Sum.{sum, hit}
 use Rattle.laws.specs.Test.{all, allUpTo, someUpTo, same}
 use Rattle.graph.specs.Graph.{rising, allBelow, wellFormed}
 use Rattle.graph.specs.Chain.{marksAt, overMarked}
+use Rattle.machine.specs.Ring.{blackSet}
 use Rattle.machine.specs.Run.{carried, keep, rest, pairs}
 use Rattle.machine.specs.Tally.{talliesWords}
 use Rattle.machine.specs.Machine.{Setting, State, start, startRuns, turns, entries, live, stretch, memory}
@@ -34,16 +35,16 @@ wordsA k = savedWords 6 (afterA k)
 
 -- so many bytes of the schedule
 abbrev pub moments : List ℕ
-moments = 0 ∷ 8 ∷ 10 ∷ 12 ∷ 20 ∷ 28 ∷ 36 ∷ []
+moments = 0 ∷ 8 ∷ 10 ∷ 12 ∷ 20 ∷ 28 ∷ 36 ∷ 40 ∷ []
 
 -- what is saved there is sound
-pub sound-A : map (λ (k : ℕ). saved? S (0 ∷ []) 2 one (wordsA k)) moments ≡ true ∷ true ∷ true ∷ true ∷ true ∷ true ∷ true ∷ []
-unfolding saved? held? sound? conditions wholeButLast? savedWords workersWords stateOf listing runsIn laid span sum hit all allUpTo someUpTo same marksAt overMarked carried keep rest pairs talliesWords start startRuns turns entries live stretch memory runsSum turnsA
+pub sound-A : map (λ (k : ℕ). saved? S (0 ∷ []) 2 one (wordsA k)) moments ≡ true ∷ true ∷ true ∷ true ∷ true ∷ true ∷ true ∷ true ∷ []
+unfolding saved? held? sound? conditions wholeButLast? savedWords workersWords stateOf listing runsIn laid span sum hit all allUpTo someUpTo same marksAt overMarked carried keep rest pairs talliesWords blackSet start startRuns turns entries live stretch memory runsSum turnsA
 sound-A = refl
 
--- no words hold a state that are all zero, and none whose form is another
-pub none-A : saved? S (0 ∷ []) 2 one (set (wordsA 10) 0 0) ∷ saved? S (0 ∷ []) 2 one (set (wordsA 10) 0 2) ∷ [] ≡ false ∷ false ∷ []
-unfolding saved? held? sound? conditions wholeButLast? savedWords workersWords stateOf listing runsIn laid span sum hit all allUpTo someUpTo same marksAt overMarked carried keep rest pairs talliesWords start startRuns turns entries live stretch memory runsSum turnsA
+-- no words hold a state whose form is 0, and none whose form is that before there was a ring
+pub none-A : saved? S (0 ∷ []) 2 one (set (wordsA 10) 0 0) ∷ saved? S (0 ∷ []) 2 one (set (wordsA 10) 0 1) ∷ [] ≡ false ∷ false ∷ []
+unfolding saved? held? sound? conditions wholeButLast? savedWords workersWords stateOf listing runsIn laid span sum hit all allUpTo someUpTo same marksAt overMarked carried keep rest pairs talliesWords blackSet start startRuns turns entries live stretch memory runsSum turnsA
 none-A = refl
 
 -- case A's call with another schedule
@@ -52,11 +53,11 @@ callA schedule = record { offsets = S .offsets; targets = S .targets; starts = 0
 
 -- words that hold nothing beside a schedule of odd length: 9; beside one that fits: 14; the words of case A's fifth turn: no fault
 pub faults-A :
-    resumeFault (callA (0 ∷ [])) 6 32 8 (replicate 75 0)
-    ∷ resumeFault (callA []) 6 32 8 (replicate 75 0)
+    resumeFault (callA (0 ∷ [])) 6 32 8 (replicate 78 0)
+    ∷ resumeFault (callA []) 6 32 8 (replicate 78 0)
     ∷ resumeFault (callA []) 6 32 8 (wordsA 10)
-    ∷ resumeFault (callA []) 6 32 8 (replicate 74 0)
+    ∷ resumeFault (callA []) 6 32 8 (replicate 77 0)
     ∷ []
     ≡ 9 ∷ 14 ∷ 0 ∷ 7 ∷ []
-unfolding resumeFault beginFault wellFormed rising allBelow scheduleFits saved? held? sound? conditions wholeButLast? savedWords workersWords stateOf listing runsIn laid span sum hit all allUpTo someUpTo same marksAt overMarked carried keep rest pairs talliesWords start startRuns turns entries live stretch memory runsSum turnsA
+unfolding resumeFault beginFault wellFormed rising allBelow scheduleFits saved? held? sound? conditions wholeButLast? savedWords workersWords stateOf listing runsIn laid span sum hit all allUpTo someUpTo same marksAt overMarked carried keep rest pairs talliesWords blackSet start startRuns turns entries live stretch memory runsSum turnsA
 faults-A = refl

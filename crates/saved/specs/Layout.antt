@@ -1,5 +1,6 @@
--- SPECIFICATION 8.1: a collection that was stopped, as words of 32 bits. In order: the number of the form; the counts; status,
--- cell, since and batch of each worker; the tallies; the marks; each worker's stretch. Counts and tallies take two words each.
+-- SPECIFICATION 8.1: a collection that was stopped, as words of 32 bits. In order: the number of the form; the counts; the token
+-- ring; status, cell, since and batch of each worker; the tallies; the marks; each worker's stretch. Counts and tallies take two
+-- words each.
 use Prim.Native.Nat.{ℕ, zero, suc, _+_, _-_, _*_, _/_, _%_, _^_}
 use mathlib.Core.List.{List, [], _∷_, _++_}
 use lib.ListN.{getD, take, drop}
@@ -9,6 +10,7 @@ use Rattle.laws.specs.Choice.{pick}
 use Rattle.laws.specs.Span.{listing}
 use Rattle.machine.specs.declared.Counts.{Counts}
 use Rattle.machine.specs.Row.{counts-number, countWords}
+use Rattle.machine.specs.Ring.{Colour, white, black, shade, Ring, blackSet}
 use Rattle.machine.specs.Run.{Run, run, carried}
 use Rattle.machine.specs.Tally.{Tally, tally, tally-words, talliesWords}
 use Rattle.machine.specs.Machine.{State, Worker, idle, asking, denied, ended, given, busy, Cell, empty, from, Phase, poll, look, claim, stretchLength, memory}
@@ -16,15 +18,19 @@ use Rattle.machine.specs.Sound.{batchOf}
 use Rattle.worker.specs.Registers.{status-idle, status-asking, status-denied, status-ended, status-given, status-poll, status-look, status-claim}
 use Rattle.worker.specs.Status.{cellWord, phaseWord}
 
--- the first word of a saved collection
+-- the first word of a saved collection; it was 1 before there was a ring
 abbrev pub saved-form : ℕ
-saved-form = 1
+saved-form = 2
 
 -- ---- from a state to words
 
 -- a number as two words, the low one first
 abbrev pub twoWords : ℕ → List ℕ
 twoWords x = x % 2 ^ 32 ∷ x / 2 ^ 32 ∷ []
+
+-- the holder, the token's colour, and the black workers as bits
+abbrev pub ringWords : Ring → List ℕ
+ringWords r = r .holder ∷ shade (r .token) ∷ blackSet (r .colours) ∷ []
 
 -- status, cell, since and batch of a worker; n is the since of one that is not busy
 abbrev pub workerWords : Worker → ℕ → List ℕ
@@ -42,9 +48,9 @@ workersWords (w ∷ ws) ns = workerWords w (getD ns 0 0) ++ workersWords ws (dro
 
 -- the words of a state of a store with n objects
 unfoldable pub savedWords : ℕ → State → List ℕ
-unfolding laid workersWords talliesWords memory
+unfolding laid workersWords talliesWords memory blackSet
 savedWords n s =
-    (saved-form ∷ laid twoWords (countWords (s .counts)))
+    (saved-form ∷ (laid twoWords (countWords (s .counts)) ++ ringWords (s .ring)))
     ++ (workersWords (s .workers) (s .rested)
     ++ (laid twoWords (talliesWords (s .tallies))
     ++ (s .marks
@@ -55,8 +61,15 @@ savedWords n s =
 abbrev pub counts-place : ℕ
 counts-place = 1
 
+abbrev pub ring-place : ℕ
+ring-place = counts-place + 2 * counts-number
+
+-- the words of the ring
+abbrev pub ring-words : ℕ
+ring-words = 3
+
 abbrev pub workers-place : ℕ
-workers-place = counts-place + 2 * counts-number
+workers-place = ring-place + ring-words
 
 -- the words of one worker
 abbrev pub worker-words : ℕ
@@ -144,6 +157,19 @@ countsIn w =
       carrying = countIn w 5;
     }
 
+-- a colour by its number
+abbrev pub colourFrom : ℕ → Colour
+colourFrom zero = white
+colourFrom (suc k) = black
+
+-- the colour of worker b, by the bit of the black ones
+abbrev pub colourIn : List ℕ → ℕ → Colour
+colourIn w b = colourFrom (getD w (ring-place + 2) 0 / 2 ^ b % 2)
+
+abbrev pub ringIn : ℕ → List ℕ → Ring
+ringIn W w =
+    record { holder = getD w ring-place 0; token = colourFrom (getD w (ring-place + 1) 0); colours = listing (colourIn w) 0 W }
+
 -- what the words say, whether they hold a state or not
 unfoldable pub stateOf : ℕ → ℕ → List ℕ → State
 unfolding listing runsIn
@@ -152,6 +178,7 @@ stateOf n W w =
       marks = take n (drop (marks-place W) w);
       workers = listing (workerIn n W w) 0 W;
       rested = listing (restedIn w) 0 W;
+      ring = ringIn W w;
       tallies = listing (tallyIn W w) 0 W;
       counts = countsIn w;
     }

@@ -8,10 +8,11 @@ use Rattle.laws.specs.Grouping.{itself}
 use Rattle.laws.specs.Sum.{sum, hit}
 use Rattle.graph.specs.Graph.{Graph, Leaves, objects, references, target}
 use Rattle.graph.specs.Leaving.{leavingUnmarked}
+use Rattle.machine.specs.Ring.{blackBelow}
 use Rattle.machine.specs.Run.{Run, carried}
 use Rattle.machine.specs.Machine.{Setting, State, Worker, idle, asking, denied, ended, given, busy, worker, runsOf, carriedBy, carries?, carriedAll, live, stopped}
 use Rattle.machine.specs.Sound.{Marked, Within, WholeInside, batchOf, holds, waits, sinceOf, carriedTimes, followedSum, handedSum, wonSum, distinctStarts, tallyOf}
-use Rattle.machine.specs.Demand3.{stretchBound, handedBound}
+use Rattle.machine.specs.Demand3.{movedBound, handedBound}
 use Rattle.saved.specs.Layout.{savedWords}
 
 -- a worker's batch; one that is not busy has none
@@ -58,7 +59,7 @@ pub record SavedSound (G : Graph) (starts : List ℕ) (W : ℕ) (g : Setting) (s
   -- no worker has ended while references are carried
   pub stopped-empty : 0 < sum stopped (s .workers) → carriedAll s ≡ 0
   -- moved and handed keep the bounds of demand 3 with m for R
-  pub moved-limit : s .counts .moved ≤ stretchBound (references G) W
+  pub moved-limit : s .counts .moved ≤ movedBound (references G) W
   pub handed-limit : s .counts .handed * g .cutoff ≤ handedBound (references G)
   -- the sinces, of busy workers and of those that carry nothing, sum to at most followed; one owed a hand-over has since 0
   pub since-followed : sum sinceOf (s .workers) + sum itself (s .rested) ≤ s .counts .followed
@@ -69,6 +70,11 @@ pub record SavedSound (G : Graph) (starts : List ℕ) (W : ℕ) (g : Setting) (s
   pub tallies-handed : handedSum s ≡ s .counts .handed
   pub tallies-won : wonSum s + distinctStarts G starts ≡ s .counts .live
   pub tallies-claims : (b : ℕ) → tallyOf s b .won + tallyOf s b .lost ≤ tallyOf s b .followed
+  -- the token is at exactly one worker; every worker above that one carries nothing, unless the token, that worker or a lower one
+  -- is black; none has ended before worker 0, which then holds it
+  pub holder-below : s .ring .holder < W
+  pub above-holder : blackBelow (s .ring) ≡ 0 → (b : ℕ) → s .ring .holder < b → carriedBy (worker s b) ≡ 0
+  pub first-ended : 0 < sum stopped (s .workers) → (stopped (worker s 0) ≡ 1) × (s .ring .holder ≡ 0)
 
 -- the words w hold the state s of W workers, and it is sound
 pub record SavedRun (G : Graph) (starts : List ℕ) (W : ℕ) (g : Setting) (w : List ℕ) (s : State) : Type 0 where
@@ -76,5 +82,6 @@ pub record SavedRun (G : Graph) (starts : List ℕ) (W : ℕ) (g : Setting) (w :
   pub marks-length : length (s .marks) ≡ objects G
   pub workers-length : length (s .workers) ≡ W
   pub rested-length : length (s .rested) ≡ W
+  pub colours-length : length (s .ring .colours) ≡ W
   pub tallies-length : length (s .tallies) ≡ W
   pub sound : SavedSound G starts W g s

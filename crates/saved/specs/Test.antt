@@ -6,15 +6,17 @@ use lib.ListN.{length, getD}
 use lib.Dec.{leb, ltb, eqb}
 use Rattle.laws.specs.Choice.{both, either}
 use Rattle.laws.specs.Grouping.{itself}
+use Rattle.laws.specs.Span.{span}
 use Rattle.laws.specs.Sum.{sum}
 use Rattle.laws.specs.Test.{all, allUpTo, someUpTo, same}
 use Rattle.graph.specs.Graph.{Graph, objects, references, first, after, target}
 use Rattle.graph.specs.Leaving.{leavingUnmarked}
+use Rattle.machine.specs.Ring.{blackBelow}
 use Rattle.machine.specs.Run.{Run, run, carried}
 use Rattle.machine.specs.Tally.{Tally}
 use Rattle.machine.specs.Machine.{Setting, State, Worker, idle, asking, denied, ended, given, busy, Cell, empty, from, worker, runsOf, carriedBy, carries?, carriedAll, live, stopped}
 use Rattle.machine.specs.Sound.{holds, waits, sinceOf, carriedTimes, followedSum, handedSum, wonSum, distinctStarts}
-use Rattle.machine.specs.Demand3.{stretchBound, handedBound}
+use Rattle.machine.specs.Demand3.{movedBound, handedBound}
 use Rattle.saved.specs.Layout.{savedWords, stateOf}
 use Rattle.saved.specs.Sound.{batchIn}
 
@@ -82,9 +84,13 @@ cellKnown? W (busy (from a) n p rs) = ltb a W
 abbrev pub claims? : Tally → Bool
 claims? t = leb (t .won + t .lost) (t .followed)
 
+-- worker b is not above the holder, or carries nothing
+abbrev pub clear? : State → ℕ → Bool
+clear? s b = either (leb b (s .ring .holder)) (eqb (carriedBy (worker s b)) 0)
+
 -- the conditions, in their order
 unfoldable pub conditions : Graph → List ℕ → ℕ → Setting → State → List Bool
-unfolding all allUpTo someUpTo wholeButLast? sum
+unfolding all allUpTo someUpTo wholeButLast? sum span
 conditions G starts W g s =
     all (λ (x : ℕ). leb x W) (s .marks)
     ∷ all (marked? (s .marks)) starts
@@ -101,7 +107,7 @@ conditions G starts W g s =
     ∷ all (λ (w : Worker). leb (batchIn w) (g .batch)) (s .workers)
     ∷ all (λ (w : Worker). leb (batchIn w) (carriedBy w)) (s .workers)
     ∷ either (eqb (sum stopped (s .workers)) 0) (eqb (carriedAll s) 0)
-    ∷ leb (s .counts .moved) (stretchBound (references G) W)
+    ∷ leb (s .counts .moved) (movedBound (references G) W)
     ∷ leb (s .counts .handed * g .cutoff) (handedBound (references G))
     ∷ leb (sum sinceOf (s .workers) + sum itself (s .rested)) (s .counts .followed)
     ∷ allUpTo W (λ (b : ℕ). either (eqb (carriedBy (worker s b)) 0) (eqb (getD (s .rested) b 0) 0))
@@ -110,6 +116,9 @@ conditions G starts W g s =
     ∷ eqb (handedSum s) (s .counts .handed)
     ∷ eqb (wonSum s + distinctStarts G starts) (s .counts .live)
     ∷ all claims? (s .tallies)
+    ∷ ltb (s .ring .holder) W
+    ∷ either (ltb 0 (blackBelow (s .ring))) (allUpTo W (clear? s))
+    ∷ either (eqb (sum stopped (s .workers)) 0) (both (eqb (stopped (worker s 0)) 1) (eqb (s .ring .holder) 0))
     ∷ []
 
 -- they all hold
