@@ -2,11 +2,10 @@
 use mathlib.Core.Path.{_≡_, refl, sym}
 use Prim.Native.Nat.{ℕ, zero, suc, _+_, _-_, _*_, _≤_, _<_}
 use native.Mathlib.Nat.{zero-add}
-use native.Mathlib.Numerals.{add-one}
 use native.Mathlib.Omega.{arith}
 use Rattle.laws.specs.Span.{span, listing}
 use Rattle.laws.specs.Sum.{sum, hit}
-use Rattle.laws.proofs.Span.{span-add}
+use Rattle.laws.proofs.Span.{span-add, span-agree-from}
 use Rattle.laws.proofs.Sum.{hit-same, hit-other}
 
 module _ (g : ℕ → ℕ) where
@@ -38,16 +37,7 @@ span-plus g h f (suc k) = omega (arith, span-plus g h (suc f) k)
 
 -- two weights that agree on the numbers
 pub span-agree : (g h : ℕ → ℕ) (k : ℕ) → ((i : ℕ) → i < k → g i ≡ h i) → span g 0 k ≡ span h 0 k
-unfolding span
-span-agree g h zero e = refl
-span-agree g h (suc k) e =
-    omega (
-      arith,
-      rw add-one at (span-next g k),
-      rw add-one at (span-next h k),
-      e k (omega arith),
-      span-agree g h k (λ i q. e i (omega arith)),
-    )
+span-agree g h k e = span-agree-from g h 0 k (λ (i : ℕ) (l : 0 ≤ i) (u : i < 0 + k). e i (omega arith))
 
 -- one more number is k, or it is not
 pub hit-counts : (n k x : ℕ) → x ≡ k → n + 1 ≡ n + hit k x

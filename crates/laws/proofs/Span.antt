@@ -68,11 +68,11 @@ span-at g e f (suc k) h q =
     (λ (p : ¬ (e ≤ f)). omega (arith, span-at g e (suc f) k (omega arith) (omega arith)))
 
 -- the sums are equal where what is summed is
-pub span-agree : (g h : ℕ → ℕ) (f k : ℕ) → ((i : ℕ) → f ≤ i → i < f + k → g i ≡ h i) → span g f k ≡ span h f k
+pub span-agree-from : (g h : ℕ → ℕ) (f k : ℕ) → ((i : ℕ) → f ≤ i → i < f + k → g i ≡ h i) → span g f k ≡ span h f k
 unfolding span
-span-agree g h f zero e = refl
-span-agree g h f (suc k) e =
-    omega (arith, e f (omega arith) (omega arith), span-agree g h (suc f) k (λ (i : ℕ) (l : suc f ≤ i) (u : i < suc f + k). e i (omega arith) (omega arith)))
+span-agree-from g h f zero e = refl
+span-agree-from g h f (suc k) e =
+    omega (arith, e f (omega arith) (omega arith), span-agree-from g h (suc f) k (λ (i : ℕ) (l : suc f ≤ i) (u : i < suc f + k). e i (omega arith) (omega arith)))
 
 -- ---- lists over consecutive numbers
 

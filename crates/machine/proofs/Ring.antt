@@ -9,7 +9,7 @@ use lib.ListN.{length, getD, set, length-set, List·getD-eq-default}
 use lib.Seq.{getD-set-same, getD-set-other}
 use Rattle.laws.specs.Span.{span}
 use Rattle.laws.specs.Sum.{sum, hit}
-use Rattle.laws.proofs.Span.{span-add, span-agree, span-at}
+use Rattle.laws.proofs.Span.{span-add, span-agree-from, span-at}
 use Rattle.laws.proofs.Sum.{sum-at, sum-zero-each, hit-same, hit-other}
 use Rattle.graph.specs.Graph.{Graph}
 use Rattle.machine.specs.Run.{carried}
@@ -45,12 +45,12 @@ module _ (r : Ring) (b : ℕ) (c : Colour) where
   -- so those below it, and those above it
   colours-below : (k : ℕ) → k ≤ b → span (λ (i : ℕ). shade (getD (set (r .colours) b c) i white)) 0 k ≡ span (dark r) 0 k
   colours-below k h =
-      span-agree (λ (i : ℕ). shade (getD (set (r .colours) b c) i white)) (dark r) 0 k
+      span-agree-from (λ (i : ℕ). shade (getD (set (r .colours) b c) i white)) (dark r) 0 k
       (λ (i : ℕ) (l : 0 ≤ i) (u : i < 0 + k). other-colour i (λ (e : i ≡ b). omega arith))
 
   colours-above : (k : ℕ) → span (λ (i : ℕ). shade (getD (set (r .colours) b c) i white)) (suc b) k ≡ span (dark r) (suc b) k
   colours-above k =
-      span-agree (λ (i : ℕ). shade (getD (set (r .colours) b c) i white)) (dark r) (suc b) k
+      span-agree-from (λ (i : ℕ). shade (getD (set (r .colours) b c) i white)) (dark r) (suc b) k
       (λ (i : ℕ) (l : suc b ≤ i) (u : i < suc b + k). other-colour i (λ (e : i ≡ b). omega arith))
 
   same-colour : b < length (r .colours) → shade (getD (set (r .colours) b c) b white) ≡ shade c

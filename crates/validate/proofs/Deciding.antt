@@ -20,7 +20,8 @@ use Rattle.validate.specs.declared.marks.Starts.{Starts}
 use Rattle.validate.specs.declared.runs.Loads.{Loads}
 use Rattle.validate.specs.Checked.{Checked, Saves}
 use Rattle.validate.specs.Counts.{TalliesThere, RangesLow, SumsLow, Agree}
-use Rattle.validate.specs.Heads.{WorkersThere, HeadsSound, HeadsFound, CellsSound}
+use Rattle.validate.specs.Heads.{WorkersThere, HeadsSound, HeadsFound}
+use Rattle.validate.specs.Ring.{LinksSound}
 use Rattle.validate.specs.Marks.{MarksThere, MarksFound, StartsBelow, StartsFound, distinct}
 use Rattle.validate.specs.Runs.{LoadsThere, LoadedFound}
 use Rattle.validate.proofs.Rebuilt.{Words32}
@@ -34,10 +35,10 @@ marks-lent n W m w e = let k : m + n - m ≡ n = omega arith in rw (k, e)
 
 -- all tests but the last have held
 pub record Passed (G : Graph) (starts : List ℕ) (W : ℕ) (g : Setting) (w ms : List ℕ) (heads : Heads) (marks : Marks) (begun : Starts) (loads : Loads) : Type 0 where
-  pub form : getD w 0 0 ≡ 1
+  pub form : getD w 0 0 ≡ 2
   pub heads-found : HeadsFound W (g .batch) w heads
   pub heads-sound : heads .sound ≡ true
-  pub cells : CellsSound W w
+  pub links : LinksSound W w
   pub marks-found : MarksFound W (G .offsets) ms marks
   pub marks-sound : marks .sound ≡ true
   pub starts-found : StartsFound starts ms begun
@@ -142,7 +143,7 @@ module _ {G : Graph} {starts : List ℕ} {W : ℕ} {g : Setting} {w : List ℕ} 
       decided small d =
           decides-same d
           (λ a.
-          saves ch (x .form) (x .heads-found .right (x .heads-sound)) (x .cells) (rw is at (x .marks-found .right (x .marks-sound)))
+          saves ch (x .form) (x .heads-found .right (x .heads-sound)) (x .links) (rw is at (x .marks-found .right (x .marks-sound)))
           (rw is at (x .starts-found .right (x .starts-sound))) (rw is at (x .loads-found .right (x .loads-sound)))
           (rw is at (x .loads-found .targets (x .loads-sound))) sums-are a small)
           (λ r. agree-needed ch r sums-are)

@@ -42,7 +42,7 @@ pub stretch-short : (n at : ℕ) (w : List ℕ) → n ≤ 65536 → length (take
 stretch-short n at w h = omega (arith, length-take (at + (2 * n + 4) - at) (drop at w))
 
 -- the places that the code computes fit
-pub stretch-low : (n W b m : ℕ) → m ≡ marks-place W → n ≤ 65536 → W ≤ 16 → b < W → m + n + b * (2 * n + 4) + (2 * n + 4) ≤ 2294033
+pub stretch-low : (n W b m : ℕ) → m ≡ marks-place W → n ≤ 65536 → W ≤ 16 → b < W → m + n + b * (2 * n + 4) + (2 * n + 4) ≤ 2294036
 stretch-low n W b m e h q l =
     let short : 2 * n + 4 ≤ 131076 = omega arith in
     let few : b ≤ 16 = omega arith in

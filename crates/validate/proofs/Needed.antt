@@ -2,7 +2,7 @@
 use mathlib.Core.Path.{_≡_, refl, sym, ap, subst, _∙_}
 use mathlib.Core.List.{List, _++_}
 use mathlib.Core.Logic.{by-cases}
-use Prim.Native.Nat.{ℕ, zero, suc, _+_, _-_, _*_, _≤_, _<_}
+use Prim.Native.Nat.{ℕ, zero, suc, _+_, _-_, _*_, _^_, _≤_, _<_}
 use native.Mathlib.Decide.{decLt}
 use native.Mathlib.Omega.{arith}
 use lib.ListN.{length, getD, replicate}
@@ -14,8 +14,11 @@ use Rattle.machine.specs.Run.{Run, carried, pairs}
 use Rattle.machine.specs.Tally.{Tally}
 use Rattle.machine.specs.Machine.{Setting, Worker, ended, worker, runsOf, carriedBy, stretch}
 use Rattle.machine.specs.Sound.{Within, WholeInside, waits, holds, heldSum, runsSum}
+use Rattle.machine.specs.Ring.{shade, blackSet}
+use Rattle.machine.proofs.Colours.{shade-limit, set-limit}
 use Rattle.machine.proofs.Facts.{live-limit}
-use Rattle.saved.specs.Layout.{savedWords, workerWord, stretchIn, workerIn, restedIn, stateOf, runsIn}
+use Rattle.laws.specs.Blocks.{laid}
+use Rattle.saved.specs.Layout.{savedWords, workerWord, stretchIn, workerIn, restedIn, ringIn, stateOf, runsIn}
 use Rattle.saved.specs.Sound.{batchIn, Supplied}
 use Rattle.saved.proofs.Room.{runs-few}
 use Rattle.saved.proofs.RoundTrip.{Shaped, worker-word, stretch-told}
@@ -24,6 +27,8 @@ use Rattle.validate.specs.Checked.{Checked, Saves}
 use Rattle.validate.specs.Counts.{Agree}
 use Rattle.validate.specs.Heads.{HeadsSound, CellsSound}
 use Rattle.validate.specs.Marks.{MarksLow, StartsMarked}
+use Rattle.validate.specs.Ring.{ringWord, RingSound, LinksSound}
+use Rattle.validate.proofs.RingLaws.{below-told, first-back, above-back}
 use Rattle.validate.specs.Runs.{runsAt, StretchAt, StretchesSound, TargetsSound}
 use Rattle.validate.proofs.Reading.{wordOf, head-back, cell-back}
 use Rattle.validate.proofs.StretchLaws.{runs-all}
@@ -34,7 +39,7 @@ module _ {G : Graph} {starts : List ℕ} {W : ℕ} {g : Setting} {w : List ℕ} 
   abbrev n : ℕ
   n = objects G
 
-  pub form-needed : getD w 0 0 ≡ 1
+  pub form-needed : getD w 0 0 ≡ 2
   unfolding savedWords
   form-needed = ap (λ (l : List ℕ). getD l 0 0) (r .words-are)
 
@@ -55,6 +60,7 @@ module _ {G : Graph} {starts : List ℕ} {W : ℕ} {g : Setting} {w : List ℕ} 
         marks-length = r .marks-length;
         workers-length = r .workers-length;
         rested-length = r .rested-length;
+        colours-length = r .colours-length;
         tallies-length = r .tallies-length;
         room = λ b.
             let rs = runsOf (worker (stateOf n W w) b) in
@@ -103,6 +109,27 @@ module _ {G : Graph} {starts : List ℕ} {W : ℕ} {g : Setting} {w : List ℕ} 
       ∙ r .sound .cells a
       ∙ ap waits (worker-in n W w a h)
       ∙ read n W w heads-needed a h .waiting
+
+  -- the words are those of a ring, and that one is sound
+  pub ring-needed : RingSound W w
+  unfolding savedWords laid stateOf
+  ring-needed =
+      let s = r .sound in
+      let token : getD w 14 0 ≡ shade (ringIn W w .token) = ap (λ (l : List ℕ). getD l 14 0) (r .words-are) in
+      let dark : getD w 15 0 ≡ blackSet (ringIn W w .colours) = ap (λ (l : List ℕ). getD l 15 0) (r .words-are) in
+      let low : ringWord w 1 ≤ 1 = omega (arith, token, shade-limit (ringIn W w .token)) in
+      record {
+        holder-below = s .holder-below;
+        token-known = low;
+        black-known = rw dark (subst (λ (k : ℕ). blackSet (ringIn W w .colours) < 2 ^ k) (r .colours-length) (set-limit (ringIn W w .colours)));
+        first-ended = first-back n W w heads-needed (ch .accepted .some-worker) (s .first-ended);
+        above = λ z.
+            above-back n W w heads-needed (s .supplied)
+            (s .above-holder (below-told n W w low (s .holder-below) ∙ z));
+      }
+
+  pub links-needed : LinksSound W w
+  links-needed = record { cells = cells-needed; ring = ring-needed }
 
   stretch-needed : (b : ℕ) → b < W → StretchAt G (marksIn (objects G) W w) W w b
   unfolding stateOf stretch

@@ -24,12 +24,14 @@ use Rattle.saved.specs.Sound.{batchIn, Supplied, SavedSound}
 use Rattle.validate.specs.declared.counts.Sums.{Sums}
 use Rattle.validate.specs.Checked.{Checked, Saves}
 use Rattle.validate.specs.Counts.{Agree}
-use Rattle.validate.specs.Heads.{HeadsSound, endedWords, sinceWords, holders, CellsSound}
+use Rattle.validate.specs.Heads.{HeadsSound, endedWords, sinceWords, holders}
+use Rattle.validate.specs.Ring.{LinksSound}
 use Rattle.validate.specs.Marks.{MarksLow, StartsMarked, distinct}
 use Rattle.validate.specs.Runs.{carriedWords, carryingWords, StretchesSound, TargetsSound}
 use Rattle.validate.proofs.Rebuilt.{Words32, rebuilt}
+use Rattle.validate.proofs.RingLaws.{ring-are, above-told, first-told}
 use Rattle.validate.proofs.StretchLaws.{runs-all}
-use Rattle.validate.proofs.Told.{marksIn, marks-long, workers-long, rested-long, tallies-long, worker-in, worker-out, rested-in, tally-in, tally-out}
+use Rattle.validate.proofs.Told.{marksIn, marks-long, workers-long, rested-long, colours-long, tallies-long, worker-in, worker-out, rested-in, tally-in, tally-out}
 use Rattle.validate.proofs.Told.{sum-tallies, read, runs-in, times-told, carried-told, carrying-told, ended-told, holds-told, since-told}
 
 span-none : (g : ℕ → ℕ) (k : ℕ) → ((i : ℕ) → i < k → g i ≡ 0) → span g 0 k ≡ 0
@@ -64,7 +66,7 @@ module _ {G : Graph} {starts : List ℕ} {W : ℕ} {g : Setting} {w : List ℕ} 
       let same : v ≡ getD starts (r .0) 0 = hit-equal v (getD starts (r .0) 0) (r .2) in
       rw same (each (r .0) (r .1))
 
-  module _ (form : getD w 0 0 ≡ 1) (heads : HeadsSound W (g .batch) w) (cells : CellsSound W w) (low : MarksLow W ms)
+  module _ (form : getD w 0 0 ≡ 2) (heads : HeadsSound W (g .batch) w) (links : LinksSound W w) (low : MarksLow W ms)
       (started : StartsMarked starts ms) (stretches : StretchesSound G ms W w) (targets : TargetsSound G (marksIn (objects G) W w) W w) where
     -- a fact of every worker: of those below W, and of one that has ended
     every-worker : (P : Worker → Type 0) → ((b : ℕ) → b < W → P (workerIn (objects G) W w b)) → P ended → (b : ℕ)
@@ -81,7 +83,7 @@ module _ {G : Graph} {starts : List ℕ} {W : ℕ} {g : Setting} {w : List ℕ} 
     cells-in a =
         holds-told n W w heads a
         ∙ by-cases (decLt a W)
-        (λ (p : a < W). cells a p ∙ sym (ap waits (worker-in n W w a p) ∙ read n W w heads a p .waiting))
+        (λ (p : a < W). links .cells a p ∙ sym (ap waits (worker-in n W w a p) ∙ read n W w heads a p .waiting))
         (λ (p : ¬ (a < W)). cell-out a (omega arith) ∙ sym (ap waits (worker-out n W w a (omega arith))))
 
     stretches-are : (b : ℕ) → b < W → stretchIn (objects G) W w b ≡ stretch (objects G) (workerIn (objects G) W w b)
@@ -120,6 +122,9 @@ module _ {G : Graph} {starts : List ℕ} {W : ℕ} {g : Setting} {w : List ℕ} 
             tallies-handed = sum-tallies n W w (λ (t : Tally). t .handed) ∙ tallies .handed;
             tallies-won = rw (sum-tallies n W w (λ (t : Tally). t .won), ← sums .distinct-is) (tallies .won);
             tallies-claims = claims;
+            holder-below = links .ring .holder-below;
+            above-holder = above-told n W w heads (links .ring);
+            first-ended = first-told n W w heads (links .ring);
           }
         where
           within : (b : ℕ) → b < W → Every (Within G ms) (runsOf (workerIn (objects G) W w b))
@@ -155,10 +160,11 @@ module _ {G : Graph} {starts : List ℕ} {W : ℕ} {g : Setting} {w : List ℕ} 
       pub saves : Words32 w → Saves G starts W g w
       saves small =
           record {
-            words-are = rebuilt n W w small (ch .long) form (λ b h. read n W w heads b h .words) stretches-are;
+            words-are = rebuilt n W w small (ch .long) form (ring-are n W w (links .ring)) (λ b h. read n W w heads b h .words) stretches-are;
             marks-length = marks-long n W w (ch .long);
             workers-length = workers-long n W w;
             rested-length = rested-long n W w;
+            colours-length = colours-long n W w;
             tallies-length = tallies-long n W w;
             sound = sound;
           }

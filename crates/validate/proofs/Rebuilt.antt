@@ -14,8 +14,8 @@ use Rattle.laws.proofs.Span.{listing-is, listing-length, listing-at}
 use Rattle.machine.specs.Row.{countWords}
 use Rattle.machine.specs.Tally.{Tally, noTally, tallyWords, talliesWords}
 use Rattle.machine.specs.Machine.{Worker, ended, stretchLength, stretch, memory}
-use Rattle.saved.specs.Layout.{saved-form, twoWords, workerWords, workersWords, savedWords, workers-place, tallies-place, marks-place, stretches-place, savedLength}
-use Rattle.saved.specs.Layout.{numberAt, workerWord, stretchIn, workerIn, restedIn, tallyIn, countsIn, stateOf}
+use Rattle.saved.specs.Layout.{saved-form, twoWords, ringWords, workerWords, workersWords, savedWords, workers-place, tallies-place, marks-place, stretches-place, savedLength}
+use Rattle.saved.specs.Layout.{numberAt, workerWord, stretchIn, workerIn, restedIn, tallyIn, countsIn, ringIn, stateOf}
 use Rattle.saved.proofs.RoundTrip.{workers-length, workers-word}
 
 -- every word has 32 bits
@@ -68,11 +68,22 @@ numbers-back w small at k h =
 -- ---- the parts
 
 module _ (n W : ℕ) (w : List ℕ) (small : Words32 w) (long : length w ≡ savedLength n W) where
-  counts-back : getD w 0 0 ≡ saved-form → take workers-place w ≡ saved-form ∷ laid twoWords (countWords (countsIn w))
-  unfolding listing
-  counts-back form =
-      take-add 1 12 w
-      ∙ rw (take-suc w 0 0 (omega (arith, long)), form, numbers-back w small 1 6 (omega (arith, long)))
+  -- three words of a list
+  three-from : (i : ℕ) → i + 2 < length w → take 3 (drop i w) ≡ getD w i 0 ∷ getD w (i + 1) 0 ∷ getD w (i + 2) 0 ∷ []
+  three-from i h =
+      let e : i + 1 ≡ suc i = omega arith in
+      let d : i + 2 ≡ suc (suc i) = omega arith in
+      rw (drop-cons w i 0 (omega arith), drop-cons w (suc i) 0 (omega arith), drop-cons w (suc (suc i)) 0 (omega arith), e, d)
+
+  -- the words of the ring are those of the ring that they tell of
+  abbrev pub Ring-are : Type 0
+  Ring-are = ringWords (ringIn W w) ≡ getD w 13 0 ∷ getD w 14 0 ∷ getD w 15 0 ∷ []
+
+  counts-back : getD w 0 0 ≡ saved-form → Ring-are → take workers-place w ≡ saved-form ∷ (laid twoWords (countWords (countsIn w)) ++ ringWords (ringIn W w))
+  unfolding listing laid
+  counts-back form ring =
+      take-add 13 3 w
+      ∙ rw (take-add 1 12 w, take-suc w 0 0 (omega (arith, long)), form, numbers-back w small 1 6 (omega (arith, long)), three-from 13 (omega (arith, long)), ring)
 
   -- number k of tally b
   tally-at : (b k : ℕ) → k < 4 → getD (tallyWords (tallyIn W w b)) k 0 ≡ numberAt w (tallies-place W + 2 * (b * 4 + k))
@@ -164,11 +175,11 @@ module _ (n W : ℕ) (w : List ℕ) (small : Words32 w) (long : length w ≡ sav
       let l : b < W = rw (listing-length (workerIn n W w) 0 W) at q in
       rw (drop-drop (b * stretchLength n) (stretches-place n W) w, listing-at (workerIn n W w) ended 0 W b l, zero-add b) (each b l))
 
-  pub rebuilt : getD w 0 0 ≡ saved-form → Heads-are → Stretches-are → w ≡ savedWords n (stateOf n W w)
+  pub rebuilt : getD w 0 0 ≡ saved-form → Ring-are → Heads-are → Stretches-are → w ≡ savedWords n (stateOf n W w)
   unfolding savedWords stateOf
-  rebuilt form heads stretches =
+  rebuilt form ring heads stretches =
       let marks = take n (drop (marks-place W) w) in
-      join w (saved-form ∷ laid twoWords (countWords (countsIn w))) _ workers-place (counts-back form)
+      join w (saved-form ∷ (laid twoWords (countWords (countsIn w)) ++ ringWords (ringIn W w))) _ workers-place (counts-back form ring)
       (next w (workersWords workers rested) _ workers-place (4 * W) (tallies-place W) (omega arith) (heads-back heads)
       (next w (laid twoWords (talliesWords tallies)) _ (tallies-place W) (8 * W) (marks-place W) (omega arith) tallies-back
       (next w marks _ (marks-place W) n (stretches-place n W) (omega arith) refl (stretches-back stretches))))

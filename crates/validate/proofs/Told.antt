@@ -16,7 +16,7 @@ use Rattle.machine.specs.Run.{Run, carried}
 use Rattle.machine.specs.Tally.{Tally, noTally}
 use Rattle.machine.specs.Machine.{Worker, ended, worker, runsOf, carriedBy, carries?, carriedAll, stopped}
 use Rattle.machine.specs.Sound.{holds, sinceOf, runsSum, heldSum, carriedTimes, tallyOf}
-use Rattle.saved.specs.Layout.{marks-place, savedLength, workerWord, stretchIn, workerIn, restedIn, tallyIn, stateOf, runsIn}
+use Rattle.saved.specs.Layout.{marks-place, savedLength, workerWord, stretchIn, workerIn, restedIn, colourIn, tallyIn, stateOf, runsIn}
 use Rattle.validate.specs.Heads.{HeadsSound, endedWords, sinceWords, holders}
 use Rattle.validate.specs.Runs.{runsAt, timesWords, carriedWords, carryingWords}
 use Rattle.validate.proofs.Reading.{Reads, reads}
@@ -37,6 +37,10 @@ module _ (n W : ℕ) (w : List ℕ) where
   pub rested-long : length (stateOf n W w .rested) ≡ W
   unfolding stateOf
   rested-long = listing-length (restedIn w) 0 W
+
+  pub colours-long : length (stateOf n W w .ring .colours) ≡ W
+  unfolding stateOf
+  colours-long = listing-length (colourIn w) 0 W
 
   pub tallies-long : length (stateOf n W w .tallies) ≡ W
   unfolding stateOf

@@ -7,7 +7,7 @@ use Rattle.laws.specs.Span.{span}
 use Rattle.graph.specs.Limits.{most-references}
 use Rattle.machine.specs.Limits.{most-workers, most-setting}
 use Rattle.machine.specs.declared.Counts.{Counts}
-use Rattle.machine.specs.Demand3.{stretchBound, handedBound}
+use Rattle.machine.specs.Demand3.{movedBound, handedBound}
 use Rattle.saved.specs.Layout.{tallyNumber, countsIn, marks-place}
 use Rattle.validate.specs.declared.counts.Sums.{Sums}
 
@@ -40,7 +40,7 @@ pub record CountsRight (m : ℕ) (c : Counts) (s : Sums) : Type 0 where
 
 -- they are within their bounds, with W workers and cutoff K
 pub record CountsLow (m W K : ℕ) (c : Counts) (since : ℕ) : Type 0 where
-  pub moved-limit : c .moved ≤ stretchBound m W
+  pub moved-limit : c .moved ≤ movedBound m W
   pub handed-limit : c .handed * K ≤ handedBound m
   pub since-followed : since ≤ c .followed
   pub refused-moved : c .refused ≤ c .moved

@@ -3,3 +3,4 @@ pub mod Heads
 pub mod Marks
 pub mod Runs
 pub mod Counts
+pub mod Ring

@@ -4,6 +4,7 @@ mod counts;
 mod heads;
 mod marks;
 mod places;
+mod ring;
 mod runs;
 
 use counts::Sums;
@@ -55,7 +56,7 @@ pub fn is_sound(
     if !heads.sound {
         return false;
     }
-    if !heads::cells_sound(saved, workers) {
+    if !ring::links_sound(saved, workers, heads.ended) {
         return false;
     }
     let from = places::marks(workers);

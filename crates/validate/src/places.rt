@@ -6,10 +6,13 @@ ghost use Rattle.saved.specs.Layout.{numberAt, tallies-place, marks-place};
 ghost use Rattle.machine.specs.Limits.{most-workers};
 
 // The number of the form, which stands first.
-pub const FORM: u32 = 1;
+pub const FORM: u32 = 2;
+
+// The token ring: holder, the token's colour, and the black workers as bits.
+pub const RING: usize = 13;
 
 // Status, cell, since and batch of each worker.
-pub const WORKERS: usize = 13;
+pub const WORKERS: usize = 16;
 
 pub const WORKER: usize = 4;
 

@@ -7,7 +7,7 @@ use mathlib.Core.List.{List}
 use Prim.Native.Nat.{ℕ}
 use lib.ListN.{length, take, drop}
 use Rattle.laws.proofs.Decides.{decides-no, never, refuted}
-use Rattle.validate.proofs.Needed.{form-needed, heads-needed, cells-needed}
+use Rattle.validate.proofs.Needed.{form-needed, heads-needed, links-needed}
 use Rattle.validate.proofs.Deciding.{marks-lent, workers-there, tallies-there, ranges-low, marks-there, starts-below, objects-low, loads-there, marks-wrong, starts-wrong, loads-wrong, Passed, sums-low, decided}
 use Rattle.graph.specs.Graph.{graph}
 use Rattle.validate.specs.Checked.{setting}
@@ -61,7 +61,7 @@ passed c =
       form = one .if1 .left;
       heads-found = two .before .before .check-heads .ensures;
       heads-sound = not-false _ (two .if2 .left);
-      cells = three .before .cells-sound .ensures .right (not-false _ (three .if3 .left));
+      links = three .before .links-sound .ensures .right (not-false _ (three .if3 .left));
       marks-found = four c .before .before .check-marks .ensures;
       marks-sound = not-false _ (four c .if4 .left);
       starts-found = five .before .before .check-starts .ensures;
@@ -82,10 +82,15 @@ returns-2 c =
     let found = c .before .before in
     decides-no (λ r. never (found .check-heads .ensures .known (heads-needed (entry₁ (found .before) .pre) r)) (not-true _ (c .if2 .taken)))
 
+links-sound-requires : tie.Need-links-sound-requires
+links-sound-requires c κs =
+    let p = entry₂ c .pre in
+    (workers-there p, p .accepted .some-worker, c .before .before .check-heads .ensures .ended (not-false _ (c .if2 .left)))
+
 returns-3 : tie.Need-returns-3
 returns-3 c =
     let found = c .before in
-    decides-no (λ r. refuted (found .cells-sound .ensures) (not-true _ (c .if3 .taken)) (cells-needed (entry₂ (found .before) .pre) r))
+    decides-no (λ r. refuted (found .links-sound .ensures) (not-true _ (c .if3 .taken)) (links-needed (entry₂ (found .before) .pre) r))
 
 sub-to : tie.Need-sub-to
 sub-to c = omega (arith, entry₃ (c .before) .pre .accepted .some-object)
@@ -156,6 +161,6 @@ pub is-sound-spec : {M : Type 1} → statement M
 is-sound-spec =
     tie.close
     (tie.spec shared-slice-read-if1 returns (λ c κs. workers-there (entry₁ c .pre)) returns-2
-    (λ c κs. workers-there (entry₂ c .pre)) returns-3 (λ c κs. entry₃ c .pre .accepted .workers-limit) sub-to add-to
+    links-sound-requires returns-3 (λ c κs. entry₃ c .pre .accepted .workers-limit) sub-to add-to
     mul-marks (λ c. search needs) (λ c. search needs) part-marks-end check-marks-requires returns-4
     check-starts-requires returns-5 check-loads-requires returns-6 agree-requires returns-7)

@@ -30,7 +30,7 @@ loop-again c =
     let l = read .before .before .loop in
     heads-next (l .inv) (read .before .loop-test .taken) (test .head-sound .ensures .right (not-false _ (passed .if1 .left)))
     (⊎-elim (λ t. rw (t .1) (hit-counts _ 3 _ (t .0 .taken))) (λ t. rw (t .1) (miss-counts _ 3 _ (t .0 .left))) (c .if2 .came))
-    (read .shared-slice-known2 .given (13 + 4 * l .b + 2) .fits)
+    (read .shared-slice-known2 .given (16 + 4 * l .b + 2) .fits)
 
 returns-2 : tie.Need-returns-2 Inv-loop μ-loop
 returns-2 c = heads-end (c .before .loop .inv) (c .loop-test .left)
@@ -39,13 +39,13 @@ returns-2 c = heads-end (c .before .loop .inv) (c .loop-test .left)
 cast-since : tie.Need-cast-since Inv-loop μ-loop
 cast-since c =
     let read = c .before .before .before .before .before .before in
-    omega (arith, read .shared-slice-known2 .given (13 + 4 * read .before .before .loop .b + 2))
+    omega (arith, read .shared-slice-known2 .given (16 + 4 * read .before .before .loop .b + 2))
 
 add-since : tie.Need-add-since Inv-loop μ-loop
 add-since c =
     let read = c .before .before .before .before .before .before in
     let l = read .before .before .loop in
-    omega (arith, read .shared-slice-known2 .given (13 + 4 * l .b + 2), l .inv .since-low, l .inv .high)
+    omega (arith, read .shared-slice-known2 .given (16 + 4 * l .b + 2), l .inv .since-low, l .inv .high)
 
 pub check-heads-spec : {M : Type 1} → statement M
 check-heads-spec =

@@ -31,7 +31,7 @@ n l = length (entry l .args .offsets .now) - 1
 
 -- where a worker's stretch begins and ends fits
 fits : (c : tie.In-loop Inv-loop μ-loop)
-    → c .before .before .marks .result + n (c .before) + c .before .loop .b * (2 * n (c .before) + 4) + (2 * n (c .before) + 4) ≤ 2294033
+    → c .before .before .marks .result + n (c .before) + c .before .loop .b * (2 * n (c .before) + 4) + (2 * n (c .before) + 4) ≤ 2294036
 fits c =
     let l = c .before in
     let there = entry l .pre .there in
