@@ -122,7 +122,7 @@ module _ {g : Setup} {offsets targets schedule : List ℕ} {μ : Memory} {w : Li
     -- after the stretches are written out, and all counts made
     module _ {work′ : List ℕ} (d : Settled (g .workers) (g .stretch) work regs work′) (all : Counts)
         (e : (y : Countable tallies (g .workers) p) → all ≡ countsOf p (y .tallies)) where
-      pub save-ready : Savable (g .workers) marks work′ tallies regs all w
+      pub save-ready : Savable (g .workers) marks work′ tallies regs all (p .ring) w
       unfolding settle-ready count-ready recorded
       save-ready =
           record {
@@ -136,12 +136,14 @@ module _ {g : Setup} {offsets targets schedule : List ℕ} {μ : Memory} {w : Li
             work-is = d settle-ready;
             tallies-are = held .tallies-are;
             counts-are = e count-ready ∙ held .counts-are;
+            ring-is = held .ring-is;
+            holder-low = S .holder-below;
             recorded = recorded;
             workers-are = refl;
             rested-are = refl;
           }
 
-      pub all-collected : {w′ : List ℕ} → Saves (g .workers) marks work′ tallies regs all w w′ → (r : Marked)
+      pub all-collected : {w′ : List ℕ} → Saves (g .workers) marks work′ tallies regs all (p .ring) w w′ → (r : Marked)
           → ((y : Countable tallies (g .workers) p) → row r ≡ rowOf p (y .tallies))
           → Collects (objects G) s r marks work′ tallies w′
       unfolding save-ready settle-ready count-ready

@@ -25,6 +25,8 @@ use Rattle.machine.proofs.Facts.{runs-room, runs-limit, carried-limit, followed
 use Rattle.worker.specs.Registers.{status-ended}
 use Rattle.turns.specs.declared.Setup.{Setup}
 use Rattle.turns.specs.declared.Progress.{Progress}
+use Rattle.turns.specs.declared.ring.Ring.{Ring}
+use Rattle.turns.specs.Ringing.{ringOf}
 use Rattle.turns.specs.Counting.{running?, countsOf}
 use Rattle.turns.specs.Held.{memory, stretchAt, settingOf, Holds}
 use Rattle.saved.specs.Layout.{twoWords, workerWords, workersWords, savedWords, savedLength}
@@ -32,7 +34,7 @@ use Rattle.saved.specs.Sound.{batchIn, Supplied}
 use Rattle.saved.proofs.Kept.{run-sound, shaped}
 use Rattle.saved.proofs.RoundTrip.{Shaped, saved-length, records-told, tallies-told, tallies-count, counts-told, marks-told, stretches-told, stretches-long, workers-word, workers-long, stretch-length}
 use Rattle.resume.specs.Copies.{numbersOf, Bytes}
-use Rattle.resume.specs.Restoring.{runs?, runningIn, Telling, progressFrom, partOf, Resumable}
+use Rattle.resume.specs.Restoring.{runs?, runningIn, ringFrom, Telling, progressFrom, partOf, Resumable}
 use Rattle.resume.specs.Workers.{listed, savedAt, Restorable, AllRestorable, Restored, AllRestored}
 use Rattle.resume.proofs.Numbers.{numbers-back}
 
@@ -69,9 +71,9 @@ span-sum f g (w ∷ ws) k h =
     omega (arith, here, rest)
 
 -- what the saved counts and the tallies make are the counts
-added : (c : Counts) (ts : List Tally) (running : ℕ) → sum (λ (t : Tally). t .won) ts ≤ c .live → sum (λ (t : Tally). t .followed) ts ≡ c .followed
-    → sum (λ (t : Tally). t .handed) ts ≡ c .handed → countsOf (progressFrom (countWords c) ts running) ts ≡ c
-added c ts running h f d =
+added : (c : Counts) (ts : List Tally) (running : ℕ) (ring : Ring) → sum (λ (t : Tally). t .won) ts ≤ c .live → sum (λ (t : Tally). t .followed) ts ≡ c .followed
+    → sum (λ (t : Tally). t .handed) ts ≡ c .handed → countsOf (progressFrom (countWords c) ts running ring) ts ≡ c
+added c ts running ring h f d =
     let l : c .live - sum (λ (t : Tally). t .won) ts + sum (λ (t : Tally). t .won) ts ≡ c .live = omega arith in rw (l, f, d) refl
 
 module _ {targets : List ℕ} {g : Setup} {w marks work tallies regs : List ℕ} (x : Resumable targets g w marks work tallies regs) where
@@ -101,32 +103,36 @@ module _ {targets : List ℕ} {g : Setup} {w marks work tallies regs : List ℕ}
   pub numbers-are : numbersOf (partOf 1 12 w) 6 ≡ countWords (x .state .counts)
   numbers-are = rw (x .run .words-are, counts-told shape) (numbers-back (countWords (s .counts)) 6 refl)
 
-  pub tallies-are : numbersOf (partOf (13 + 4 * g .workers) (2 * length tallies) w) (length tallies) ≡ talliesWords (x .state .tallies)
+  pub tallies-are : numbersOf (partOf (16 + 4 * g .workers) (2 * length tallies) w) (length tallies) ≡ talliesWords (x .state .tallies)
   tallies-are =
       let e : 2 * length tallies ≡ 8 * W = omega (arith, x .tallies-long) in
       rw (e, x .run .words-are, tallies-told shape) (numbers-back (talliesWords (s .tallies)) (length tallies) (omega (arith, tallies-count shape, x .tallies-long)))
 
-  pub marks-are : partOf (13 + 4 * g .workers + 8 * g .workers) (length marks) w ≡ x .state .marks
+  pub marks-are : partOf (16 + 4 * g .workers + 8 * g .workers) (length marks) w ≡ x .state .marks
   marks-are = rw (x .marks-long, x .run .words-are) (marks-told shape)
 
-  pub marks-bytes : Bytes (partOf (13 + 4 * g .workers + 8 * g .workers) (length marks) w)
+  pub marks-bytes : Bytes (partOf (16 + 4 * g .workers + 8 * g .workers) (length marks) w)
   marks-bytes i = rw marks-are (omega (arith, S .marks-limit i, few))
 
-  pub work-is : drop (13 + 4 * g .workers + 8 * g .workers + length marks) w ≡ laidMemory (objects (x .graph)) (x .state .workers)
+  pub work-is : drop (16 + 4 * g .workers + 8 * g .workers + length marks) w ≡ laidMemory (objects (x .graph)) (x .state .workers)
   work-is = rw (x .marks-long, x .run .words-are) (stretches-told shape)
 
   -- the same behind marks that are those
   pub work-there : {marks′ : List ℕ} → marks′ ≡ x .state .marks
-      → drop (13 + 4 * g .workers + 8 * g .workers + length marks′) w ≡ laidMemory (objects (x .graph)) (x .state .workers)
+      → drop (16 + 4 * g .workers + 8 * g .workers + length marks′) w ≡ laidMemory (objects (x .graph)) (x .state .workers)
   work-there e =
       let m = ap length e ∙ S .marks-length ∙ sym (x .marks-long) in
-      ap (λ (k : ℕ). drop (13 + 4 * W + 8 * W + k) w) m ∙ work-is
+      ap (λ (k : ℕ). drop (16 + 4 * W + 8 * W + k) w) m ∙ work-is
 
-  pub work-room : {marks′ : List ℕ} → marks′ ≡ x .state .marks → 13 + 4 * g .workers + 8 * g .workers + length marks′ + length work ≡ length w
+  pub work-room : {marks′ : List ℕ} → marks′ ≡ x .state .marks → 16 + 4 * g .workers + 8 * g .workers + length marks′ + length work ≡ length w
   work-room e = omega (arith, long, ap length e, S .marks-length, x .work-long, ap (λ (l : ℕ). W * l) (x .stretch-is))
 
-  pub records-are : partOf 13 (4 * g .workers) w ≡ workersWords (x .state .workers) (x .state .rested)
+  pub records-are : partOf 16 (4 * g .workers) w ≡ workersWords (x .state .workers) (x .state .rested)
   records-are = rw (x .run .words-are) (records-told shape)
+
+  ring-told : ringFrom w ≡ ringOf (x .state .ring)
+  unfolding savedWords laid
+  ring-told = rw (x .run .words-are) refl
 
   -- ---- the registers
 
@@ -210,24 +216,25 @@ module _ {targets : List ℕ} {g : Setup} {w marks work tallies regs : List ℕ}
             won-live = rw en (omega (arith, S .tallies-won));
           }
 
-      counted : countsOf (progressFrom numbers (s .tallies) (runningIn words W)) (s .tallies) ≡ s .counts
-      counted =
-          ap (λ (l : List ℕ). countsOf (progressFrom l (s .tallies) (runningIn words W)) (s .tallies)) en
-          ∙ added (s .counts) (s .tallies) (runningIn words W) (omega (arith, S .tallies-won)) (S .tallies-followed) (S .tallies-handed)
+      counted : (ring : Ring) → countsOf (progressFrom numbers (s .tallies) (runningIn words W) ring) (s .tallies) ≡ s .counts
+      counted ring =
+          ap (λ (l : List ℕ). countsOf (progressFrom l (s .tallies) (runningIn words W) ring) (s .tallies)) en
+          ∙ added (s .counts) (s .tallies) (runningIn words W) ring (omega (arith, S .tallies-won)) (S .tallies-followed) (S .tallies-handed)
 
       pub all-held : {marks′ work′ regs′ : List ℕ} {p : Progress} → marks′ ≡ s .marks → work′ ≡ stretches
           → AllRestored targets words stretches regs W (g .stretch) regs′
-          → {k : ℕ} → k ≡ runningIn words W → ((y : Telling numbers tallies′ W) → p ≡ progressFrom numbers (y .tallies) k)
+          → {k : ℕ} → k ≡ runningIn words W → {ring : Ring} → ring ≡ ringFrom w → ((y : Telling numbers tallies′ W) → p ≡ progressFrom numbers (y .tallies) k ring)
           → Holds (x .graph) g (x .state) (memory marks′ work′ tallies′ regs′ p)
       unfolding all-restorable telling
-      all-held em ewk r ek ep =
+      all-held em ewk r ek er ep =
           let d = r .done all-restorable in
-          rw (ewk, ep telling, ek)
+          rw (ewk, ep telling, ek, er)
           (record {
             marks-are = em;
             tallies-are = et;
-            counts-are = counted;
+            counts-are = counted (ringFrom w);
             running-is = running-is;
+            ring-is = ring-told;
             regs-long = r .long ∙ x .regs-long;
             work-long = all-restorable .stretches-long;
             each = d .blocks;

@@ -9,6 +9,7 @@ use Rattle.laws.specs.Span.{span}
 use Rattle.laws.proofs.Span.{span-add}
 use Rattle.resume.specs.Restoring.{runs?, runningIn, Telling}
 use Rattle.turns.specs.declared.Progress.{Progress}
+use Rattle.turns.specs.declared.ring.Ring.{Ring}
 use Rattle.turns.specs.Counting.{Summable}
 
 -- so many of the first b have not ended
@@ -43,8 +44,8 @@ won-sums x =
     }
 
 -- the starts that are left, worked out from the claims won
-pub same-starts : (numbers : List ℕ) (running : ℕ) {k won : ℕ} → k ≡ won
+pub same-starts : (numbers : List ℕ) (running : ℕ) (ring : Ring) {k won : ℕ} → k ≡ won
     → _≡_ {A = Progress}
-    (record { starts = getD numbers 0 0 - k; refused = getD numbers 3 0; moved = getD numbers 4 0; carrying = getD numbers 5 0; running = running })
-    (record { starts = getD numbers 0 0 - won; refused = getD numbers 3 0; moved = getD numbers 4 0; carrying = getD numbers 5 0; running = running })
-same-starts numbers running e = rw e refl
+    (record { starts = getD numbers 0 0 - k; refused = getD numbers 3 0; moved = getD numbers 4 0; carrying = getD numbers 5 0; running = running; ring = ring })
+    (record { starts = getD numbers 0 0 - won; refused = getD numbers 3 0; moved = getD numbers 4 0; carrying = getD numbers 5 0; running = running; ring = ring })
+same-starts numbers running ring e = rw e refl

@@ -1,5 +1,5 @@
 -- The saved words are written part by part, from their beginning.
-use mathlib.Core.Path.{_≡_, refl, ap, sym, _∙_}
+use mathlib.Core.Path.{_≡_, refl, ap, sym, subst, _∙_}
 use mathlib.Core.List.{List, [], _∷_, _++_, append-assoc}
 use Prim.Native.Nat.{ℕ, zero, suc, _+_, _-_, _*_, _≤_, _<_}
 use native.Mathlib.Omega.{arith}
@@ -12,12 +12,11 @@ use Rattle.machine.specs.Tally.{talliesWords}
 use Rattle.machine.specs.Machine.{State, Worker, memory, stretchLength}
 use Rattle.saved.specs.Layout.{saved-form, twoWords, workersWords, savedWords, savedLength, workers-place, tallies-place, marks-place, stretches-place}
 use Rattle.saved.proofs.RoundTrip.{Shaped, saved-length, workers-long, tallies-count, tallies-long, stretches-long}
-use Rattle.resume.specs.Saving.{placed, Savable}
-
--- a list of so many words begins so
-pub record Begins (n : ℕ) (pre l : List ℕ) : Type 0 where
-  pub long : length l ≡ n
-  pub is : take (length pre) l ≡ pre
+use Rattle.machine.proofs.Colours.{shade-limit, set-limit}
+use Rattle.turns.specs.declared.ring.Ring.{Ring}
+use Rattle.turns.specs.Ringing.{ringOf}
+use Rattle.resume.specs.Saving.{placed, Begins, headWords, Narrow, Savable}
+use lib.Pow.{pow-mono}
 
 -- a part written behind the beginning makes it longer
 pub begins-more : {n : ℕ} {pre l : List ℕ} → Begins n pre l → (part : List ℕ) (a : ℕ) → length pre ≡ a → a + length part ≤ n
@@ -52,9 +51,33 @@ pub begins-one : (n x : ℕ) (l : List ℕ) → length l ≡ n → 0 < n → Beg
 begins-one n x [] e h = absurd (omega (arith, e))
 begins-one n x (y ∷ l) e h = record { long = e; is = refl }
 
+-- one word behind the beginning
+pub begins-word : {n : ℕ} {pre l : List ℕ} → Begins n pre l → (x a : ℕ) → length pre ≡ a → a < n → Begins n (pre ++ (x ∷ [])) (set l a x)
+begins-word {n} {pre} {l} b x a at room =
+    let front : take a l ≡ pre = rw (← at) (b .is) in
+    let d : a + 1 ≡ suc a = omega arith in
+    record {
+      long = length-set l a x ∙ b .long;
+      is = rw (length-append, at, d, take-suc-set l a x (omega (arith, b .long)), front) refl;
+    }
+
+-- the head: the form, the counts, and the ring's three words
+pub begins-counts : (w : List ℕ) {l numbers : List ℕ} (c : Counts) → 16 ≤ length w → l ≡ placed 1 (laid twoWords numbers) (set w 0 saved-form)
+    → numbers ≡ countWords c → Begins (length w) (saved-form ∷ laid twoWords (countWords c)) l
+unfolding laid
+begins-counts w c long e q =
+    begins-next (begins-one (length w) saved-form w refl (omega arith)) (laid twoWords (countWords c)) 1 e (ap (laid twoWords) q) refl (omega arith)
+
+pub begins-head : (w : List ℕ) {l numbers : List ℕ} (c : Counts) (r : Ring) → 16 ≤ length w → l ≡ placed 1 (laid twoWords numbers) (set w 0 saved-form)
+    → numbers ≡ countWords c → Begins (length w) (headWords c r) (set (set (set l 13 (r .holder)) 14 (r .token)) 15 (r .black))
+unfolding laid
+begins-head w c r long e q =
+    let counted = begins-counts w c long e q in
+    begins-word (begins-word (begins-word counted (r .holder) 13 refl (omega arith)) (r .token) 14 refl (omega arith)) (r .black) 15 refl (omega arith)
+
 -- ---- the parts, one after the other
 
-module _ {W : ℕ} {marks work tallies regs : List ℕ} {c : Counts} {w : List ℕ} (x : Savable W marks work tallies regs c w) where
+module _ {W : ℕ} {marks work tallies regs : List ℕ} {c : Counts} {r : Ring} {w : List ℕ} (x : Savable W marks work tallies regs c r w) where
   abbrev n : ℕ
   n = x .objects
 
@@ -65,7 +88,7 @@ module _ {W : ℕ} {marks work tallies regs : List ℕ} {c : Counts} {w : List �
   N = savedLength n W
 
   abbrev A₀ : List ℕ
-  A₀ = (saved-form ∷ []) ++ laid twoWords (countWords (s .counts))
+  A₀ = headWords (s .counts) (ringOf (s .ring))
 
   abbrev A₁ : List ℕ
   A₁ = A₀ ++ workersWords (s .workers) (s .rested)
@@ -86,50 +109,57 @@ module _ {W : ℕ} {marks work tallies regs : List ℕ} {c : Counts} {w : List �
   pub work-long : length work ≡ W * stretchLength n
   work-long = ap length (x .work-is) ∙ stretches-long (x .shaped)
 
-  pub room : 13 + 4 * W + 8 * W + n ≤ length w
+  pub room : 16 + 4 * W + 8 * W + n ≤ length w
   room = omega (arith, x .long)
 
-  A₀-long : length A₀ ≡ 13
+  A₀-long : length A₀ ≡ 16
   unfolding laid
   A₀-long = refl
 
-  A₁-long : length A₁ ≡ 13 + 4 * W
+  A₁-long : length A₁ ≡ 16 + 4 * W
   A₁-long = rw length-append (omega (arith, A₀-long, workers-long (x .shaped)))
 
-  A₂-long : length A₂ ≡ 13 + 4 * W + 8 * W
+  A₂-long : length A₂ ≡ 16 + 4 * W + 8 * W
   A₂-long = rw length-append (omega (arith, A₁-long, tallies-long (x .shaped)))
 
-  A₃-long : length A₃ ≡ 13 + 4 * W + 8 * W + n
+  A₃-long : length A₃ ≡ 16 + 4 * W + 8 * W + n
   A₃-long = rw length-append (omega (arith, A₂-long, x .shaped .marks-length))
 
-  pub begun : Begins N (saved-form ∷ []) (set w 0 saved-form)
-  begun = begins-one N saved-form w (x .long) (omega arith)
+  -- the ring's numbers are words
+  pub narrow : Narrow r
+  narrow =
+      rw (x .ring-is)
+      (record {
+        holder = omega (arith, x .holder-low, x .few);
+        token = omega (arith, shade-limit (s .ring .token));
+        black =
+            omega (
+              arith,
+              set-limit (s .ring .colours),
+              pow-mono {i = length (s .ring .colours)} {j = 32} (omega (arith, x .shaped .colours-length, x .few)),
+            );
+      })
 
   -- ---- what is written after each part
-
-  -- the counts, as numbers that were made of them
-  pub first-part : {numbers l₁ : List ℕ} → l₁ ≡ placed 1 (laid twoWords numbers) (set w 0 saved-form) → numbers ≡ countWords c
-      → l₁ ≡ placed 1 (laid twoWords (countWords c)) (set w 0 saved-form)
-  first-part e q = e ∙ ap (λ (k : List ℕ). placed 1 (laid twoWords k) (set w 0 saved-form)) q
 
   -- as many words as before
   pub same-long : {l : List ℕ} → l ≡ savedWords n s → length l ≡ length w
   same-long e = ap length e ∙ saved-length (x .shaped) ∙ sym (x .long)
 
-  module _ {l₁ : List ℕ} (e₁ : l₁ ≡ placed 1 (laid twoWords (countWords c)) (set w 0 saved-form)) where
+  module _ {l₁ : List ℕ} (b₁ : Begins (length w) (headWords c r) l₁) where
     counted : Begins N A₀ l₁
-    unfolding laid
     counted =
-        begins-next begun (laid twoWords (countWords (s .counts))) 1 e₁ (ap (λ (d : Counts). laid twoWords (countWords d)) (x .counts-are)) refl
-        (omega arith)
+        let heads : headWords c r ≡ A₀ =
+        ap (λ (d : Counts). headWords d r) (x .counts-are) ∙ ap (λ (q : Ring). headWords (s .counts) q) (x .ring-is) in
+        subst (λ (k : ℕ). Begins k A₀ l₁) (x .long) (subst (λ (pre : List ℕ). Begins (length w) pre l₁) heads b₁)
 
     pub long₁ : length l₁ ≡ length w
     long₁ = omega (arith, counted .long, x .long)
 
-    module _ {l₂ : List ℕ} (e₂ : l₂ ≡ placed 13 (workersWords (x .recorded .workers) (x .recorded .rested)) l₁) where
+    module _ {l₂ : List ℕ} (e₂ : l₂ ≡ placed 16 (workersWords (x .recorded .workers) (x .recorded .rested)) l₁) where
       recorded : Begins N A₁ l₂
       recorded =
-          begins-next counted (workersWords (s .workers) (s .rested)) 13 e₂
+          begins-next counted (workersWords (s .workers) (s .rested)) 16 e₂
           (ap (λ (ws : List Worker). workersWords ws (x .recorded .rested)) (x .workers-are)
           ∙ ap (λ (ns : List ℕ). workersWords (s .workers) ns) (x .rested-are))
           A₀-long
@@ -138,27 +168,27 @@ module _ {W : ℕ} {marks work tallies regs : List ℕ} {c : Counts} {w : List �
       pub long₂ : length l₂ ≡ length w
       long₂ = omega (arith, recorded .long, x .long)
 
-      module _ {l₃ : List ℕ} (e₃ : l₃ ≡ placed (13 + 4 * W) (laid twoWords tallies) l₂) where
+      module _ {l₃ : List ℕ} (e₃ : l₃ ≡ placed (16 + 4 * W) (laid twoWords tallies) l₂) where
         tallied : Begins N A₂ l₃
         tallied =
-            begins-next recorded (laid twoWords (talliesWords (s .tallies))) (13 + 4 * W) e₃ (ap (laid twoWords) (x .tallies-are)) A₁-long
+            begins-next recorded (laid twoWords (talliesWords (s .tallies))) (16 + 4 * W) e₃ (ap (laid twoWords) (x .tallies-are)) A₁-long
             (omega (arith, tallies-long (x .shaped)))
 
         pub long₃ : length l₃ ≡ length w
         long₃ = omega (arith, tallied .long, x .long)
 
-        module _ {l₄ : List ℕ} (e₄ : l₄ ≡ placed (13 + 4 * W + 8 * W) marks l₃) where
+        module _ {l₄ : List ℕ} (e₄ : l₄ ≡ placed (16 + 4 * W + 8 * W) marks l₃) where
           marked : Begins N A₃ l₄
-          marked = begins-next tallied (s .marks) (13 + 4 * W + 8 * W) e₄ (x .marks-are) A₂-long (omega (arith, x .shaped .marks-length))
+          marked = begins-next tallied (s .marks) (16 + 4 * W + 8 * W) e₄ (x .marks-are) A₂-long (omega (arith, x .shaped .marks-length))
 
           pub long₄ : length l₄ ≡ length w
           long₄ = omega (arith, marked .long, x .long)
 
           -- the last part
-          pub all-written : {l₅ : List ℕ} → l₅ ≡ placed (13 + 4 * W + 8 * W + length marks) work l₄ → l₅ ≡ savedWords n s
+          pub all-written : {l₅ : List ℕ} → l₅ ≡ placed (16 + 4 * W + 8 * W + length marks) work l₄ → l₅ ≡ savedWords n s
           unfolding savedWords
           all-written e₅ =
-              let last = 13 + 4 * W + 8 * W + length marks in
+              let last = 16 + 4 * W + 8 * W + length marks in
               let b = begins-next marked (memory n (s .workers)) last e₅ (x .work-is) (omega (arith, A₃-long, marks-long))
               (omega (arith, marks-long, stretches-long (x .shaped))) in
               begins-all b (rw length-append (omega (arith, A₃-long, stretches-long (x .shaped)))) ∙ simp append-assoc

@@ -18,6 +18,8 @@ use Rattle.machine.specs.Accepted.{Accepted}
 use Rattle.worker.specs.Registers.{block-words, status-ended}
 use Rattle.turns.specs.declared.Setup.{Setup}
 use Rattle.turns.specs.declared.Progress.{Progress}
+use Rattle.turns.specs.declared.ring.Ring.{Ring}
+use Rattle.turns.specs.Ringing.{ringWith}
 use Rattle.turns.specs.Held.{memory, settingOf, Holds}
 use Rattle.saved.specs.Sound.{SavedRun}
 
@@ -43,15 +45,20 @@ pub record Telling (numbers words : List ℕ) (W : ℕ) : Type 0 where
 abbrev pub partOf : ℕ → ℕ → List ℕ → List ℕ
 partOf at k l = take k (drop at l)
 
+-- the ring of saved words
+abbrev pub ringFrom : List ℕ → Ring
+ringFrom w = ringWith (getD w 13 0) (getD w 14 0) (getD w 15 0)
+
 -- how far the collection is
-abbrev pub progressFrom : List ℕ → List Tally → ℕ → Progress
-progressFrom numbers ts running =
+abbrev pub progressFrom : List ℕ → List Tally → ℕ → Ring → Progress
+progressFrom numbers ts running ring =
     record {
       starts = getD numbers 0 0 - sum (λ (t : Tally). t .won) ts;
       refused = getD numbers 3 0;
       moved = getD numbers 4 0;
       carrying = getD numbers 5 0;
       running = running;
+      ring = ring;
     }
 
 -- saved words that hold a sound state of an accepted call, and buffers and registers of the right length

@@ -1,14 +1,18 @@
 -- What saving asks and leaves: the buffers and the registers hold a state, and afterwards the words are those of that state.
-use Prim.Native.Nat.{ℕ, _*_, _≤_}
+use Prim.Native.Nat.{ℕ, _*_, _^_, _≤_, _<_}
 use mathlib.Core.Path.{_≡_}
-use mathlib.Core.List.{List, _++_}
+use mathlib.Core.List.{List, [], _∷_, _++_}
 use lib.ListN.{length, take, drop}
 use Rattle.graph.specs.Limits.{most-objects}
 use Rattle.machine.specs.declared.Counts.{Counts}
+use Rattle.laws.specs.Blocks.{laid}
+use Rattle.machine.specs.Row.{countWords}
 use Rattle.machine.specs.Limits.{most-workers}
 use Rattle.machine.specs.Tally.{talliesWords}
 use Rattle.machine.specs.Machine.{State, memory}
-use Rattle.saved.specs.Layout.{savedWords, savedLength}
+use Rattle.saved.specs.Layout.{saved-form, twoWords, savedWords, savedLength}
+use Rattle.turns.specs.declared.ring.Ring.{Ring}
+use Rattle.turns.specs.Ringing.{ringOf}
 use Rattle.saved.proofs.RoundTrip.{Shaped}
 use Rattle.resume.specs.Workers.{Recorded}
 
@@ -16,8 +20,23 @@ use Rattle.resume.specs.Workers.{Recorded}
 abbrev pub placed : ℕ → List ℕ → List ℕ → List ℕ
 placed at part l = take at l ++ (part ++ drop (length part) (drop at l))
 
--- the buffers, the registers and the counts are those of a state, and there is room for its words
-pub record Savable (W : ℕ) (marks work tallies regs : List ℕ) (c : Counts) (w : List ℕ) : Type 0 where
+-- a list of so many words begins so
+pub record Begins (n : ℕ) (pre l : List ℕ) : Type 0 where
+  pub long : length l ≡ n
+  pub is : take (length pre) l ≡ pre
+
+-- the number of the form, the counts and the numbers of the ring
+abbrev pub headWords : Counts → Ring → List ℕ
+headWords c r = saved-form ∷ (laid twoWords (countWords c) ++ (r .holder ∷ r .token ∷ r .black ∷ []))
+
+-- the ring's numbers are words
+pub record Narrow (r : Ring) : Type 0 where
+  pub holder : r .holder < 2 ^ 32
+  pub token : r .token < 2 ^ 32
+  pub black : r .black < 2 ^ 32
+
+-- the buffers, the registers, the ring and the counts are those of a state, and there is room for its words
+pub record Savable (W : ℕ) (marks work tallies regs : List ℕ) (c : Counts) (r : Ring) (w : List ℕ) : Type 0 where
   pub objects : ℕ
   pub state : State
   pub few : W ≤ most-workers
@@ -28,9 +47,11 @@ pub record Savable (W : ℕ) (marks work tallies regs : List ℕ) (c : Counts) (
   pub work-is : work ≡ memory objects (state .workers)
   pub tallies-are : tallies ≡ talliesWords (state .tallies)
   pub counts-are : c ≡ state .counts
+  pub ring-is : r ≡ ringOf (state .ring)
+  pub holder-low : state .ring .holder < W
   pub recorded : Recorded regs W
   pub workers-are : recorded .workers ≡ state .workers
   pub rested-are : recorded .rested ≡ state .rested
 
-abbrev pub Saves : ℕ → List ℕ → List ℕ → List ℕ → List ℕ → Counts → List ℕ → List ℕ → Type 0
-Saves W marks work tallies regs c w w′ = (x : Savable W marks work tallies regs c w) → w′ ≡ savedWords (x .objects) (x .state)
+abbrev pub Saves : ℕ → List ℕ → List ℕ → List ℕ → List ℕ → Counts → Ring → List ℕ → List ℕ → Type 0
+Saves W marks work tallies regs c r w w′ = (x : Savable W marks work tallies regs c r w) → w′ ≡ savedWords (x .objects) (x .state)

@@ -37,7 +37,7 @@ fn words_for(objects: usize, workers: u32) -> usize
     ensures { λ r. ⌜ r ≡ savedLength objects workers ⌝ }
 {
     let w = workers as usize;
-    13 + 4 * w + 8 * w + objects + w * (2 * objects + 4)
+    16 + 4 * w + 8 * w + objects + w * (2 * objects + 4)
 }
 
 // How many words a collection of n objects with W workers takes when it is saved.
@@ -143,7 +143,16 @@ fn finish(
     );
     marker::settle(setup, work, regs);
     let all = counts::counted(tallies, setup.workers, p);
-    save::save(setup.workers, marks, work, tallies, regs, all, saved);
+    save::save(
+        setup.workers,
+        marks,
+        work,
+        tallies,
+        regs,
+        all,
+        p.ring,
+        saved,
+    );
     marker::answer(tallies, setup.workers, p)
 }
 

@@ -4,12 +4,13 @@ use crate::workers;
 use turns::Progress;
 use turns::Setup;
 use turns::counts;
+use turns::ring::Ring;
 use worker::registers;
 ghost use mathlib.Core.Path.{_≡_};
 ghost use Prim.Native.Nat.{_+_, _*_, _≤_};
 ghost use lib.ListN.{length, drop};
 ghost use Rattle.machine.specs.Limits.{most-workers};
-ghost use Rattle.resume.specs.Restoring.{runs?, runningIn, Telling, progressFrom, partOf, Resumable, Resumes};
+ghost use Rattle.resume.specs.Restoring.{runs?, runningIn, ringFrom, Telling, progressFrom, partOf, Resumable, Resumes};
 ghost use Rattle.resume.specs.Copies.{numbersOf, Bytes};
 
 // 1 for a worker with this status that has not ended.
@@ -34,10 +35,10 @@ fn running(words: &[u32], workers: u32) -> u64
     count
 }
 
-// How far the collection is, from its saved counts and tallies, with so many running.
-fn progress(numbers: &[u64], tallies: &[u64], workers: u32, running: u64) -> Progress
+// How far the collection is, from its saved counts and tallies, with so many running and this ring.
+fn progress(numbers: &[u64], tallies: &[u64], workers: u32, running: u64, ring: Ring) -> Progress
     requires { ⌜ Telling (now numbers) (now tallies) workers ⌝ }
-    ensures { λ p. ⌜ ((x : Telling (now (numbers .entry)) (now (tallies .entry)) workers) → p ≡ progressFrom (now (numbers .entry)) (x .tallies) running) ⌝ }
+    ensures { λ p. ⌜ ((x : Telling (now (numbers .entry)) (now (tallies .entry)) workers) → p ≡ progressFrom (now (numbers .entry)) (x .tallies) running ring) ⌝ }
 {
     Progress {
         starts: numbers[0] - counts::total(tallies, workers, counts::WON),
@@ -45,6 +46,19 @@ fn progress(numbers: &[u64], tallies: &[u64], workers: u32, running: u64) -> Pro
         moved: numbers[4],
         carrying: numbers[5],
         running,
+        ring,
+    }
+}
+
+// The token ring.
+fn ring_from(saved: &[u32]) -> Ring
+    requires { ⌜ 16 ≤ length (now saved) ⌝ }
+    ensures { λ r. ⌜ r ≡ ringFrom (now (saved .entry)) ⌝ }
+{
+    Ring {
+        holder: saved[13] as u64,
+        token: saved[14] as u64,
+        black: saved[15] as u64,
     }
 }
 
@@ -97,14 +111,14 @@ pub fn restore(
         (now (marks .exit)) (now (work .exit)) (now (tallies .exit)) (now (regs .exit)) p ⌝ }
 {
     let w = setup.workers;
-    let tallies_place = 13 + 4 * w as usize;
+    let tallies_place = 16 + 4 * w as usize;
     let marks_place = tallies_place + 8 * w as usize;
     let mut numbers = [0u64; 6];
     counts_from(saved, &mut numbers);
     tallies_from(saved, tallies_place, tallies);
     marks_from(saved, marks_place, marks);
     work_from(saved, marks_place + marks.len(), work);
-    let words = &saved[13..tallies_place];
+    let words = &saved[16..tallies_place];
     workers::take_workers(targets, words, work, w, setup.stretch, regs);
-    progress(&numbers, tallies, w, running(words, w))
+    progress(&numbers, tallies, w, running(words, w), ring_from(saved))
 }

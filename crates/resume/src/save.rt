@@ -2,13 +2,14 @@
 use crate::words;
 use crate::workers;
 use machine::Counts;
+use turns::ring::Ring;
 ghost use mathlib.Core.Path.{_≡_};
 ghost use Prim.Native.Nat.{_+_, _*_, _≤_};
 ghost use lib.ListN.{length};
 ghost use Rattle.laws.specs.Blocks.{laid};
 ghost use Rattle.saved.specs.Layout.{twoWords, workersWords};
 ghost use Rattle.resume.specs.Workers.{Recorded};
-ghost use Rattle.resume.specs.Saving.{placed, Savable, Saves};
+ghost use Rattle.resume.specs.Saving.{placed, Begins, headWords, Narrow, Savable, Saves};
 
 // Numbers, two words each, from a place on.
 fn numbers_at(numbers: &[u64], at: usize, saved: &mut [u32])
@@ -46,7 +47,22 @@ fn words_at(work: &[u32], at: usize, saved: &mut [u32])
     words::copy(work, &mut saved[at..end]);
 }
 
-// The number of the form, the counts, each worker's words, the tallies, the marks and the stretches.
+// The number of the form, the counts and the token ring.
+fn heads_at(counts: Counts, ring: Ring, saved: &mut [u32])
+    requires { ⌜ (16 ≤ length (now saved)) × Narrow ring ⌝ }
+    ensures { λ _. ⌜ Begins (length (now (saved .entry))) (headWords counts ring) (now (saved .exit)) ⌝ }
+{
+    let mut numbers = [0u64; 6];
+    machine::put_counts(counts, &mut numbers);
+    saved[0] = saved::FORM;
+    numbers_at(&numbers, 1, saved);
+    saved[13] = ring.holder as u32;
+    saved[14] = ring.token as u32;
+    saved[15] = ring.black as u32;
+}
+
+// The number of the form, the counts, the token ring, each worker's words, the tallies, the marks and
+// the stretches.
 pub fn save(
     workers: u32,
     marks: &[u8],
@@ -54,17 +70,15 @@ pub fn save(
     tallies: &[u64],
     regs: &[u32],
     counts: Counts,
+    ring: Ring,
     saved: &mut [u32],
 )
-    requires { ⌜ Savable workers (now marks) (now work) (now tallies) (now regs) counts (now saved) ⌝ }
-    ensures { λ _. ⌜ Saves workers (now (marks .entry)) (now (work .entry)) (now (tallies .entry)) (now (regs .entry)) counts (now (saved .entry)) (now (saved .exit)) ⌝ }
+    requires { ⌜ Savable workers (now marks) (now work) (now tallies) (now regs) counts ring (now saved) ⌝ }
+    ensures { λ _. ⌜ Saves workers (now (marks .entry)) (now (work .entry)) (now (tallies .entry)) (now (regs .entry)) counts ring (now (saved .entry)) (now (saved .exit)) ⌝ }
 {
-    let mut numbers = [0u64; 6];
-    machine::put_counts(counts, &mut numbers);
-    saved[0] = saved::FORM;
-    numbers_at(&numbers, 1, saved);
-    workers_at(regs, workers, 13, saved);
-    let tallies_place = 13 + 4 * workers as usize;
+    heads_at(counts, ring, saved);
+    workers_at(regs, workers, 16, saved);
+    let tallies_place = 16 + 4 * workers as usize;
     numbers_at(tallies, tallies_place, saved);
     let marks_place = tallies_place + 8 * workers as usize;
     marks_at(marks, marks_place, saved);

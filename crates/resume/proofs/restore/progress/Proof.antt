@@ -10,29 +10,29 @@ use Rattle.resume.proofs.restore.progress.Lts as lts
 use Rattle.turns.proofs.counts.total.Reads as total-reads
 
 -- src/restore.rt:35:17
-shared-slice-read-t6 : tie.Need-shared-slice-read-t6
-shared-slice-read-t6 c = search needs
+shared-slice-read-t7 : tie.Need-shared-slice-read-t7
+shared-slice-read-t7 c = search needs
 
 -- src/restore.rt:35:30
 total-requires : tie.Need-total-requires
 total-requires c κs = won-sums (c .before .before .before .pre)
 
 -- src/restore.rt:35:17
-sub-t8 : tie.Need-sub-t8
-sub-t8 c =
+sub-t9 : tie.Need-sub-t9
+sub-t9 c =
     let x = c .before .before .before .before .pre in omega (arith, c .total .ensures (won-sums x), x .won-live)
 
 -- src/restore.rt:36:18
-shared-slice-read-t10 : tie.Need-shared-slice-read-t10
-shared-slice-read-t10 c = search needs
+shared-slice-read-t11 : tie.Need-shared-slice-read-t11
+shared-slice-read-t11 c = search needs
 
 -- src/restore.rt:37:16
-shared-slice-read-t12 : tie.Need-shared-slice-read-t12
-shared-slice-read-t12 c = search needs
+shared-slice-read-t13 : tie.Need-shared-slice-read-t13
+shared-slice-read-t13 c = search needs
 
 -- src/restore.rt:38:19
-shared-slice-read-t14 : tie.Need-shared-slice-read-t14
-shared-slice-read-t14 c = search needs
+shared-slice-read-t15 : tie.Need-shared-slice-read-t15
+shared-slice-read-t15 c = search needs
 
 -- src/restore.rt:30:1
 returns : tie.Need-returns
@@ -40,16 +40,16 @@ returns c =
     λ x.
     let a = c .before .before .before .before .before .before .before .args in
     let won = c .before .before .before .total .ensures (won-sums x) in
-    same-starts (a .numbers .now) (a .running) won
+    same-starts (a .numbers .now) (a .running) (a .ring) won
 
 pub progress-spec : {M : Type 1} → statement M
 progress-spec =
     tie.close
     (tie.spec
-    shared-slice-read-t6
+    shared-slice-read-t7
     total-requires
-    sub-t8
-    shared-slice-read-t10
-    shared-slice-read-t12
-    shared-slice-read-t14
+    sub-t9
+    shared-slice-read-t11
+    shared-slice-read-t13
+    shared-slice-read-t15
     returns)

@@ -106,7 +106,7 @@ take-workers-requires c κs =
     let counted = tallied .before .before .before in
     let entry = counted .before .before .before .before .before .before .before .before in
     let x = entry .pre in
-    all-restorable x (part-lent (entry .args .saved .now) 13 (4 * entry .args .setup .workers) ∙ records-are x) (worked .work-from .ensures ∙ work-there x (marked .marks-from .ensures ∙ marks-are x))
+    all-restorable x (part-lent (entry .args .saved .now) 16 (4 * entry .args .setup .workers) ∙ records-are x) (worked .work-from .ensures ∙ work-there x (marked .marks-from .ensures ∙ marks-are x))
 
 -- src/restore.rt:109:14
 slice-aggregate-progress : tie.Need-slice-aggregate-progress
@@ -116,17 +116,28 @@ slice-aggregate-progress c = search needs
 running-requires : tie.Need-running-requires
 running-requires c κs = search needs
 
--- src/restore.rt:109:5
-progress-requires : tie.Need-progress-requires
-progress-requires c κs =
+-- src/restore.rt:109:50
+ring-from-requires : tie.Need-ring-from-requires
+ring-from-requires c κs =
     let placed = c .before .before .before .before .before in
     let worked = placed .before .before .before .before .before .before in
     let marked = worked .before .before .before .before in
     let tallied = marked .before .before .before .before in
     let counted = tallied .before .before .before in
     let entry = counted .before .before .before .before .before .before .before .before in
+    omega (arith, long (entry .pre))
+
+-- src/restore.rt:109:5
+progress-requires : tie.Need-progress-requires
+progress-requires c κs =
+    let placed = c .before .before .before .before .before .before in
+    let worked = placed .before .before .before .before .before .before in
+    let marked = worked .before .before .before .before in
+    let tallied = marked .before .before .before .before in
+    let counted = tallied .before .before .before in
+    let entry = counted .before .before .before .before .before .before .before .before in
     let x = entry .pre in
-    telling x (part-lent (entry .args .saved .now) 13 (4 * entry .args .setup .workers) ∙ records-are x) (worked .work-from .ensures ∙ work-there x (marked .marks-from .ensures ∙ marks-are x)) (counted .counts-from .ensures ∙ numbers-are x) (tallied .tallies-from .ensures ∙ tallies-are x)
+    telling x (part-lent (entry .args .saved .now) 16 (4 * entry .args .setup .workers) ∙ records-are x) (worked .work-from .ensures ∙ work-there x (marked .marks-from .ensures ∙ marks-are x)) (counted .counts-from .ensures ∙ numbers-are x) (tallied .tallies-from .ensures ∙ tallies-are x)
 
 -- src/restore.rt:86:1
 same-length : tie.Need-same-length
@@ -138,7 +149,12 @@ same-length-2 c = search needs
 
 -- src/restore.rt:86:1
 same-length-3 : tie.Need-same-length-3
-same-length-3 c = search needs
+same-length-3 c =
+    let placed = c .before .before .before .before .before .before .before in
+    let worked = placed .before .before .before .before .before .before in
+    let marked = worked .before .before .before .before in
+    let tallied = marked .before .before .before .before in
+    omega (arith, tallied .tallies-from .kept .1 .1 .0)
 
 -- src/restore.rt:86:1
 same-length-4 : tie.Need-same-length-4
@@ -148,14 +164,15 @@ same-length-4 c = search needs
 returns : tie.Need-returns
 returns c =
     λ x.
-    let run = c .before in
+    let ringed = c .before in
+    let run = ringed .before in
     let placed = run .before .before .before .before .before in
     let worked = placed .before .before .before .before .before .before in
     let marked = worked .before .before .before .before in
     let tallied = marked .before .before .before .before in
     let counted = tallied .before .before .before in
     let entry = counted .before .before .before .before .before .before .before .before in
-    all-held x (part-lent (entry .args .saved .now) 13 (4 * entry .args .setup .workers) ∙ records-are x) (worked .work-from .ensures ∙ work-there x (marked .marks-from .ensures ∙ marks-are x)) (counted .counts-from .ensures ∙ numbers-are x) (tallied .tallies-from .ensures ∙ tallies-are x) (marked .marks-from .ensures ∙ marks-are x) refl (placed .take-workers .ensures) (run .running .ensures) (c .progress .ensures)
+    all-held x (part-lent (entry .args .saved .now) 16 (4 * entry .args .setup .workers) ∙ records-are x) (worked .work-from .ensures ∙ work-there x (marked .marks-from .ensures ∙ marks-are x)) (counted .counts-from .ensures ∙ numbers-are x) (tallied .tallies-from .ensures ∙ tallies-are x) (marked .marks-from .ensures ∙ marks-are x) refl (placed .take-workers .ensures) (run .running .ensures) (ringed .ring-from .ensures) (c .progress .ensures)
 
 pub restore-spec : {M : Type 1} → statement M
 restore-spec =
@@ -179,6 +196,7 @@ restore-spec =
     take-workers-requires
     slice-aggregate-progress
     running-requires
+    ring-from-requires
     progress-requires
     same-length
     same-length-2
