@@ -92,6 +92,8 @@ pub(crate) struct Worker {
     /// In reverse: the last one is followed first.
     pub runs: Vec<Run>,
     pub carried: u32,
+    /// It has handed over since it last passed the token.
+    pub black: bool,
     pub tally: Tally,
 }
 
@@ -106,9 +108,26 @@ impl Worker {
             claim: false,
             runs: Vec::new(),
             carried: 0,
+            black: false,
             tally: Tally::default(),
         }
     }
+}
+
+/// The token of the ring.
+#[derive(Clone, Copy, Debug, PartialEq, Eq)]
+pub(crate) struct Token {
+    pub holder: usize,
+    pub black: bool,
+}
+
+/// What a turn did.
+#[derive(PartialEq, Eq)]
+enum Turned {
+    Nothing,
+    /// It passed the token, and changed nothing else.
+    Passed,
+    Moved,
 }
 
 pub(crate) struct Machine<'a> {
@@ -118,6 +137,7 @@ pub(crate) struct Machine<'a> {
     pub cutoff: u32,
     pub marks: &'a mut [u8],
     pub workers: Vec<Worker>,
+    pub token: Token,
     pub followed: u64,
     pub handed: u64,
     pub refused: u64,
@@ -140,13 +160,26 @@ impl<'a> Machine<'a> {
             }
             marks[v] = 1;
         }
-        Machine { offsets, targets, batch, cutoff, marks, workers: all, followed: 0, handed: 0, refused: 0, moved: 0 }
+        let token = Token { holder: 0, black: false };
+        Machine {
+            offsets,
+            targets,
+            batch,
+            cutoff,
+            marks,
+            workers: all,
+            token,
+            followed: 0,
+            handed: 0,
+            refused: 0,
+            moved: 0,
+        }
     }
 
     /// The turns of a schedule.
     pub fn run(&mut self, schedule: &[u8]) {
         for entry in schedule.chunks_exact(2) {
-            if self.turn(entry[0] as usize, entry[1] as usize) {
+            if self.turn(entry[0] as usize, entry[1] as usize) == Turned::Moved {
                 self.moved += 1;
             }
         }
@@ -183,20 +216,20 @@ impl<'a> Machine<'a> {
         self.workers.iter().filter(|one| one.carried > 0).count() as u64
     }
 
-    /// One turn of worker b, naming another; whether it changed something.
-    fn turn(&mut self, b: usize, named: usize) -> bool {
+    /// One turn of worker b, naming another.
+    fn turn(&mut self, b: usize, named: usize) -> Turned {
         match self.workers[b].status {
-            Status::Ended | Status::Asking => false,
+            Status::Ended | Status::Asking => Turned::Nothing,
             Status::Refused => {
                 self.workers[b].status = Status::Idle;
-                true
+                Turned::Moved
             }
             Status::Given => {
                 let me = &mut self.workers[b];
                 me.status = Status::Busy;
                 me.since = 0;
                 me.batch = 0;
-                true
+                Turned::Moved
             }
             Status::Idle => self.idle(b, named),
             Status::Busy if self.workers[b].batch == 0 => self.poll(b),
@@ -204,22 +237,40 @@ impl<'a> Machine<'a> {
         }
     }
 
-    fn idle(&mut self, b: usize, named: usize) -> bool {
-        if self.carrying() == 0 {
+    fn idle(&mut self, b: usize, named: usize) -> Turned {
+        if self.workers[0].status == Status::Ended {
             self.workers[b].status = Status::Ended;
-            return true;
+            return Turned::Moved;
+        }
+        if self.token.holder == b {
+            return self.pass(b);
         }
         match self.workers.get_mut(named) {
             Some(other) if named != b && other.status == Status::Busy && other.cell.is_none() => {
                 other.cell = Some(b as u8);
                 self.workers[b].status = Status::Asking;
-                true
+                Turned::Moved
             }
-            _ => false,
+            _ => Turned::Nothing,
         }
     }
 
-    fn poll(&mut self, b: usize) -> bool {
+    /// An idle worker that holds the token.
+    fn pass(&mut self, b: usize) -> Turned {
+        let black = std::mem::take(&mut self.workers[b].black);
+        if b > 0 {
+            self.token = Token { holder: b - 1, black: self.token.black || black };
+            return Turned::Passed;
+        }
+        if !self.token.black && !black {
+            self.workers[0].status = Status::Ended;
+            return Turned::Moved;
+        }
+        self.token = Token { holder: self.workers.len() - 1, black: false };
+        Turned::Passed
+    }
+
+    fn poll(&mut self, b: usize) -> Turned {
         if let Some(asker) = self.workers[b].cell.take() {
             let me = &self.workers[b];
             if me.carried > self.cutoff || (me.since >= self.cutoff && me.carried >= 2) {
@@ -231,7 +282,7 @@ impl<'a> Machine<'a> {
         }
         let me = &mut self.workers[b];
         me.batch = self.batch.min(me.carried);
-        true
+        Turned::Moved
     }
 
     fn share(&mut self, b: usize, asker: usize) {
@@ -258,6 +309,7 @@ impl<'a> Machine<'a> {
         me.carried = keep;
         me.since = 0;
         me.tally.handed += 1;
+        me.black = true;
         let other = &mut self.workers[asker];
         other.runs = given;
         other.carried = handed;
@@ -266,14 +318,14 @@ impl<'a> Machine<'a> {
         self.handed += 1;
     }
 
-    fn work(&mut self, b: usize) -> bool {
+    fn work(&mut self, b: usize) -> Turned {
         let me = &mut self.workers[b];
         let &(e, _) = me.runs.last().unwrap();
         let target = self.targets[e as usize] as usize;
         let marked = self.marks[target] != 0;
         if !me.claim && !marked {
             me.claim = true;
-            return true;
+            return Turned::Moved;
         }
         let claiming = std::mem::take(&mut me.claim);
         if claiming && marked {
@@ -284,7 +336,7 @@ impl<'a> Machine<'a> {
             self.marks[target] = b as u8 + 1;
         }
         self.follow(b, (claiming && !marked).then_some(target));
-        true
+        Turned::Moved
     }
 
     fn follow(&mut self, b: usize, claimed: Option<usize>) {
@@ -418,8 +470,9 @@ mod tests {
 
     #[test]
     fn drawings() {
-        let a = [0, 1, 0, 0, 0, 1, 1, 0, 1, 0, 0, 0, 1, 0, 1, 1, 0, 1];
+        let a = A;
         assert_eq!(run(&OFFSETS, &TARGETS, 2, 1, 1, &a), [1, 4, 5, 1, 0, 18, 0]);
+        assert_eq!(run(&OFFSETS, &TARGETS, 2, 1, 1, &a[..18]), [0, 4, 5, 1, 0, 16, 0]);
         assert_eq!(run(&OFFSETS, &TARGETS, 2, 1, 1, &a[..5]), [0, 2, 1, 1, 0, 5, 2]);
         assert_eq!(run(&OFFSETS, &TARGETS, 2, 1, 2, &a[..5]), [0, 2, 1, 0, 1, 5, 1]);
         assert_eq!(run(&OFFSETS, &TARGETS, 1, 2, 1, &[0; 12]), [1, 4, 5, 0, 0, 12, 0]);
@@ -429,6 +482,27 @@ mod tests {
         assert_eq!(run(&[0, 0], &[], 2, 1, 1, &[0, 0]), [0, 1, 0, 0, 0, 1, 0]);
         assert_eq!(run(&[0, 1], &[0], 1, 1, 1, &[0; 3]), [1, 1, 1, 0, 0, 3, 0]);
         assert_eq!(run(&[0, 2, 2], &[1, 1], 1, 2, 1, &[0; 5]), [1, 2, 2, 0, 0, 5, 0]);
+    }
+
+    /// 0→1 four times and three workers: the token comes back black once.
+    #[test]
+    fn ring() {
+        let turns = [(1, 0), (0, 0), (1, 0), (0, 0), (0, 0), (0, 0), (0, 0), (0, 0), (2, 0), (2, 1), (1, 0)];
+        let more = [(1, 0), (1, 0), (0, 0), (2, 0), (2, 0), (2, 0), (2, 0), (1, 0), (0, 0), (1, 0), (2, 0)];
+        let schedule: Vec<u8> = turns.iter().chain(&more).flat_map(|&(b, v)| [b, v]).collect();
+        let (offsets, targets) = ([0, 4, 4], [1; 4]);
+        let (mut marks, mut work, mut words) = (vec![7; 2], vec![9; 24], vec![5; 12]);
+        let call = Call {
+            offsets: &offsets,
+            targets: &targets,
+            starts: &[0],
+            workers: 3,
+            batch: 1,
+            cutoff: 1,
+            schedule: &schedule,
+        };
+        let outcome = mark(call, &mut marks, &mut work, &mut words).unwrap();
+        assert_eq!(outcome.words(), [1, 2, 4, 2, 0, 16, 0]);
     }
 
     #[test]
@@ -456,7 +530,7 @@ mod tests {
         (marks, words)
     }
 
-    const A: [u8; 18] = [0, 1, 0, 0, 0, 1, 1, 0, 1, 0, 0, 0, 1, 0, 1, 1, 0, 1];
+    const A: [u8; 20] = [0, 1, 0, 0, 0, 1, 1, 0, 1, 0, 0, 0, 1, 0, 1, 1, 0, 1, 0, 1];
 
     #[test]
     fn owners_differ_between_two_orders() {

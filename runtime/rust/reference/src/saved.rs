@@ -1,10 +1,10 @@
 //! A collection that is stopped and taken up again, SPECIFICATION 8.
 
-use crate::machine::{check, Call, Machine, Outcome, Run, Status, Tally, Worker};
+use crate::machine::{check, Call, Machine, Outcome, Run, Status, Tally, Token, Worker};
 use crate::MOST_OBJECTS;
 
 /// The first of the saved words.
-pub const FORM: u32 = 1;
+pub const FORM: u32 = 2;
 
 /// Where each part of the saved words begins.
 #[derive(Clone, Copy, Debug, PartialEq, Eq)]
@@ -16,8 +16,10 @@ pub struct Places {
 impl Places {
     /// Six counts of two words each, behind the form.
     pub const COUNTS: usize = 1;
+    /// The holder of the token, its colour, and the black workers as bits.
+    pub const RING: usize = 13;
     /// Status, cell, since and batch of each worker.
-    pub const WORKERS: usize = 13;
+    pub const WORKERS: usize = 16;
 
     /// For a call.
     pub fn of(call: Call<'_>) -> Self {
@@ -79,6 +81,7 @@ struct State {
     refused: u64,
     moved: u64,
     carrying: u64,
+    token: Token,
     workers: Vec<Worker>,
     marks: Vec<u32>,
 }
@@ -139,19 +142,22 @@ fn worker(words: &[u32], places: Places, b: usize) -> Option<Worker> {
     let runs = runs(&words[stretch..stretch + places.stretch_words()])?;
     let carried = u32::try_from(runs.iter().map(|&run| length(run)).sum::<u64>()).unwrap_or(u32::MAX);
     let tally = Tally::from_words(std::array::from_fn(|k| number(words, places.tally(b) + 2 * k)));
-    Some(Worker { status, cell, since, batch: words[at + 3], claim, runs, carried, tally })
+    let black = words[Places::RING + 2] >> b & 1 == 1;
+    Some(Worker { status, cell, since, batch: words[at + 3], claim, runs, carried, black, tally })
 }
 
 /// The state that the words hold, if they hold one.
 fn state(words: &[u32], places: Places) -> Option<State> {
-    if words[0] != FORM {
+    let [holder, colour, black] = [0, 1, 2].map(|k| words[Places::RING + k]);
+    if words[0] != FORM || colour > 1 || black >> places.workers != 0 {
         return None;
     }
+    let token = Token { holder: holder as usize, black: colour == 1 };
     let [live, followed, handed, refused, moved, carrying] =
         std::array::from_fn(|k| number(words, Places::COUNTS + 2 * k));
     let workers = (0..places.workers).map(|b| worker(words, places, b)).collect::<Option<_>>()?;
     let marks = words[places.marks()..places.marks() + places.objects].to_vec();
-    Some(State { live, followed, handed, refused, moved, carrying, workers, marks })
+    Some(State { live, followed, handed, refused, moved, carrying, token, workers, marks })
 }
 
 /// The object whose references hold the one of this number.
@@ -204,6 +210,9 @@ pub fn unsound(call: Call<'_>, words: &[u32]) -> Vec<u8> {
     distinct.dedup();
     let tallied = |number: fn(&Tally) -> u64| sum(s.workers.iter().map(|one| number(&one.tally)));
     let followed = u128::from(s.followed);
+    let below = |b: usize| b <= s.token.holder;
+    let some_black = s.token.black || (0..s.workers.len()).any(|b| below(b) && s.workers[b].black);
+    let some_ended = s.workers.iter().any(|one| one.status == Status::Ended);
 
     let conditions = [
         (1, s.marks.iter().all(|&mark| mark <= w)),
@@ -240,6 +249,9 @@ pub fn unsound(call: Call<'_>, words: &[u32]) -> Vec<u8> {
         (24, tallied(|tally| tally.handed) == u128::from(s.handed)),
         (24, tallied(|tally| tally.won) + distinct.len() as u128 == u128::from(s.live)),
         (25, every(&|one| u128::from(one.tally.won) + u128::from(one.tally.lost) <= u128::from(one.tally.followed))),
+        (26, s.token.holder < s.workers.len()),
+        (27, some_black || (0..s.workers.len()).all(|b| below(b) || !carries(&s.workers[b]))),
+        (28, !some_ended || (s.workers[0].status == Status::Ended && s.token.holder == 0)),
     ];
     conditions.into_iter().filter(|&(_, holds)| !holds).map(|(number, _)| number).collect()
 }
@@ -257,6 +269,12 @@ fn save(machine: &Machine<'_>, saved: &mut [u32]) {
     for (k, &count) in outcome.words()[1..].iter().enumerate() {
         put_number(saved, Places::COUNTS + 2 * k, count);
     }
+    let black = (0..machine.workers.len()).filter(|&b| machine.workers[b].black).map(|b| 1 << b).sum();
+    saved[Places::RING..Places::WORKERS].copy_from_slice(&[
+        machine.token.holder as u32,
+        u32::from(machine.token.black),
+        black,
+    ]);
     for (b, one) in machine.workers.iter().enumerate() {
         let cell = one.cell.map_or(0, |asker| u32::from(asker) + 1);
         saved[places.worker(b)..places.worker(b) + 4].copy_from_slice(&[code(one), cell, one.since, one.batch]);
@@ -301,13 +319,14 @@ pub fn resume(
     if !unsound(call, saved).is_empty() {
         return Err(14);
     }
-    let State { followed, handed, refused, moved, workers, marks: saved_marks, .. } =
+    let State { followed, handed, refused, moved, token, workers, marks: saved_marks, .. } =
         state(saved, places).expect("a sound state");
     for (mark, word) in marks.iter_mut().zip(saved_marks) {
         *mark = word as u8;
     }
     let Call { offsets, targets, batch, cutoff, schedule, .. } = call;
-    let mut machine = Machine { offsets, targets, batch, cutoff, marks, workers, followed, handed, refused, moved };
+    let mut machine =
+        Machine { offsets, targets, batch, cutoff, marks, workers, token, followed, handed, refused, moved };
     machine.run(schedule);
     save(&machine, saved);
     Ok(machine.leave(work, tallies))
@@ -319,7 +338,7 @@ mod tests {
 
     const OFFSETS: [u32; 7] = [0, 2, 3, 4, 5, 5, 6];
     const TARGETS: [u32; 6] = [1, 2, 3, 3, 0, 4];
-    const A: [u8; 18] = [0, 1, 0, 0, 0, 1, 1, 0, 1, 0, 0, 0, 1, 0, 1, 1, 0, 1];
+    const A: [u8; 20] = [0, 1, 0, 0, 0, 1, 1, 0, 1, 0, 0, 0, 1, 0, 1, 1, 0, 1, 0, 1];
 
     fn schedule(turns: &[u8]) -> Vec<u8> {
         turns.iter().flat_map(|&b| [b, 0]).collect()
@@ -331,7 +350,7 @@ mod tests {
 
     /// Store S and case A's settings: these turns in these parts.
     fn run(parts: &[&[u8]]) -> (Outcome, Vec<u8>, Vec<u32>, Vec<u64>, Vec<u32>) {
-        let (mut marks, mut work, mut tallies, mut saved) = (vec![7; 6], vec![9; 32], vec![5; 8], vec![3; 75]);
+        let (mut marks, mut work, mut tallies, mut saved) = (vec![7; 6], vec![9; 32], vec![5; 8], vec![3; 78]);
         let mut outcome = None;
         for turns in parts {
             let schedule = schedule(turns);
@@ -348,8 +367,8 @@ mod tests {
 
     #[test]
     fn lengths() {
-        assert_eq!(saved_words(6, 2), Ok(75));
-        assert_eq!(saved_words(65_536, 16), Ok(13 + 12 * 16 + 65_536 + 16 * 131_076));
+        assert_eq!(saved_words(6, 2), Ok(78));
+        assert_eq!(saved_words(65_536, 16), Ok(16 + 12 * 16 + 65_536 + 16 * 131_076));
         assert_eq!(
             [saved_words(0, 0), saved_words(1, 17), saved_words(0, 1), saved_words(65_537, 16)],
             [Err(8), Err(8), Err(4), Err(4)]
@@ -370,8 +389,8 @@ mod tests {
     #[test]
     fn words_of_case_b() {
         let words = run(&[&A[..5]]).4;
-        let (head, rest) = words.split_at(13);
-        assert_eq!(head, [1, 2, 0, 1, 0, 1, 0, 0, 0, 5, 0, 2, 0]);
+        let (head, rest) = words.split_at(16);
+        assert_eq!(head, [2, 2, 0, 1, 0, 1, 0, 0, 0, 5, 0, 2, 0, 0, 0, 1]);
         let (workers, rest) = rest.split_at(8);
         assert_eq!(workers, [6, 0, 0, 1, 4, 0, 0, 0]);
         let (tallies, rest) = rest.split_at(16);
@@ -385,8 +404,8 @@ mod tests {
     #[test]
     fn zeros_and_other_forms_hold_none() {
         let call = call(&[]);
-        assert_eq!(unsound(call, &[0; 75]), [0]);
-        for form in [0, 2, u32::MAX] {
+        assert_eq!(unsound(call, &[0; 78]), [0]);
+        for form in [0, 1, u32::MAX] {
             let mut words = run(&[&A[..5]]).4;
             words[0] = form;
             assert_eq!(unsound(call, &words), [0]);

@@ -63,6 +63,7 @@ type Workers = [Worker; 16];
 /// What a turn did.
 #[derive(PartialEq)]
 enum Turned {
+    /// No mark and no worker changed; the token may have been passed.
     Nothing,
     Something,
     /// The last worker has ended.
@@ -78,6 +79,13 @@ struct Counts {
     awake: u32,
 }
 
+/// The token ring: who holds the token, whether it is black, and the black workers as bits.
+struct Ring {
+    holder: u8,
+    token: bool,
+    black: u32,
+}
+
 struct Machine<'a> {
     offsets: &'a [u32],
     targets: &'a [u32],
@@ -86,6 +94,8 @@ struct Machine<'a> {
     marks: &'a mut [u8],
     work: &'a mut [u32],
     workers: Workers,
+    highest: u8,
+    ring: Ring,
     counts: Counts,
 }
 
@@ -210,10 +220,11 @@ impl Machine<'_> {
 
     #[inline(always)]
     fn idle(&mut self, b: u8, v: u8) -> Turned {
-        if self.counts.carrying == 0 {
-            self.workers[usize::from(b & 15)].status = ENDED;
-            self.counts.awake -= 1;
-            return if self.counts.awake == 0 { Turned::Last } else { Turned::Something };
+        if self.workers[0].status == ENDED {
+            return self.end(b);
+        }
+        if self.ring.holder == b {
+            return self.pass(b);
         }
         match self.workers.get_mut(usize::from(v)) {
             Some(other) if other.status >= POLL && other.cell == 0 => {
@@ -223,6 +234,28 @@ impl Machine<'_> {
             }
             _ => Turned::Nothing,
         }
+    }
+
+    fn end(&mut self, b: u8) -> Turned {
+        self.workers[usize::from(b & 15)].status = ENDED;
+        self.counts.awake -= 1;
+        if self.counts.awake == 0 {
+            Turned::Last
+        } else {
+            Turned::Something
+        }
+    }
+
+    /// An idle worker holds the token. Worker 0 ends the collection if both are white, and else sends a white one.
+    fn pass(&mut self, b: u8) -> Turned {
+        let own = self.ring.black >> b & 1 == 1;
+        if b == 0 && !self.ring.token && !own {
+            return self.end(b);
+        }
+        self.ring.token = b != 0 && (self.ring.token || own);
+        self.ring.black &= !(1 << b);
+        self.ring.holder = if b == 0 { self.highest } else { b - 1 };
+        Turned::Nothing
     }
 
     /// A poll with an asker in the cell.
@@ -263,6 +296,7 @@ impl Machine<'_> {
         }
         self.workers[usize::from(b & 15)] = giver;
         self.workers[a] = asker;
+        self.ring.black |= 1 << b;
         self.counts.carrying += 1;
     }
 
@@ -386,7 +420,8 @@ pub fn mark(call: Call<'_>, marks: &mut [u8], work: &mut [u32], tallies: &mut [u
     }
     blocks[0].taken = blocks[0].carried;
     let counts = Counts { refused: 0, carrying: u32::from(at < stretch), awake: workers };
-    let mut machine = Machine { offsets, targets, batch, cutoff, marks, work, workers: blocks, counts };
+    let (highest, ring) = (workers as u8 - 1, Ring { holder: 0, token: false, black: 0 });
+    let mut machine = Machine { offsets, targets, batch, cutoff, marks, work, workers: blocks, highest, ring, counts };
     let moved = machine.turns(schedule);
     let Tally { followed, won, handed, .. } = machine.settle(stretch, tallies);
     let Counts { refused, carrying, awake } = machine.counts;
