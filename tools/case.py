@@ -28,8 +28,10 @@ A case is lines of words. '#' begins a comment, blank lines are skipped.
 A stopped collection, which the program pause takes up, stands behind all of that. What is not told is 0.
 
     saved TURNS           the first so many turns of the order were made; once, before the other lines
-    form F                the number of the form, where it is not 1
+    form F                the number of the form, where it is not 2
     count NAME N          NAME is live, followed, handed, refused, moved or carrying
+    token BOX COLOUR      the box that holds the token; COLOUR is white, black or another number
+    black BOX ...         the boxes that are black
     box BOX STATUS cell ASKER since S batch N
                           STATUS is idle, asking, denied, ended, given, poll, look, claim or another
                           number; ASKER is '-' if the cell is empty
@@ -62,9 +64,10 @@ BYTE, WORD, LONG = 0xFF, 0xFFFFFFFF, 0xFFFFFFFFFFFFFFFF
 
 # The saved words of a stopped collection: the counts and statuses in their order, and the numbers of a tally.
 SAVED_NAME = "collection.saved"
-FORM = 1
+FORM = 2
 COUNTS = ("live", "followed", "handed", "refused", "moved", "carrying")
 STATUSES = ("idle", "asking", "denied", "ended", "given", "poll", "look", "claim")
+COLOURS = ("white", "black")
 TALLY = ("followed", "won", "lost", "handed")
 
 # The cards: every order of six boxes, ascending.
@@ -81,11 +84,14 @@ class Fault(Exception):
 
 @dataclass
 class Saved:
-    """A stopped collection, of which no word need be right. A box is its status, cell, since and batch as they are saved."""
+    """A stopped collection, of which no word need be right. The token is its holder and its colour, the black boxes are bits,
+    and a box is its status, cell, since and batch, as they are saved."""
 
     made: int
     form: int = FORM
     counts: dict[str, int] = field(default_factory=dict)
+    token: Optional[tuple[int, int]] = None
+    black: Optional[int] = None
     boxes: dict[int, list[int]] = field(default_factory=dict)
     tallies: dict[int, list[int]] = field(default_factory=dict)
     marks: dict[int, int] = field(default_factory=dict)
@@ -158,6 +164,13 @@ def parse_saved(saved: Saved, name: str, rest: list[str], where: str) -> bool:
         return True
     if name == "count" and len(rest) == 2 and rest[0] in COUNTS and rest[0] not in saved.counts:
         saved.counts[rest[0]] = number(rest[1], LONG, where)
+        return True
+    if name == "token" and len(rest) == 2 and saved.token is None:
+        colour = COLOURS.index(rest[1]) if rest[1] in COLOURS else number(rest[1], WORD, where)
+        saved.token = (number(rest[0], WORD, where), colour)
+        return True
+    if name == "black" and rest and saved.black is None:
+        saved.black = sum({1 << number(box, 31, where) for box in rest})
         return True
     if name == "mark" and len(rest) == 2:
         at, mark = pair(rest, WORD, where)
@@ -260,6 +273,7 @@ def saved_bytes(case: Case) -> bytes:
             raise Fault(f"the stopped collection tells of {max(told)}, where there are {most}")
     parts = [struct.pack("<II", saved.made, saved.form)]
     parts.append(struct.pack("<6Q", *(saved.counts.get(name, 0) for name in COUNTS)))
+    parts.append(struct.pack("<3I", *(saved.token or (0, 0)), saved.black or 0))
     parts += [struct.pack("<4I", *saved.boxes.get(box, [0] * 4)) for box in range(boxes)]
     parts += [struct.pack("<4Q", *saved.tallies.get(box, [0] * 4)) for box in range(boxes)]
     parts.append(struct.pack(f"<{objects}I", *(saved.marks.get(v, 0) for v in range(objects))))
@@ -276,7 +290,7 @@ def read_saved(case: Case, data: bytes) -> Saved:
     """The stopped collection of this case that the file holds; zeros are not told."""
     boxes, objects, pairs = case.settings["boxes"], len(case.sizes), stretch_pairs(case)
     # A pair of words for each place of a run; no native sizes, so nothing is padded.
-    layout = struct.Struct(f"<2I6Q{4 * boxes}I{4 * boxes}Q{objects}I{2 * pairs * boxes}I")
+    layout = struct.Struct(f"<2I6Q3I{4 * boxes}I{4 * boxes}Q{objects}I{2 * pairs * boxes}I")
     if len(data) != layout.size:
         raise Fault(f"collection.saved: {len(data)} bytes, where this store and these boxes have {layout.size}")
     words = iter(layout.unpack(data))
@@ -286,6 +300,9 @@ def read_saved(case: Case, data: bytes) -> Saved:
 
     saved = Saved(*take(2))
     saved.counts = {name: count for name, count in zip(COUNTS, take(6)) if count}
+    holder, colour, black = take(3)
+    saved.token = (holder, colour) if holder or colour else None
+    saved.black = black or None
     saved.boxes = {box: state for box in range(boxes) if any(state := take(4))}
     saved.tallies = {box: tally for box in range(boxes) if any(tally := take(4))}
     saved.marks = {v: mark for v, mark in enumerate(take(objects)) if mark}
@@ -376,6 +393,11 @@ def show_saved(saved: Saved) -> list[str]:
     """The lines of a stopped collection."""
     lines = [f"saved {saved.made}"] + ([f"form {saved.form}"] if saved.form != FORM else [])
     lines += [f"count {name} {count}" for name, count in saved.counts.items()]
+    if saved.token:
+        holder, colour = saved.token
+        lines.append(f"token {holder} {COLOURS[colour] if colour < len(COLOURS) else colour}")
+    if saved.black:
+        lines.append("black " + " ".join(str(box) for box in range(32) if saved.black >> box & 1))
     for box, (code, cell, since, batch) in saved.boxes.items():
         status = STATUSES[code] if code < len(STATUSES) else code
         lines.append(f"box {box} {status} cell {cell - 1 if cell else '-'} since {since} batch {batch}")

@@ -52,7 +52,7 @@ int main(void) {
         return refused(answer);
     }
 
-    static const uint8_t order[] = {0, 1, 0, 0, 0, 1, 1, 0, 1, 0, 0, 0, 1, 0, 1, 1, 0, 1};
+    static const uint8_t order[] = {0, 1, 0, 0, 0, 1, 1, 0, 1, 0, 0, 0, 1, 0, 1, 1, 0, 1, 0, 1};
     uint8_t schedule[2 * sizeof order] = {0};
     for (size_t i = 0; i < sizeof order; i++) {
         schedule[2 * i] = order[i];

@@ -68,7 +68,7 @@ extern "C" {
 #define KULLNEYRA_WORK(n, w) ((size_t)(w) * (2 * (size_t)(n) + 4))
 #define KULLNEYRA_TALLIES(w) (4 * (size_t)(w))
 #define KULLNEYRA_LIST(n) ((size_t)(n))
-#define KULLNEYRA_SAVED(n, w) (13 + 12 * (size_t)(w) + (size_t)(n) + KULLNEYRA_WORK(n, w))
+#define KULLNEYRA_SAVED(n, w) (16 + 12 * (size_t)(w) + (size_t)(n) + KULLNEYRA_WORK(n, w))
 
 /* What a call answers beside its number: a struct for each answer, whose fields are the result words in
  * their order. */

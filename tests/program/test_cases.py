@@ -29,7 +29,7 @@ ONE = store([5])
 LOOP, TWICE = store([5], [(0, 0)]), store([5, 6], [(0, 1)] * 2)
 DEAD = [(4, 500), (5, 600)]
 NO_TURNS = order(1, 1, 1)
-A = asking_0(0, 1, 0, 0, 0, 1, 1, 0, 1, 0, 0, 0, 1, 0, 1, 1, 0, 1)
+A = asking_0(0, 1, 0, 0, 0, 1, 1, 0, 1, 0, 0, 0, 1, 0, 1, 1, 0, 1, 0, 1)
 LONE = order(1, 2, 1, asking_0(*[0] * 12))
 SHARED = asking_0(0, 1, 0, 0, 0, 0, 0, 0, 1, 0, 0)
 LONG_STORE, LONG_ORDER = bytes(62065), bytes(65537)
@@ -222,7 +222,7 @@ SIZES = [1000 + 7 * v for v in range(1000)]
 # The leases name the index, which adds nothing.
 FULL = store(SIZES, [(e % 1000, target(e)) for e in range(4000)], leases=[0] * 256)
 ROUNDS = order(4, 4, 2, [(i % 4, i // 4 % 4) for i in range(32766)])
-WHOLE = [(985, 254, 3, 3), (987, 254, 0, 3), (1001, 226, 0, 2), (987, 255, 0, 2)]
+WHOLE = [(985, 254, 3, 2), (986, 254, 0, 2), (1003, 226, 0, 2), (986, 255, 0, 1)]
 PART = [(259, 173, 3, 1), (256, 170, 0, 1), (261, 162, 0, 1), (252, 171, 0, 0)]
 TO_ITSELF = order(1, 65535, 1, asking_0(*[0] * 4002))
 
@@ -245,7 +245,7 @@ LARGE = [
         "62064 and 65535 bytes",
         FULL,
         ROUNDS[:65535],
-        told("finished", 990, 3960, 10, 2, 5976, 0, boxes=WHOLE, dead=[(v, SIZES[v]) for v in range(99, 1000, 100)]),
+        told("finished", 990, 3960, 7, 2, 5968, 0, boxes=WHOLE, dead=[(v, SIZES[v]) for v in range(99, 1000, 100)]),
     ),
     ("62064 and 4005 bytes", FULL, ROUNDS[:4005], told("unfinished", 677, 1028, 3, 0, 1973, 4, boxes=PART)),
     ("62065 and 65535 bytes", FULL + b"\0", ROUNDS[:65535], 11),

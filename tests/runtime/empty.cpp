@@ -9,7 +9,7 @@
 static_assert(KULLNEYRA_MOST_OBJECTS == 65'536 && KULLNEYRA_MOST_REFERENCES == 1'048'576);
 static_assert(KULLNEYRA_LARGEST_SIZE == std::uint64_t{1} << 40);
 static_assert(KULLNEYRA_STARTS == 257 && KULLNEYRA_NO_STARTS == 13);
-static_assert(KULLNEYRA_SAVED(6, 2) == 75 && KULLNEYRA_UNSOUND == 14);
+static_assert(KULLNEYRA_SAVED(6, 2) == 78 && KULLNEYRA_UNSOUND == 14);
 static_assert(KULLNEYRA_MOST_WORKERS == 16 && KULLNEYRA_MOST_SETTING == 65'535);
 
 int main() {

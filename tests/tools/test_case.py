@@ -34,7 +34,9 @@ def some_saved(rng, boxes, objects):
     above = lambda most: rng.randrange(1, most)
     return case.Saved(
         made=rng.randrange(2**32),
-        form=rng.choice([1, 1, 0, 2**32 - 1]),
+        form=rng.choice([2, 2, 1, 2**32 - 1]),
+        token=rng.choice([None, (rng.randrange(2**32), above(4))]),
+        black=rng.choice([None, above(2**32)]),
         counts={name: above(2**64) for name in case.COUNTS if rng.random() < 0.5},
         boxes={box: [rng.randrange(10), rng.randrange(2**32), rng.randrange(9), above(9)] for box in some(boxes)},
         tallies={box: [rng.randrange(2**64), 0, rng.randrange(9), above(9)] for box in some(boxes)},
@@ -58,8 +60,8 @@ class Cases(unittest.TestCase):
         self.assertEqual(signed[:16].hex(), "10000100060000000700000000000000")
         order = case.order_bytes(sample)
         self.assertEqual(order[:5].hex(), "0201000100")
-        self.assertEqual(len(order), 5 + 2 * 18)
-        self.assertEqual(order[5::2], bytes([0, 1, 0, 0, 0, 1, 1, 0, 1, 0, 0, 0, 1, 0, 1, 1, 0, 1]))
+        self.assertEqual(len(order), 5 + 2 * 20)
+        self.assertEqual(order[5::2], bytes([0, 1, 0, 0, 0, 1, 1, 0, 1, 0, 0, 0, 1, 0, 1, 1, 0, 1, 0, 1]))
         self.assertEqual(set(order[6::2]), {0})
 
     def test_program_data(self):
@@ -98,6 +100,7 @@ class Cases(unittest.TestCase):
             count handed 1
             count moved 5
             count carrying 2
+            black 0
             box 0 look cell - since 0 batch 1
             box 1 given cell - since 0 batch 0
             tally 0 followed 1 won 1 lost 0 handed 1
@@ -107,7 +110,7 @@ class Cases(unittest.TestCase):
             run 1 2 3
         """
         sample = case.parse(SAMPLE.read_text() + lines)
-        words = [5, 1, 2, 0, 1, 0, 1, 0, 0, 0, 5, 0, 2, 0, 6, 0, 0, 1, 4, 0, 0, 0, 1, 0, 1, 0, 0, 0, 1, 0] + [0] * 8
+        words = [5, 2, 2, 0, 1, 0, 1, 0, 0, 0, 5, 0, 2, 0, 0, 0, 1, 6, 0, 0, 1, 4, 0, 0, 0, 1, 0, 1, 0, 0, 0, 1, 0] + [0] * 8
         words += [1, 1, 0, 0, 0, 0, 1, 2] + [0] * 14 + [2, 3] + [0] * 14
         self.assertEqual(case.saved_bytes(sample), struct.pack(f"<{len(words)}I", *words))
         self.assertEqual(case.show_saved(sample.saved), [line.strip() for line in lines.strip().splitlines()])
@@ -124,8 +127,12 @@ class Cases(unittest.TestCase):
             tally 0 followed 1 won 1 lost 1
             run 0 1
             run 256 0 1
+            token 1
+            token 1 red
+            black
+            black 32
         """
-        twice = ("count live 1\n" * 2, "mark 0 1\n" * 2, "box 1 idle cell - since 0 batch 0\n" * 2)
+        twice = ("count live 1\n" * 2, "token 0 white\n" * 2, "black 1\n" * 2, "mark 0 1\n" * 2, "box 1 idle cell - since 0 batch 0\n" * 2)
         for line in (*unread.strip().splitlines(), *twice):
             with self.assertRaises(case.Fault, msg=line):
                 case.parse(head + line + "\n")

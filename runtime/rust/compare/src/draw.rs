@@ -422,7 +422,7 @@ fn schedule(rng: &mut Rng, call: &Mark) -> Vec<u8> {
         3..=5 => rng.below(workers * (2 * m + 8)),
         _ => {
             let (_, leaving) = reached(&call.offsets, &call.targets, &call.starts);
-            workers * (7 * leaving + workers)
+            workers * (7 * leaving + 4 * workers + 2)
         }
     };
     if workers <= 6 && rng.once_in(4) {

@@ -221,7 +221,8 @@ fn run_demands(call: &Mark, got: &After) -> Result<(), String> {
     let (found, leaving) = reached(&call.offsets, &call.targets, &call.starts);
     let Marked { finished, live, followed, handed, moved, carrying, .. } = got.marked();
     let most = leaving as u64;
-    let bound = 7 * most + u64::from(call.workers);
+    let workers = u64::from(call.workers);
+    let (bound, enough) = (7 * most + workers, 7 * most + 4 * workers - 2);
     let stretch = 2 * marks.len() + 4;
     // The stretch of a worker that carries references begins with a run, whose end is above 0.
     let loaded = work.chunks_exact(stretch).filter(|words| words[1] > 0).count() as u64;
@@ -249,7 +250,7 @@ fn run_demands(call: &Mark, got: &After) -> Result<(), String> {
         checks.push(("finished: followed is R", followed == most));
         checks.push(("finished: nothing is carried", work.iter().all(|&word| word == 0)));
     } else {
-        checks.push(("7R + W stretches finish", stretches(&call.schedule, call.workers) < bound));
+        checks.push(("7R + 4W - 2 stretches finish", stretches(&call.schedule, call.workers) < enough));
     }
     match checks.iter().find(|(_, holds)| !holds) {
         Some((broken, _)) => Err(format!("does not hold: {broken} (R {leaving}, result {result:?})")),

@@ -99,7 +99,7 @@ impl Words<'_> {
         let workers = self.places.workers;
         let m = self.call.targets.len();
         let more = rng.below(4) as i64;
-        match rng.below(16) {
+        match rng.below(18) {
             0 => self.own(rng),
             1 => self.worker(b)[2] = rng.below(6) as u32,
             2 => self.start_batch(rng, b),
@@ -138,7 +138,18 @@ impl Words<'_> {
             12 => self.status(rng, b, c),
             13 => self.unfollow(rng, b),
             14 => self.mark(rng, b),
+            15 | 16 => self.ring(rng, b),
             _ => self.end(),
+        }
+    }
+
+    /// Another holder or colour of the token, or another colour of a worker.
+    fn ring(&mut self, rng: &mut Rng, b: usize) {
+        let at = Places::RING;
+        match rng.below(3) {
+            0 => self.all[at] = b as u32,
+            1 => self.all[at + 1] ^= 1,
+            _ => self.all[at + 2] ^= 1 << b,
         }
     }
 
@@ -304,15 +315,15 @@ pub fn changed(rng: &mut Rng, call: &Mark, saved: Vec<u32>) -> Vec<u32> {
     words.all
 }
 
-/// A place in one of the parts: counts, workers, tallies, marks, stretches.
+/// A place in one of the parts: counts, ring, workers, tallies, marks, stretches.
 fn place(rng: &mut Rng, places: Places) -> usize {
-    let starts = [0, Places::WORKERS, places.tally(0), places.marks(), places.stretch(0), places.all()];
-    let part = rng.below(5);
+    let starts = [0, Places::RING, Places::WORKERS, places.tally(0), places.marks(), places.stretch(0), places.all()];
+    let part = rng.below(6);
     let at = rng.between(starts[part], starts[part + 1] - 1);
     // A stretch has its runs at its front.
     let b = rng.below(places.workers);
     match part {
-        4 if !rng.once_in(4) => places.stretch(b) + rng.below(places.stretch_words().min(8)),
+        5 if !rng.once_in(4) => places.stretch(b) + rng.below(places.stretch_words().min(8)),
         _ => at,
     }
 }
@@ -347,7 +358,8 @@ pub fn damage(rng: &mut Rng, places: Places, words: &mut [u32]) {
         _ => match rng.below(8) {
             0 => words.fill(0),
             1 => words.iter_mut().for_each(|word| *word = rng.word() as u32),
-            2 => words[0] = rng.pick(&[0, 2, u32::MAX]),
+            2 => words[0] = rng.pick(&[0, 1, u32::MAX]),
+            3 => words[Places::RING + rng.below(3)] = rng.pick(&[0, 1, 2, workers, 1 << workers]),
             _ => words[places.marks() + rng.below(places.objects)] = rng.below(places.workers + 2) as u32,
         },
     }

@@ -14,7 +14,7 @@ pub struct Tally {
     /// Parts of collections that were made in parts, too.
     parts: u64,
     /// How often each condition of SPECIFICATION 8.2 failed; at 0, words that hold no state.
-    unsound: [u64; 26],
+    unsound: [u64; 29],
 }
 
 impl Tally {

@@ -429,7 +429,7 @@ pub const fn tally_words(workers: usize) -> usize {
 
 /// How many words a collection of n objects by so many workers is saved in.
 pub const fn saved_words(objects: usize, workers: usize) -> usize {
-    13 + 12 * workers + objects + work_words(objects, workers)
+    16 + 12 * workers + objects + work_words(objects, workers)
 }
 
 /// Reads only the catalogue's header record.
