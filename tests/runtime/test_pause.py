@@ -90,7 +90,7 @@ class Pause(unittest.TestCase):
     def test_damaged_and_foreign_files(self):
         self.run_program("pause", "500")
         kept = self.saved()
-        for damaged in (b"", kept[:-1], kept + b"\0", bytes(len(kept)), kept[:4] + bytes([2]) + kept[5:], b"\xff" * len(kept)):
+        for damaged in (b"", kept[:-1], kept + b"\0", bytes(len(kept)), kept[:4] + bytes([1]) + kept[5:], b"\xff" * len(kept)):
             (self.folder / SAVED).write_bytes(damaged)
             self.assertEqual(self.run_program("pause"), "refusal 14\n")
             self.assertEqual(self.saved(), damaged)

@@ -1,4 +1,4 @@
--- SPECIFICATION 4.4, the token ring (Dijkstra, Feijen, van Gasteren): a token goes round the workers, from each to the next
+-- SPECIFICATION 4.8, the token ring (Dijkstra, Feijen, van Gasteren): a token goes round the workers, from each to the next
 -- lower number and from worker 0 to the highest, and tells worker 0 that nobody carries anything any more.
 use Prim.Native.Nat.{ℕ, zero, suc, _+_, _-_, _*_}
 use mathlib.Core.List.{List, [], _∷_}
