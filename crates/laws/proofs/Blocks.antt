@@ -90,3 +90,9 @@ pub laid-at : {A B : Type 0} (f : A → List B) (w : ℕ) (d : A) (e : B) (l : L
 laid-at {B = B} f w d e l b k each h i =
     sym (getD-take w (drop (b * w) (laid f l)) k e i ∙ getD-drop (b * w) (laid f l) k e)
     ∙ ap (λ (t : List B). getD t k e) (laid-part f w d l b each h)
+
+-- the blocks of two lists one behind the other
+pub laid-append : {A B : Type 0} (f : A → List B) (s t : List A) → laid f (s ++ t) ≡ laid f s ++ laid f t
+unfolding laid
+laid-append f [] t = refl
+laid-append {B = B} f (x ∷ s) t = ap (λ (l : List B). f x ++ l) (laid-append f s t) ∙ sym (append-assoc (f x) (laid f s) (laid f t))

@@ -11,3 +11,5 @@ pub mod Test
 pub mod Words
 pub mod Decides
 pub mod Passing
+pub mod Laying
+pub mod Ordered

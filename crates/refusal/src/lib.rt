@@ -38,6 +38,8 @@ pub enum Refusal {
     Seed,
     // 17: a marked object that has a reference to an unmarked one.
     Marks,
+    // 18: a text that is no Matrix Market file of a graph.
+    Text,
 }
 
 // What a check finds.
@@ -68,6 +70,7 @@ pub fn number_of(r: Refusal) -> u8
         Refusal::Cards => 15,
         Refusal::Seed => 16,
         Refusal::Marks => 17,
+        Refusal::Text => 18,
     }
 }
 

@@ -1,0 +1,6 @@
+pub mod Layout
+pub mod Reading
+pub mod Import
+pub mod Export
+pub mod Steps
+pub mod Drawings
