@@ -60,8 +60,8 @@ headRow t = headFor (headFault t) t
 -- ---- import
 
 -- 7: not n + 1 offsets, m targets and n sizes
-abbrev pub misfits : Store → ℕ → ℕ → ℕ → Bool
-misfits s offsets targets sizes = not (eqb offsets (objects s + 1)) || not (eqb targets (references s)) || not (eqb sizes (objects s))
+abbrev pub misfits : ℕ → ℕ → ℕ → ℕ → ℕ → Bool
+misfits n m offsets targets sizes = not (eqb offsets (n + 1)) || not (eqb targets m) || not (eqb sizes n)
 
 abbrev pub lentTo : Bool → Store → Reading
 lentTo true s = refused 7
@@ -69,7 +69,7 @@ lentTo false s = accepted s
 
 abbrev pub lent : Reading → ℕ → ℕ → ℕ → Reading
 lent (refused k) offsets targets sizes = refused k
-lent (accepted s) offsets targets sizes = lentTo (misfits s offsets targets sizes) s
+lent (accepted s) offsets targets sizes = lentTo (misfits (objects s) (references s) offsets targets sizes) s
 
 -- what is made of a text and the lent lengths
 abbrev pub taken : List ℕ → List ℕ → List ℕ → List ℕ → Reading

@@ -10,10 +10,12 @@ use graph::MOST_REFERENCES;
 use refusal::Refusal;
 use refusal::Verdict;
 ghost use mathlib.Core.Path.{_≡_};
+ghost use Prim.Native.Nat.{_≤_};
 ghost use lib.ListN.{length};
+ghost use Rattle.graph.specs.Limits.{most-objects};
 ghost use Rattle.refusal.specs.Number.{numberOf};
 ghost use Rattle.catalogue.specs.Answer.{row};
-ghost use Rattle.market.specs.Import.{outside, headRow, Imports};
+ghost use Rattle.market.specs.Import.{outside, misfits, headRow, Imports};
 ghost use Rattle.market.specs.Export.{graphFault, lengthRow, lengthFor, exportFault, bytesAfter};
 
 // The first line of every text, with its line feed.
@@ -36,6 +38,20 @@ fn counts_outside(n: u64, m: u64) -> bool
         return true;
     }
     (MOST_REFERENCES as u64) < m
+}
+
+// Check 7 of what is lent to import.
+fn buffers_wrong(n: u64, m: u64, offsets: usize, targets: usize, sizes: usize) -> bool
+    requires { ⌜ n ≤ most-objects ⌝ }
+    ensures { λ r. ⌜ r ≡ misfits n m offsets targets sizes ⌝ }
+{
+    if offsets as u64 != n + 1 {
+        return true;
+    }
+    if targets as u64 != m {
+        return true;
+    }
+    sizes as u64 != n
 }
 
 // The counts of a text, from what stands before its pairs.
@@ -78,13 +94,7 @@ pub fn import(text: &[u8], offsets: &mut [u32], targets: &mut [u32], sizes: &mut
     if !body.fits {
         return Answer::Refused(Refusal::Object);
     }
-    if offsets.len() as u64 != n + 1 {
-        return Answer::Refused(Refusal::Buffer);
-    }
-    if targets.len() as u64 != m {
-        return Answer::Refused(Refusal::Buffer);
-    }
-    if sizes.len() as u64 != n {
+    if buffers_wrong(n, m, offsets.len(), targets.len(), sizes.len()) {
         return Answer::Refused(Refusal::Buffer);
     }
     fill::fill_graph(text, at, n as u32, offsets, targets);

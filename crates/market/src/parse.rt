@@ -5,8 +5,8 @@ ghost use Prim.Native.Nat.{_≤_, _<_};
 ghost use lib.ListN.{length, drop};
 ghost use Rattle.market.specs.Layout.{banner};
 ghost use Rattle.market.specs.Reading.{begins, skip};
-ghost use Rattle.market.specs.Import.{within};
-ghost use Rattle.market.specs.Steps.{FieldAt, LineAt, HeadOf, BodyAt};
+ghost use Rattle.market.specs.Import.{within, isInside};
+ghost use Rattle.market.specs.Steps.{pairAt, LineEnd, FieldAt, LineAt, HeadOf, BodyAt};
 use crate::BANNER;
 
 // The bytes that part numbers and lines, and the one that begins a line to be skipped.
@@ -74,25 +74,33 @@ fn begins_right(text: &[u8]) -> bool
     true
 }
 
+// The place behind the next line feed, or the end of the text.
+fn behind_line(text: &[u8], from: usize) -> usize
+    requires { ⌜ from ≤ length (now text) ⌝ }
+    ensures { λ r. ⌜ LineEnd (now (text .entry)) from r ⌝ }
+{
+    let mut at = from;
+    while at < text.len() {
+        if text[at] == FEED {
+            return at + 1;
+        }
+        at += 1;
+    }
+    at
+}
+
 // The place behind all lines from a place on that begin with %.
 fn skip_lines(text: &[u8], from: usize) -> usize
     requires { ⌜ from ≤ length (now text) ⌝ }
     ensures { λ r. ⌜ drop r (now (text .entry)) ≡ skip false (drop from (now (text .entry))) ⌝ }
     ensures { λ r. ⌜ r ≤ length (now (text .entry)) ⌝ }
 {
-    let mut within = false;
     let mut at = from;
     while at < text.len() {
-        let b = text[at];
-        if within {
-            within = b != FEED;
-        } else {
-            if b != PERCENT {
-                return at;
-            }
-            within = true;
+        if text[at] != PERCENT {
+            return at;
         }
-        at += 1;
+        at = behind_line(text, at + 1);
     }
     at
 }
@@ -235,6 +243,16 @@ fn is_within(n: u64, x: u64) -> bool
     x <= n
 }
 
+// Whether both numbers of a pair are 1 to n.
+fn is_inside(n: u64, from: u64, to: u64) -> bool
+    ensures { λ r. ⌜ r ≡ isInside n (pairAt from to) ⌝ }
+{
+    if !is_within(n, from) {
+        return false;
+    }
+    is_within(n, to)
+}
+
 // The pairs from a place on, which should be m.
 pub fn body_at(text: &[u8], at: usize, n: u64, m: u64) -> Body
     requires { ⌜ at ≤ length (now text) ⌝ }
@@ -250,10 +268,7 @@ pub fn body_at(text: &[u8], at: usize, n: u64, m: u64) -> Body
                 fits: false,
             };
         }
-        if !is_within(n, line.from) {
-            wrong = 1;
-        }
-        if !is_within(n, line.to) {
+        if !is_inside(n, line.from, line.to) {
             wrong = 1;
         }
         i = line.next;

@@ -1,39 +1,47 @@
+-- `market::check_graph` meets its contract: the first test that holds decides.
+use mathlib.Core.Path.{sym, _∙_}
 use borrow.Author.Needs.{needs}
+use borrow.Author.Tests.{lt-ltb, le-ltb, not-true, not-false}
+use Rattle.market.specs.Export.{graphFault}
 use Rattle.market.proofs.check_graph.Statement.{statement}
 use Rattle.market.proofs.check_graph.Tie as tie
-use Rattle.market.proofs.check_graph.Reads as reads
-use Rattle.market.proofs.check_graph.Lts as lts
-use Rattle.graph.proofs.well_formed.Reads as well-formed-reads
 
--- src/lib.rt:104:9
 returns : tie.Need-returns
-returns c = ?
+unfolding graphFault
+returns c = simp (lt-ltb _ _ (c .if1 .taken))
 
--- src/lib.rt:106:23
-sub-if2 : tie.Need-sub-if2
-sub-if2 c = search needs
-
--- src/lib.rt:107:9
 returns-2 : tie.Need-returns-2
-returns-2 c = ?
+unfolding graphFault
+returns-2 c = simp (le-ltb _ _ (c .before .if1 .left), lt-ltb _ _ (c .if2 .taken))
 
--- src/lib.rt:110:9
 returns-3 : tie.Need-returns-3
-returns-3 c = ?
+unfolding graphFault
+returns-3 c = simp (le-ltb _ _ (c .before .before .if1 .left), le-ltb _ _ (c .before .if2 .left), lt-ltb _ _ (c .if3 .taken))
 
--- src/lib.rt:112:9
-well-formed-requires : tie.Need-well-formed-requires
-well-formed-requires c κs = search needs
-
--- src/lib.rt:113:9
 returns-4 : tie.Need-returns-4
-returns-4 c = ?
+unfolding graphFault
+returns-4 c =
+    let w = c .before in
+    let t = w .before in
+    simp (
+      le-ltb _ _ (t .before .before .if1 .left),
+      le-ltb _ _ (t .before .if2 .left),
+      le-ltb _ _ (t .if3 .left),
+      sym (w .well-formed .ensures) ∙ not-true _ (c .if4 .taken),
+    )
 
--- src/lib.rt:100:1
 returns-5 : tie.Need-returns-5
-returns-5 c = ?
+unfolding graphFault
+returns-5 c =
+    let w = c .before in
+    let t = w .before in
+    simp (
+      le-ltb _ _ (t .before .before .if1 .left),
+      le-ltb _ _ (t .before .if2 .left),
+      le-ltb _ _ (t .if3 .left),
+      sym (w .well-formed .ensures) ∙ not-false _ (c .if4 .left),
+    )
 
 pub check-graph-spec : {M : Type 1} → statement M
 check-graph-spec =
-    tie.close
-    (tie.spec returns sub-if2 returns-2 returns-3 well-formed-requires returns-4 returns-5)
+    tie.close (tie.spec returns (λ c. search needs) returns-2 returns-3 (λ c κs. search needs) returns-4 returns-5)

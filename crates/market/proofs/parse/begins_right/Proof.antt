@@ -1,62 +1,53 @@
+-- `market::parse::begins_right` meets its contract: what is left of the first line and of the text decides.
+use mathlib.Core.Path.{_≡_, refl, sym, _∙_}
+use Prim.Native.Nat.{_-_, _≤_}
+use native.Mathlib.Omega.{arith}
+use lib.ListN.{length, drop}
+use borrow.Author.Needs.{needs}
+use Rattle.market.specs.Layout.{banner}
+use Rattle.market.specs.Reading.{begins}
+use Rattle.market.proofs.Heads.{begins-short, begins-same, begins-other, begins-all}
 use Rattle.market.proofs.parse.begins_right.Statement.{statement}
 use Rattle.market.proofs.parse.begins_right.Tie as tie
 use Rattle.market.proofs.parse.begins_right.Reads as reads
 use Rattle.market.proofs.parse.begins_right.Lts as lts
 
 abbrev Inv-loop : tie.InvT-loop
-Inv-loop text i₀ i = ?
+Inv-loop text i₀ i = (i ≤ 49) × (begins banner text ≡ begins (drop i banner) (drop i text))
 
 abbrev μ-loop : tie.MeasureT-loop
-μ-loop text i₀ i = ?
+μ-loop text i₀ i = 49 - i
 
--- src/parse.rt:67:9
 returns : tie.Need-returns Inv-loop μ-loop
-returns c = ?
+returns c = sym (begins-short banner _ (c .if1 .taken))
 
--- src/parse.rt:69:5
 loop-holds : tie.Need-loop-holds Inv-loop μ-loop
-loop-holds c = ?
+loop-holds c = (omega arith, refl)
 
--- src/parse.rt:70:12
 shared-slice-read-if2 : tie.Need-shared-slice-read-if2 Inv-loop μ-loop
-shared-slice-read-if2 c = ?
+shared-slice-read-if2 c = search needs
 
--- src/parse.rt:70:23
 array-read-if2 : tie.Need-array-read-if2 Inv-loop μ-loop
-array-read-if2 c = ?
+array-read-if2 c = search needs
 
--- src/parse.rt:71:13
 returns-2 : tie.Need-returns-2 Inv-loop μ-loop
-returns-2 c = ?
+returns-2 c =
+    let i = c .before .before in
+    let l = i .before in
+    let h = l .before .if1 .left in
+    sym (l .loop .inv .1 ∙ begins-other banner _ (l .loop .i) (i .loop-test .taken) (omega (arith, h, i .loop-test .taken)) (c .if2 .taken))
 
--- src/parse.rt:69:9
-add-i : tie.Need-add-i Inv-loop μ-loop
-add-i c = ?
-
--- src/parse.rt:69:5
-loop-less : tie.Need-loop-less Inv-loop μ-loop
-loop-less c = ?
-
--- src/parse.rt:69:5
 loop-again : tie.Need-loop-again Inv-loop μ-loop
-loop-again c = ?
+loop-again c =
+    let i = c .before .before in
+    let l = i .before in
+    let h = l .before .if1 .left in
+    (omega arith, l .loop .inv .1 ∙ begins-same banner _ (l .loop .i) (i .loop-test .taken) (omega (arith, h, i .loop-test .taken)) (c .if2 .left))
 
--- src/parse.rt:63:1
 returns-3 : tie.Need-returns-3 Inv-loop μ-loop
-returns-3 c = ?
+returns-3 c = let l = c .before in sym (l .loop .inv .1 ∙ begins-all banner _ (l .loop .i) (c .loop-test .left))
 
 pub begins-right-spec : {M : Type 1} → statement M
 begins-right-spec =
     tie.close
-    (tie.spec
-    Inv-loop
-    μ-loop
-    returns
-    loop-holds
-    shared-slice-read-if2
-    array-read-if2
-    returns-2
-    add-i
-    loop-less
-    loop-again
-    returns-3)
+    (tie.spec Inv-loop μ-loop returns loop-holds shared-slice-read-if2 array-read-if2 returns-2 (λ c. search needs) (λ c. search needs) loop-again returns-3)

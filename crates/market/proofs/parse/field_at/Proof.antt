@@ -1,3 +1,12 @@
+-- `market::parse::field_at` meets its contract: the loop keeps `Scanning`, and each exit says why the digits end.
+use mathlib.Core.Path.{_≡_, refl, sym, ap, _∙_}
+use mathlib.Core.List.{List}
+use Prim.Native.Nat.{ℕ, _-_, _^_, _<_}
+use native.Mathlib.Nat.{pow-le-pow-right}
+use native.Mathlib.Omega.{arith}
+use lib.ListN.{length, getD, List·getD-eq-default}
+use borrow.Author.Needs.{needs}
+use Rattle.market.proofs.Fields.{Scanning, scanning-start, scanning-next, ended-low, ended-high, ended-full, ended-text, field-good, field-other, field-none, field-bad}
 use Rattle.market.proofs.parse.field_at.Statement.{statement}
 use Rattle.market.proofs.parse.field_at.Tie as tie
 use Rattle.market.proofs.parse.field_at.Reads as reads
@@ -5,94 +14,81 @@ use Rattle.market.proofs.parse.field_at.Lts as lts
 use Rattle.market.proofs.parse.wide.Reads as wide-reads
 
 abbrev Inv-loop : tie.InvT-loop
-Inv-loop text at stop value₀ i₀ value i = ?
+Inv-loop text at stop value₀ i₀ value i = Scanning text at i value
 
 abbrev μ-loop : tie.MeasureT-loop
-μ-loop text at stop value₀ i₀ value i = ?
+μ-loop text at stop value₀ i₀ value i = length text - i
 
--- src/parse.rt:107:5
 loop-holds : tie.Need-loop-holds Inv-loop μ-loop
-loop-holds c = ?
+loop-holds c = scanning-start _ _ (c .before .pre .0)
 
--- src/parse.rt:108:17
-shared-slice-read-b : tie.Need-shared-slice-read-b Inv-loop μ-loop
-shared-slice-read-b c = ?
-
--- src/parse.rt:111:17
+-- a byte below the digits: not the wanted one, or no digit before it, or a number
 returns : tie.Need-returns Inv-loop μ-loop
-returns c = ?
+returns c =
+    let l = c .before .before .before .before in
+    let s = l .loop .inv in
+    field-bad _ _ _ (l .before .before .pre .0) (field-other s (ended-low s refl (c .before .if1 .taken)) (c .if2 .taken))
 
--- src/parse.rt:118:17
 returns-2 : tie.Need-returns-2 Inv-loop μ-loop
-returns-2 c = ?
+returns-2 c =
+    let l = c .before .before .before .before .before in
+    let s = l .loop .inv in
+    field-bad _ _ _ (l .before .before .pre .0) (field-none s (ended-low s refl (c .before .before .if1 .taken)) _ (c .if3 .taken))
 
--- src/parse.rt:127:23
-add-t12 : tie.Need-add-t12 Inv-loop μ-loop
-add-t12 c = ?
-
--- src/parse.rt:124:13
 returns-3 : tie.Need-returns-3 Inv-loop μ-loop
-returns-3 c = ?
+returns-3 c =
+    let t = c .before .before in
+    let i = t .before .before in
+    let s = i .before .loop .inv in
+    field-good s (ended-low s refl (t .if1 .taken)) (sym (c .before .if2 .left)) (i .loop-test .taken) (c .if3 .left)
 
--- src/parse.rt:131:13
+-- a byte above the digits
 returns-4 : tie.Need-returns-4 Inv-loop μ-loop
-returns-4 c = ?
+returns-4 c =
+    let l = c .before .before .before .before in
+    let s = l .loop .inv in
+    let start = l .before .before in
+    field-bad _ _ _ (start .pre .0) (field-other s (ended-high s refl (c .if4 .taken)) (λ z. omega (arith, z, c .if4 .taken, start .pre .1 .1)))
 
--- src/parse.rt:137:12
 sub-if5 : tie.Need-sub-if5 Inv-loop μ-loop
-sub-if5 c = ?
+sub-if5 c = omega (arith, c .before .before .before .before .loop .inv .place)
 
--- src/parse.rt:138:13
+-- an eleventh digit
 returns-5 : tie.Need-returns-5 Inv-loop μ-loop
-returns-5 c = ?
+returns-5 c =
+    let l = c .before .before .before .before .before in
+    let s = l .loop .inv in
+    let start = l .before .before in
+    field-bad _ _ _ (start .pre .0) (field-other s (ended-full s (c .if5 .taken)) (λ z. omega (arith, z, c .before .before .if1 .left, start .pre .1 .1)))
 
--- src/parse.rt:144:17
+-- the value of so many digits
+low : {text : List ℕ} {at i value : ℕ} → Scanning text at i value → value < 10000000000
+low s = omega (arith, s .small, pow-le-pow-right {n = 10} (omega arith) {i = s .k} {j = 10} (omega (arith, s .sum)))
+
 mul-value : tie.Need-mul-value Inv-loop μ-loop
-mul-value c = ?
+mul-value c = omega (arith, low (c .before .before .before .before .before .loop .inv))
 
--- src/parse.rt:144:30
-wide-requires : tie.Need-wide-requires Inv-loop μ-loop
-wide-requires c κs = ?
-
--- src/parse.rt:144:17
 add-value : tie.Need-add-value Inv-loop μ-loop
-add-value c = ?
+add-value c = omega (arith, low (c .before .before .before .before .before .before .loop .inv), c .wide .ensures, c .before .before .if4 .left)
 
--- src/parse.rt:145:9
-add-i : tie.Need-add-i Inv-loop μ-loop
-add-i c = ?
-
--- src/parse.rt:107:5
-loop-less : tie.Need-loop-less Inv-loop μ-loop
-loop-less c = ?
-
--- src/parse.rt:107:5
 loop-again : tie.Need-loop-again Inv-loop μ-loop
-loop-again c = ?
+loop-again c =
+    let i = c .before .before .before .before .before in
+    let e4 = c .before .before in
+    rw (c .wide .ensures)
+    (scanning-next (i .before .loop .inv) (i .loop-test .taken) refl (e4 .before .if1 .left) (e4 .if4 .left) (c .before .if5 .left))
 
--- src/parse.rt:101:1
+-- the text ends
 returns-6 : tie.Need-returns-6 Inv-loop μ-loop
-returns-6 c = ?
+returns-6 c =
+    let l = c .before in
+    let s = l .loop .inv in
+    let start = l .before .before in
+    let d = List·getD-eq-default (start .args .text .now) 0 (c .loop-test .left) in
+    field-bad _ _ _ (start .pre .0) (field-other s (ended-text s (c .loop-test .left)) (λ z. omega (arith, z, d, start .pre .1 .0)))
 
 pub field-at-spec : {M : Type 1} → statement M
 field-at-spec =
     tie.close
-    (tie.spec
-    Inv-loop
-    μ-loop
-    loop-holds
-    shared-slice-read-b
-    returns
-    returns-2
-    add-t12
-    returns-3
-    returns-4
-    sub-if5
-    returns-5
-    mul-value
-    wide-requires
-    add-value
-    add-i
-    loop-less
-    loop-again
-    returns-6)
+    (tie.spec Inv-loop μ-loop loop-holds (λ c. search needs) returns returns-2 (λ c. search needs) returns-3 returns-4 sub-if5 returns-5 mul-value
+    (λ c κs. search needs) add-value (λ c. search needs) (λ c. search needs) loop-again returns-6)

@@ -1,15 +1,14 @@
+-- `market::parse::is_within` meets its contract: the first test that fails decides.
+use native.Mathlib.Omega.{arith}
+use borrow.Author.Tests.{lt-ltb, le-ltb}
 use Rattle.market.proofs.parse.is_within.Statement.{statement}
 use Rattle.market.proofs.parse.is_within.Tie as tie
-use Rattle.market.proofs.parse.is_within.Reads as reads
-use Rattle.market.proofs.parse.is_within.Lts as lts
 
--- src/parse.rt:233:9
 returns : tie.Need-returns
-returns c = ?
+returns c = simp (le-ltb 0 (c .before .args .x) (omega arith))
 
--- src/parse.rt:229:1
 returns-2 : tie.Need-returns-2
-returns-2 c = ?
+returns-2 c = simp (lt-ltb 0 (c .before .args .x) (omega arith))
 
 pub is-within-spec : {M : Type 1} → statement M
 is-within-spec = tie.close (tie.spec returns returns-2)

@@ -1,52 +1,46 @@
+-- `market::parse::skip_lines` meets its contract: what is behind the lines passed is skipped as the whole is.
+use mathlib.Core.Path.{_≡_, refl, sym, ap, _∙_}
+use mathlib.Core.Bool.{true, false}
+use Prim.Native.Nat.{_-_, _≤_}
+use native.Mathlib.Omega.{arith}
+use lib.ListN.{length, drop, drop-of-length-le}
+use borrow.Author.Needs.{needs}
+use Rattle.market.specs.Reading.{skip}
+use Rattle.market.proofs.Heads.{skip-percent, skip-none, skip-end}
 use Rattle.market.proofs.parse.skip_lines.Statement.{statement}
 use Rattle.market.proofs.parse.skip_lines.Tie as tie
-use Rattle.market.proofs.parse.skip_lines.Reads as reads
-use Rattle.market.proofs.parse.skip_lines.Lts as lts
 
 abbrev Inv-loop : tie.InvT-loop
-Inv-loop text from within₀ at₀ within at = ?
+Inv-loop text from at₀ at = (at ≤ length text) × (skip false (drop from text) ≡ skip false (drop at text))
 
 abbrev μ-loop : tie.MeasureT-loop
-μ-loop text from within₀ at₀ within at = ?
+μ-loop text from at₀ at = length text - at
 
--- src/parse.rt:85:5
 loop-holds : tie.Need-loop-holds Inv-loop μ-loop
-loop-holds c = ?
+loop-holds c = (c .before .pre, refl)
 
--- src/parse.rt:86:17
-shared-slice-read-b : tie.Need-shared-slice-read-b Inv-loop μ-loop
-shared-slice-read-b c = ?
-
--- src/parse.rt:91:17
 returns : tie.Need-returns Inv-loop μ-loop
-returns c = ?
+returns c =
+    let i = c .before .before in
+    let l = i .before .loop in
+    (sym (l .inv .1 ∙ skip-none _ (l .at) (i .loop-test .taken) (c .if1 .taken)), l .inv .0)
 
--- src/parse.rt:95:9
-add-at : tie.Need-add-at Inv-loop μ-loop
-add-at c = ?
-
--- src/parse.rt:85:5
-loop-less : tie.Need-loop-less Inv-loop μ-loop
-loop-less c = ?
-
--- src/parse.rt:85:5
 loop-again : tie.Need-loop-again Inv-loop μ-loop
-loop-again c = ?
+loop-again c =
+    let i = c .before .before .before in
+    let l = i .before .loop in
+    let b = c .behind-line .ensures in
+    (b .there, l .inv .1 ∙ skip-percent _ (l .at) (i .loop-test .taken) (c .before .if1 .left) ∙ b .behind-is)
 
--- src/parse.rt:78:1
+loop-less : tie.Need-loop-less Inv-loop μ-loop
+loop-less c = omega (arith, c .behind-line .ensures .onward, c .before .before .before .loop-test .taken)
+
 returns-2 : tie.Need-returns-2 Inv-loop μ-loop
-returns-2 c = ?
+returns-2 c =
+    let l = c .before .loop in
+    (drop-of-length-le _ (c .loop-test .left) ∙ sym (l .inv .1 ∙ skip-end _ (l .at) false (c .loop-test .left)), l .inv .0)
 
 pub skip-lines-spec : {M : Type 1} → statement M
 skip-lines-spec =
     tie.close
-    (tie.spec
-    Inv-loop
-    μ-loop
-    loop-holds
-    shared-slice-read-b
-    returns
-    add-at
-    loop-less
-    loop-again
-    returns-2)
+    (tie.spec Inv-loop μ-loop loop-holds (λ c. search needs) returns (λ c. search needs) (λ c κs. search needs) loop-less loop-again returns-2)

@@ -1,0 +1,5 @@
+pub mod Fields
+pub mod Heads
+pub mod Bodies
+pub mod Filling
+pub mod Checks
