@@ -3,3 +3,6 @@ pub mod Heads
 pub mod Bodies
 pub mod Filling
 pub mod Checks
+pub mod Decimals
+pub mod Texts
+pub mod Exports

@@ -1,7 +1,7 @@
 // The text of a graph, in a buffer of exactly its length.
 ghost use mathlib.Core.Path.{_≡_};
 ghost use mathlib.Core.List.{_++_};
-ghost use Prim.Native.Nat.{suc, _+_, _≤_, _<_};
+ghost use Prim.Native.Nat.{suc, _+_, _*_, _≤_, _<_};
 ghost use lib.ListN.{length};
 ghost use Rattle.laws.specs.Blocks.{laid};
 ghost use Rattle.laws.specs.Every.{Every};
@@ -110,7 +110,7 @@ pub fn put_text(out: &mut [u8], offsets: &[u32], targets: &[u32])
 // How many bytes the lines of the references of object v have.
 fn object_length(v: u32, targets: &[u32]) -> usize
     requires { ⌜ Listable v (now targets) ⌝ }
-    ensures { λ r. ⌜ r ≡ length (laid lineOf (pairsFrom v (now (targets .entry)))) ⌝ }
+    ensures { λ r. ⌜ (r ≡ length (laid lineOf (pairsFrom v (now (targets .entry))))) × (r ≤ 16 * length (now (targets .entry))) ⌝ }
 {
     let from = width(v as u64 + 1);
     let mut total: usize = 0;

@@ -1,58 +1,58 @@
+-- `market::export` meets its contract: a refusal, a buffer of another length, or the text.
 use borrow.Author.Needs.{needs}
+use mathlib.Core.Path.{_≡_, refl, sym, ap, _∙_}
+use lib.ListN.{length}
+use Rattle.refusal.proofs.Numbers.{when-fine, when-faulty}
+use Rattle.market.specs.Export.{graphFault}
+use Rattle.market.proofs.Exports.{exportable, export-refused, export-unfit, export-written}
 use Rattle.market.proofs.export.Statement.{statement}
 use Rattle.market.proofs.export.Tie as tie
-use Rattle.market.proofs.export.Reads as reads
-use Rattle.market.proofs.export.Lts as lts
-use Rattle.market.proofs.check_graph.Reads as check-graph-reads
-use Rattle.market.proofs.print.put_text.Reads as put-text-reads
-use Rattle.market.proofs.print.text_length.Reads as text-length-reads
 
--- src/lib.rt:143:9
-check-graph-requires : tie.Need-check-graph-requires
-check-graph-requires c κs = search needs
+abbrev start : tie.After-check-graph → tie.Start
+start c = c .before .before .before .before
 
--- src/lib.rt:145:25
-enum-known-verdict : tie.Need-enum-known-verdict
-enum-known-verdict c = search needs
+none : (c : tie.After-enum-told) → let a = start (c .before .before) .args in graphFault (a .offsets .now) (a .targets .now) ≡ 0
+none c = when-fine (c .before .before .check-graph .ensures) (c .enum-told .given .1)
 
--- src/lib.rt:147:16
-enum-told : tie.Need-enum-told
-enum-told c = search needs
-
--- src/lib.rt:147:29
 text-length-requires : tie.Need-text-length-requires
-text-length-requires c κs = ?
+text-length-requires c κs = let a = start (c .before .before) .args in exportable (a .offsets .now) (a .targets .now) (none c)
 
--- src/lib.rt:148:17
 returns : tie.Need-returns
-returns c = ?
+returns c =
+    let l = c .before in
+    let t = l .before in
+    let a = start (t .before .before) .args in
+    export-unfit (a .offsets .now) (a .targets .now) (a .out .now) (none t) (l .text-length .ensures .0) (c .if1 .taken)
 
--- src/lib.rt:150:13
 put-text-requires : tie.Need-put-text-requires
-put-text-requires c κs = ?
+put-text-requires c κs =
+    let e = c .before in
+    let t = e .before .before in
+    let a = start (t .before .before) .args in
+    (exportable (a .offsets .now) (a .targets .now) (none t), e .if1 .left ∙ e .before .text-length .ensures .0)
 
--- src/lib.rt:139:1
 returns-2 : tie.Need-returns-2
-returns-2 c = ?
+returns-2 c =
+    let f = c .before .verdict .given in
+    let k = c .before .before .before in
+    let a = start k .args in
+    export-refused (a .offsets .now) (a .targets .now) (a .out .now) (f .0 .0) (when-faulty (k .check-graph .ensures) (f .1))
 
--- src/lib.rt:139:1
-same-length : tie.Need-same-length
-same-length c = search needs
-
--- src/lib.rt:139:1
 returns-3 : tie.Need-returns-3
-returns-3 c = ?
+returns-3 c =
+    let p = c .before .before in
+    let e = p .before .before in
+    let t = e .before .before in
+    let a = start (t .before .before) .args in
+    export-written (a .offsets .now) (a .targets .now) (a .out .now) (none t) (e .if1 .left ∙ e .before .text-length .ensures .0) (p .put-text .ensures)
+
+same-length : tie.Need-same-length
+same-length c =
+    let p = c .before .before in
+    let e = p .before .before in
+    ap length (p .put-text .ensures) ∙ sym (e .if1 .left ∙ e .before .text-length .ensures .0)
 
 pub export-spec : {M : Type 1} → statement M
 export-spec =
     tie.close
-    (tie.spec
-    check-graph-requires
-    enum-known-verdict
-    enum-told
-    text-length-requires
-    returns
-    put-text-requires
-    returns-2
-    same-length
-    returns-3)
+    (tie.spec (λ c κs. search needs) (λ c. search needs) (λ c. search needs) text-length-requires returns put-text-requires returns-2 same-length returns-3)

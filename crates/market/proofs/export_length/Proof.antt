@@ -1,41 +1,34 @@
+-- `market::export_length` meets its contract: a refusal, or the length of the text.
 use borrow.Author.Needs.{needs}
+use mathlib.Core.Path.{_≡_}
+use Rattle.refusal.proofs.Numbers.{when-fine, when-faulty}
+use Rattle.market.specs.Export.{graphFault}
+use Rattle.market.proofs.Exports.{exportable, length-refused, length-told}
 use Rattle.market.proofs.export_length.Statement.{statement}
 use Rattle.market.proofs.export_length.Tie as tie
-use Rattle.market.proofs.export_length.Reads as reads
-use Rattle.market.proofs.export_length.Lts as lts
-use Rattle.market.proofs.check_graph.Reads as check-graph-reads
-use Rattle.market.proofs.print.text_length.Reads as text-length-reads
 
--- src/lib.rt:122:39
-check-graph-requires : tie.Need-check-graph-requires
-check-graph-requires c κs = search needs
+abbrev start : tie.After-check-graph → tie.Start
+start c = c .before .before .before
 
--- src/lib.rt:122:28
-enum-known-refusal : tie.Need-enum-known-refusal
-enum-known-refusal c = search needs
-
--- src/lib.rt:123:9
 returns : tie.Need-returns
-returns c = ?
+returns c =
+    let f = c .before .refusal .given in
+    let k = c .before .before .before in
+    let a = start k .args in
+    length-refused (a .offsets .now) (a .targets .now) (f .0 .0) (when-faulty (k .check-graph .ensures) (f .1))
 
-enum-told : tie.Need-enum-told
-enum-told c = search needs
+none : (c : tie.After-enum-told) → let a = start (c .before .before) .args in graphFault (a .offsets .now) (a .targets .now) ≡ 0
+none c = when-fine (c .before .before .check-graph .ensures) (c .enum-told .given .1)
 
--- src/lib.rt:125:19
 text-length-requires : tie.Need-text-length-requires
-text-length-requires c κs = ?
+text-length-requires c κs = let a = start (c .before .before) .args in exportable (a .offsets .now) (a .targets .now) (none c)
 
--- src/lib.rt:119:1
 returns-2 : tie.Need-returns-2
-returns-2 c = ?
+returns-2 c =
+    let t = c .before in
+    let a = start (t .before .before) .args in
+    length-told (a .offsets .now) (a .targets .now) (none t) (c .text-length .ensures .0)
 
 pub export-length-spec : {M : Type 1} → statement M
 export-length-spec =
-    tie.close
-    (tie.spec
-    check-graph-requires
-    enum-known-refusal
-    returns
-    enum-told
-    text-length-requires
-    returns-2)
+    tie.close (tie.spec (λ c κs. search needs) (λ c. search needs) returns (λ c. search needs) text-length-requires returns-2)

@@ -1,41 +1,33 @@
+-- `market::print::put_line` meets its contract: two numbers, each with its byte behind it.
+use native.Mathlib.Omega.{arith}
 use borrow.Author.Needs.{needs}
+use Rattle.text.proofs.Written.{same-long}
+use Rattle.market.proofs.Texts.{line-length, line-room, line-put}
 use Rattle.market.proofs.print.put_line.Statement.{statement}
 use Rattle.market.proofs.print.put_line.Tie as tie
-use Rattle.market.proofs.print.put_line.Reads as reads
-use Rattle.market.proofs.print.put_line.Lts as lts
-use Rattle.market.proofs.print.put_field.Reads as put-field-reads
 
--- src/print.rt:70:37
-add-put-field : tie.Need-add-put-field
-add-put-field c = search needs
-
--- src/print.rt:70:9
 put-field-requires : tie.Need-put-field-requires
-put-field-requires c κs = ?
+put-field-requires c κs =
+    let s = c .before .before in
+    let a = s .args in
+    (s .pre .0, omega (arith, s .pre .1 .1, line-length (a .from) (a .to)))
 
--- src/print.rt:71:28
-add-put-field-2 : tie.Need-add-put-field-2
-add-put-field-2 c = search needs
-
--- src/print.rt:71:5
 put-field-requires-2 : tie.Need-put-field-requires-2
-put-field-requires-2 c κs = ?
+put-field-requires-2 c κs =
+    let p = c .before .before .before in
+    let s = p .before .before .before in
+    (s .pre .1 .0, line-room (s .args .from) (s .args .to) (p .put-field .ensures) (s .pre .1 .1))
 
--- src/print.rt:66:1
-same-length : tie.Need-same-length
-same-length c = search needs
-
--- src/print.rt:66:1
 returns : tie.Need-returns
-returns c = ?
+returns c =
+    let q = c .before .before in
+    let p = q .before .before .before .before in
+    let a = p .before .before .before .args in
+    line-put (a .from) (a .to) (p .put-field .ensures) (q .put-field2 .ensures)
+
+same-length : tie.Need-same-length
+same-length c = same-long (returns c)
 
 pub put-line-spec : {M : Type 1} → statement M
 put-line-spec =
-    tie.close
-    (tie.spec
-    add-put-field
-    put-field-requires
-    add-put-field-2
-    put-field-requires-2
-    same-length
-    returns)
+    tie.close (tie.spec (λ c. search needs) put-field-requires (λ c. search needs) put-field-requires-2 same-length returns)

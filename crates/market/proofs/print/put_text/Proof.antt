@@ -1,80 +1,75 @@
+-- `market::print::put_text` meets its contract: behind the head the loop keeps `Body`: the lines of the objects so far are written.
+use mathlib.Core.Path.{_≡_, _∙_}
+use mathlib.Core.List.{_++_}
+use Prim.Native.Nat.{_-_}
+use native.Mathlib.Omega.{arith}
+use lib.ListN.{length}
+use borrow.Author.Needs.{needs}
+use Rattle.graph.specs.Graph.{graph}
+use Rattle.text.proofs.Written.{same-long}
+use Rattle.market.specs.Steps.{Exportable}
+use Rattle.market.proofs.Texts.{counts-short, text-length, Body, body-start, body-printable, body-on, body-end}
 use Rattle.market.proofs.print.put_text.Statement.{statement}
 use Rattle.market.proofs.print.put_text.Tie as tie
-use Rattle.market.proofs.print.put_text.Reads as reads
-use Rattle.market.proofs.print.put_text.Lts as lts
-use Rattle.graph.proofs.references_of.Reads as references-of-reads
-use Rattle.market.proofs.print.put_head.Reads as put-head-reads
-use Rattle.market.proofs.print.put_object.Reads as put-object-reads
 
 abbrev Inv-loop : tie.InvT-loop
-Inv-loop out₀ offsets targets n end₀ v₀ out end v = ?
+Inv-loop out₀ offsets targets n end₀ v₀ out end v = Body (graph offsets targets) out₀ end₀ v out end
 
 abbrev μ-loop : tie.MeasureT-loop
-μ-loop out₀ offsets targets n end₀ v₀ out end v = ?
+μ-loop out₀ offsets targets n end₀ v₀ out end v = n - v
 
--- src/print.rt:102:13
+abbrev start : tie.After-put-head Inv-loop μ-loop → tie.Start Inv-loop μ-loop
+start c = c .before .before .before .before .before
+
 sub-n : tie.Need-sub-n Inv-loop μ-loop
-sub-n c = ?
+sub-n c = omega (arith, c .before .before .before .pre .0 .formed .some)
 
--- src/print.rt:103:9
 put-head-requires : tie.Need-put-head-requires Inv-loop μ-loop
-put-head-requires c κs = ?
+put-head-requires c κs =
+    let s = c .before .before .before .before in
+    let k = counts-short _ (s .pre .0) in
+    (k .0, (k .1, omega (arith, s .pre .1, text-length _ (s .pre .0))))
 
--- src/print.rt:104:5
 loop-holds : tie.Need-loop-holds Inv-loop μ-loop
-loop-holds c = ?
+loop-holds c =
+    let p = c .before .before in
+    let s = start p in
+    body-start _ (s .pre .0) (s .pre .1) (p .put-head .ensures)
 
--- src/print.rt:105:59
 cast-references-of : tie.Need-cast-references-of Inv-loop μ-loop
-cast-references-of c = ?
+cast-references-of c = let s = start (c .before .before .before .before) in omega (arith, s .pre .0 .few)
 
--- src/print.rt:105:13
-references-of-requires : tie.Need-references-of-requires Inv-loop μ-loop
-references-of-requires c κs = ?
-
--- src/print.rt:106:36
 cast-put-object : tie.Need-cast-put-object Inv-loop μ-loop
-cast-put-object c = ?
+cast-put-object c = let s = start (c .before .before .before .before .before .before) in omega (arith, s .pre .0 .few)
 
--- src/print.rt:106:9
 put-object-requires : tie.Need-put-object-requires Inv-loop μ-loop
-put-object-requires c κs = ?
+put-object-requires c κs =
+    let r = c .before in
+    let i = r .before in
+    let s = start (i .before .before .before .before) in
+    body-printable _ (s .pre .0) (i .before .loop .inv) (i .loop-test .taken) (r .references-of .ensures)
 
--- src/print.rt:104:9
-add-v : tie.Need-add-v Inv-loop μ-loop
-add-v c = ?
-
--- src/print.rt:104:5
-loop-less : tie.Need-loop-less Inv-loop μ-loop
-loop-less c = ?
-
--- src/print.rt:104:5
 loop-again : tie.Need-loop-again Inv-loop μ-loop
-loop-again c = ?
+loop-again c =
+    let p = c .before .before in
+    let r = p .before .before in
+    let i = r .before in
+    let s = start (i .before .before .before .before) in
+    body-on _ (s .pre .0) (i .before .loop .inv) (i .loop-test .taken) (r .references-of .ensures) (p .put-object .ensures)
 
--- src/print.rt:98:1
 same-length : tie.Need-same-length Inv-loop μ-loop
-same-length c = ?
+same-length c =
+    let p = c .before .before .before .before in
+    same-long (c .before .loop .inv .put) ∙ same-long (p .put-head .ensures)
 
--- src/print.rt:98:1
 returns : tie.Need-returns Inv-loop μ-loop
-returns c = ?
+returns c =
+    let p = c .before .before .before .before in
+    let s = start p in
+    body-end _ (s .pre .0) (s .pre .1) (p .put-head .ensures) (c .before .loop .inv) (c .loop-test .left)
 
 pub put-text-spec : {M : Type 1} → statement M
 put-text-spec =
     tie.close
-    (tie.spec
-    Inv-loop
-    μ-loop
-    sub-n
-    put-head-requires
-    loop-holds
-    cast-references-of
-    references-of-requires
-    cast-put-object
-    put-object-requires
-    add-v
-    loop-less
-    loop-again
-    same-length
-    returns)
+    (tie.spec Inv-loop μ-loop sub-n put-head-requires loop-holds cast-references-of (λ c κs. search needs) cast-put-object put-object-requires (λ c. search needs)
+    (λ c. search needs) loop-again same-length returns)

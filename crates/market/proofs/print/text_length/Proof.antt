@@ -1,105 +1,75 @@
+-- `market::print::text_length` meets its contract: the loop keeps `Measured`: the bytes up to the lines of the objects so far.
+use mathlib.Core.Path.{_≡_}
+use Prim.Native.Nat.{_-_}
+use native.Mathlib.Omega.{arith}
+use borrow.Author.Needs.{needs}
+use Rattle.graph.specs.Graph.{graph}
+use Rattle.market.proofs.Texts.{counts-short, Measured, listable, measured-start, measured-on, measured-room, measured-end}
 use Rattle.market.proofs.print.text_length.Statement.{statement}
 use Rattle.market.proofs.print.text_length.Tie as tie
-use Rattle.market.proofs.print.text_length.Reads as reads
-use Rattle.market.proofs.print.text_length.Lts as lts
-use Rattle.graph.proofs.references_of.Reads as references-of-reads
-use Rattle.market.proofs.print.object_length.Reads as object-length-reads
-use Rattle.market.proofs.print.width.Reads as width-reads
 
 abbrev Inv-loop : tie.InvT-loop
-Inv-loop offsets targets n total₀ v₀ total v = ?
+Inv-loop offsets targets n total₀ v₀ total v = Measured (graph offsets targets) v total
 
 abbrev μ-loop : tie.MeasureT-loop
-μ-loop offsets targets n total₀ v₀ total v = ?
+μ-loop offsets targets n total₀ v₀ total v = n - v
 
--- src/print.rt:128:13
+abbrev start : tie.After-width2 Inv-loop μ-loop → tie.Start Inv-loop μ-loop
+start c = c .before .before .before .before
+
 sub-n : tie.Need-sub-n Inv-loop μ-loop
-sub-n c = ?
+sub-n c = omega (arith, c .before .before .pre .formed .some)
 
--- src/print.rt:129:40
 width-requires : tie.Need-width-requires Inv-loop μ-loop
-width-requires c κs = ?
+width-requires c κs = counts-short _ (c .before .before .pre) .0
 
--- src/print.rt:129:36
 mul-total : tie.Need-mul-total Inv-loop μ-loop
-mul-total c = ?
+mul-total c = omega (arith, c .width .ensures .1)
 
--- src/print.rt:129:21
 add-total : tie.Need-add-total Inv-loop μ-loop
-add-total c = ?
+add-total c = omega (arith, c .width .ensures .1)
 
--- src/print.rt:129:58
 width-requires-2 : tie.Need-width-requires-2 Inv-loop μ-loop
-width-requires-2 c κs = ?
+width-requires-2 c κs = counts-short _ (c .before .before .before .pre) .1
 
--- src/print.rt:129:21
 add-total-2 : tie.Need-add-total-2 Inv-loop μ-loop
-add-total-2 c = ?
+add-total-2 c = omega (arith, c .width2 .ensures .1, c .before .width .ensures .1)
 
--- src/print.rt:129:21
 add-total-3 : tie.Need-add-total-3 Inv-loop μ-loop
-add-total-3 c = ?
+add-total-3 c = omega (arith, c .width2 .ensures .1, c .before .width .ensures .1)
 
--- src/print.rt:130:5
 loop-holds : tie.Need-loop-holds Inv-loop μ-loop
-loop-holds c = ?
+loop-holds c = measured-start _ (start c .pre) (c .before .width .ensures) (c .width2 .ensures)
 
--- src/print.rt:131:59
 cast-references-of : tie.Need-cast-references-of Inv-loop μ-loop
-cast-references-of c = ?
+cast-references-of c = omega (arith, start (c .before .before) .pre .few)
 
--- src/print.rt:131:13
-references-of-requires : tie.Need-references-of-requires Inv-loop μ-loop
-references-of-requires c κs = ?
-
--- src/print.rt:132:32
 cast-object-length : tie.Need-cast-object-length Inv-loop μ-loop
-cast-object-length c = ?
+cast-object-length c = omega (arith, start (c .before .before .before) .pre .few)
 
--- src/print.rt:132:18
 object-length-requires : tie.Need-object-length-requires Inv-loop μ-loop
-object-length-requires c κs = ?
+object-length-requires c κs =
+    let i = c .before in
+    let s = start (i .before .before) in
+    rw (c .references-of .ensures) (listable _ (s .pre) _ (i .loop-test .taken))
 
--- src/print.rt:132:9
 add-total-4 : tie.Need-add-total-4 Inv-loop μ-loop
-add-total-4 c = ?
+add-total-4 c =
+    let i = c .before .before in
+    let s = start (i .before .before) in
+    omega (arith, measured-room (graph (s .args .offsets .now) (s .args .targets .now)) (s .pre) (i .before .loop .inv) (i .loop-test .taken) (c .before .references-of .ensures) (c .object-length .ensures .1))
 
--- src/print.rt:130:9
-add-v : tie.Need-add-v Inv-loop μ-loop
-add-v c = ?
-
--- src/print.rt:130:5
-loop-less : tie.Need-loop-less Inv-loop μ-loop
-loop-less c = ?
-
--- src/print.rt:130:5
 loop-again : tie.Need-loop-again Inv-loop μ-loop
-loop-again c = ?
+loop-again c =
+    let i = c .before .before in
+    let s = start (i .before .before) in
+    measured-on _ (s .pre) (i .before .loop .inv) (i .loop-test .taken) (c .before .references-of .ensures) (c .object-length .ensures)
 
--- src/print.rt:124:1
 returns : tie.Need-returns Inv-loop μ-loop
-returns c = ?
+returns c = measured-end _ (start (c .before .before) .pre) (c .before .loop .inv) (c .loop-test .left)
 
 pub text-length-spec : {M : Type 1} → statement M
 text-length-spec =
     tie.close
-    (tie.spec
-    Inv-loop
-    μ-loop
-    sub-n
-    width-requires
-    mul-total
-    add-total
-    width-requires-2
-    add-total-2
-    add-total-3
-    loop-holds
-    cast-references-of
-    references-of-requires
-    cast-object-length
-    object-length-requires
-    add-total-4
-    add-v
-    loop-less
-    loop-again
-    returns)
+    (tie.spec Inv-loop μ-loop sub-n width-requires mul-total add-total width-requires-2 add-total-2 add-total-3 loop-holds cast-references-of (λ c κs. search needs)
+    cast-object-length object-length-requires add-total-4 (λ c. search needs) (λ c. search needs) loop-again returns)

@@ -1,36 +1,42 @@
+-- `market::print::width` meets its contract: each exit knows the powers of ten around the number.
+use mathlib.Core.Path.{_≡_, sym}
+use Prim.Native.Nat.{_≤_}
+use native.Mathlib.Omega.{arith}
+use borrow.Author.Needs.{needs}
+use Rattle.text.specs.Text.{decimal}
+use Rattle.market.proofs.Decimals.{width-one, width-more}
 use Rattle.market.proofs.print.width.Statement.{statement}
 use Rattle.market.proofs.print.width.Tie as tie
-use Rattle.market.proofs.print.width.Reads as reads
-use Rattle.market.proofs.print.width.Lts as lts
 
--- src/print.rt:28:9
 returns : tie.Need-returns
-returns c = ?
+unfolding decimal
+returns c = (sym (width-one 19 _ (c .if1 .taken)), omega arith)
 
--- src/print.rt:31:9
 returns-2 : tie.Need-returns-2
-returns-2 c = ?
+unfolding decimal
+returns-2 c = (sym (width-more 0 18 _ (c .before .if1 .left) (c .if2 .taken)), omega arith)
 
--- src/print.rt:34:9
 returns-3 : tie.Need-returns-3
-returns-3 c = ?
+unfolding decimal
+returns-3 c = (sym (width-more 1 17 _ (c .before .if2 .left) (c .if3 .taken)), omega arith)
 
--- src/print.rt:37:9
 returns-4 : tie.Need-returns-4
-returns-4 c = ?
+unfolding decimal
+returns-4 c = (sym (width-more 2 16 _ (c .before .if3 .left) (c .if4 .taken)), omega arith)
 
--- src/print.rt:40:9
 returns-5 : tie.Need-returns-5
-returns-5 c = ?
+unfolding decimal
+returns-5 c = (sym (width-more 3 15 _ (c .before .if4 .left) (c .if5 .taken)), omega arith)
 
--- src/print.rt:43:9
 returns-6 : tie.Need-returns-6
-returns-6 c = ?
+unfolding decimal
+returns-6 c = (sym (width-more 4 14 _ (c .before .if5 .left) (c .if6 .taken)), omega arith)
 
--- src/print.rt:23:1
 returns-7 : tie.Need-returns-7
-returns-7 c = ?
+unfolding decimal
+returns-7 c =
+    let s = c .before .before .before .before .before .before in
+    (sym (width-more 5 13 _ (c .if6 .left) (s .pre)), omega arith)
 
 pub width-spec : {M : Type 1} → statement M
-width-spec =
-    tie.close (tie.spec returns returns-2 returns-3 returns-4 returns-5 returns-6 returns-7)
+width-spec = tie.close (tie.spec returns returns-2 returns-3 returns-4 returns-5 returns-6 returns-7)
