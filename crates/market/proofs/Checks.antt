@@ -98,14 +98,14 @@ module _ {text : List ℕ} {good : Bool} {n m next : ℕ} (a : HeadOf text good 
 
 -- ---- the store of a text
 
-store-objects : (text : List ℕ) → objects (storeOf text) ≡ rows text
+pub store-objects : (text : List ℕ) → objects (storeOf text) ≡ rows text
 store-objects text = length-replicate (rows text) 0
 
 store-references : (text : List ℕ) → references (storeOf text) ≡ entries text
 unfolding pairs
 store-references text = length-map (pairs text) _ ∙ length-pairs (entries text) (linesIn text)
 
-same-pairs : (ps : List Pair) → map stored (map (λ (p : Pair). refers (fromZero p)) ps) ≡ map fromZero ps
+pub same-pairs : (ps : List Pair) → map stored (map (λ (p : Pair). refers (fromZero p)) ps) ≡ map fromZero ps
 same-pairs [] = refl
 same-pairs (p ∷ ps) = ap (λ (l : List Pair). fromZero p ∷ l) (same-pairs ps)
 

@@ -14,15 +14,15 @@ use Rattle.text.specs.Text.{digitsIn, decimal, Put}
 use Rattle.market.specs.Layout.{stopped}
 
 -- one digit, and one digit behind others
-one-digit : (k v : ℕ) → v < 10 → digitsIn (suc k) v ≡ (48 + v) ∷ []
+pub one-digit : (k v : ℕ) → v < 10 → digitsIn (suc k) v ≡ (48 + v) ∷ []
 unfolding digitsIn
 one-digit k v h = rw (lt-ltb v 10 h)
 
-more-digits : (k v : ℕ) → 10 ≤ v → digitsIn (suc k) v ≡ digitsIn k (v / 10) ++ ((48 + v % 10) ∷ [])
+pub more-digits : (k v : ℕ) → 10 ≤ v → digitsIn (suc k) v ≡ digitsIn k (v / 10) ++ ((48 + v % 10) ∷ [])
 unfolding digitsIn
 more-digits k v h = rw (le-ltb v 10 h)
 
-one-more : (k v : ℕ) → 10 ≤ v → length (digitsIn (suc k) v) ≡ suc (length (digitsIn k (v / 10)))
+pub one-more : (k v : ℕ) → 10 ≤ v → length (digitsIn (suc k) v) ≡ suc (length (digitsIn k (v / 10)))
 one-more k v h = ap length (more-digits k v h) ∙ length-append (digitsIn k (v / 10)) ((48 + v % 10) ∷ []) ∙ omega arith
 
 -- how many digits there are, by the powers of ten around the number

@@ -33,6 +33,13 @@ module _ (os ts : List ℕ) where
         few-references = ltb-false most-references (length ts) (s .1);
       }
 
+  pub some-object : graphFault os ts ≡ 0 → 2 ≤ length os
+  unfolding graphFault
+  some-object z =
+      let a = raise-none (ltb (length os) 2 || ltb most-objects (length os - 1) || ltb most-references (length ts)) 3 _ z in
+      let s = or-none (ltb (length os) 2 || ltb most-objects (length os - 1)) (ltb most-references (length ts)) (a .0) in
+      ltb-false (length os) 2 (or-none (ltb (length os) 2) (ltb most-objects (length os - 1)) (s .0) .0)
+
   -- ---- the length
 
   length-none : (k : ℕ) (b : ℕ) → 0 < k → lengthWith k 0 ≡ lengthBy k b

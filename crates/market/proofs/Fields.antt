@@ -32,13 +32,13 @@ scanning-start text at h =
     record { k = 0; left = 10; place = omega arith; sum = refl; there = h; long = omega arith; worth = refl; small = omega arith }
 
 -- no digit is next
-digits-none : (k : ℕ) (t : List ℕ) → isDigit (getD t 0 0) ≡ false → digits k t ≡ []
+pub digits-none : (k : ℕ) (t : List ℕ) → isDigit (getD t 0 0) ≡ false → digits k t ≡ []
 unfolding digits
 digits-none zero t h = refl
 digits-none (suc k) [] h = refl
 digits-none (suc k) (b ∷ t) h = rw h
 
-digits-one : (k b : ℕ) (t : List ℕ) → 48 ≤ b → b ≤ 57 → digits (suc k) (b ∷ t) ≡ b ∷ digits k t
+pub digits-one : (k b : ℕ) (t : List ℕ) → 48 ≤ b → b ≤ 57 → digits (suc k) (b ∷ t) ≡ b ∷ digits k t
 unfolding digits
 digits-one k b t h g = rw (le-leb 48 b h, le-leb b 57 g)
 

@@ -6,3 +6,5 @@ pub mod Checks
 pub mod Decimals
 pub mod Texts
 pub mod Exports
+pub mod Forms
+pub mod RoundTrip

@@ -9,7 +9,7 @@ use lib.ListN.{length, getD, take, drop, length-append, length-drop, take-append
 use lib.Seq.{take-suc, length-take-le, getD-take, getD-drop, take-length, take-all}
 use Rattle.laws.specs.Blocks.{laid}
 use Rattle.laws.specs.Every.{Every}
-use Rattle.laws.proofs.Every.{every-at}
+use Rattle.laws.proofs.Every.{every-at, every-map}
 use Rattle.laws.proofs.Blocks.{laid-append}
 use Rattle.laws.proofs.Grouping.{map-append}
 use Rattle.graph.specs.Graph.{Graph, objects, references, first, after, degree, target, referencesOf}
@@ -184,20 +184,25 @@ module _ (G : Graph) (X : Exportable G) where
         ap length its-part
         ∙ length-take-le (after G v - first G v) (drop (first G v) (G .targets)) (rw length-drop (omega (arith, F .rises v h, after-limit G F v h)))
 
-    every-by : (l : List ℕ) → ((i : ℕ) → i < length l → getD l i 0 < most-objects) → Every (λ (t : ℕ). t < most-objects) l
+    every-by : (l : List ℕ) → ((i : ℕ) → i < length l → getD l i 0 < objects G) → Every (λ (t : ℕ). t < objects G) l
     every-by [] f = tt
     every-by (x ∷ l) f = (f 0 (omega arith), every-by l (λ i p. f (suc i) (omega arith)))
+
+    -- its references lead to objects
+    pub part-inside : Every (λ (t : ℕ). t < objects G) (referencesOf G v)
+    part-inside =
+        every-by (referencesOf G v)
+        (λ i p.
+        let w : i < after G v - first G v = omega (arith, part-length) in
+        rw (its-part, getD-take (after G v - first G v) (drop (first G v) (G .targets)) i 0 w, getD-drop)
+        (F .inside (first G v + i) (omega (arith, after-limit G F v h))))
 
     pub listable : Listable v (referencesOf G v)
     listable =
         record {
           few = omega (arith, X .few);
           targets-few =
-              every-by (referencesOf G v)
-              (λ i p.
-              let w : i < after G v - first G v = omega (arith, part-length) in
-              rw (its-part, getD-take (after G v - first G v) (drop (first G v) (G .targets)) i 0 w, getD-drop)
-              (omega (arith, F .inside (first G v + i) (omega (arith, after-limit G F v h)), X .few)));
+              every-map (λ (t : ℕ). t < objects G) (λ (t : ℕ). t < most-objects) (referencesOf G v) (λ t q. omega (arith, q, X .few)) part-inside;
           few-references = omega (arith, part-length, after-limit G F v h, X .few-references);
         }
 

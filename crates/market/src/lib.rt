@@ -16,6 +16,7 @@ ghost use Rattle.graph.specs.Limits.{most-objects};
 ghost use Rattle.refusal.specs.Number.{numberOf};
 ghost use Rattle.catalogue.specs.Answer.{row};
 ghost use Rattle.market.specs.Import.{outside, misfits, headRow, Imports};
+ghost use Rattle.market.specs.Promise.{Accepts, Returns};
 ghost use Rattle.market.specs.Export.{graphFault, lengthRow, lengthFor, exportFault, bytesAfter};
 
 // The first line of every text, with its line feed.
@@ -76,6 +77,7 @@ pub fn header(text: &[u8]) -> Answer
 pub fn import(text: &[u8], offsets: &mut [u32], targets: &mut [u32], sizes: &mut [u64]) -> Answer
     ensures { λ r. ⌜ Imports (now (text .entry)) (now (offsets .entry)) (now (targets .entry)) (now (sizes .entry)) (row r)
         (now (offsets .exit)) (now (targets .exit)) (now (sizes .exit)) ⌝ }
+    ensures { λ r. ⌜ Accepts (now (text .entry)) (row r) ⌝ }
 {
     let head = parse::head_of(text);
     if !head.good {
@@ -139,6 +141,7 @@ pub fn export_length(offsets: &[u32], targets: &[u32]) -> Length
 pub fn export(offsets: &[u32], targets: &[u32], out: &mut [u8]) -> Verdict
     ensures { λ v. ⌜ numberOf v ≡ exportFault (now (offsets .entry)) (now (targets .entry)) (length (now (out .entry))) ⌝ }
     ensures { λ _. ⌜ now (out .exit) ≡ bytesAfter (now (offsets .entry)) (now (targets .entry)) (now (out .entry)) ⌝ }
+    ensures { λ v. ⌜ (numberOf v ≡ 0 → Returns (now (offsets .entry)) (now (targets .entry))) ⌝ }
 {
     let verdict = check_graph(offsets, targets);
     match verdict {

@@ -5,6 +5,7 @@ use lib.ListN.{length}
 use Rattle.refusal.proofs.Numbers.{when-fine, when-faulty}
 use Rattle.market.specs.Export.{graphFault}
 use Rattle.market.proofs.Exports.{exportable, export-refused, export-unfit, export-written}
+use Rattle.market.proofs.RoundTrip.{promised}
 use Rattle.market.proofs.export.Statement.{statement}
 use Rattle.market.proofs.export.Tie as tie
 
@@ -22,7 +23,7 @@ returns c =
     let l = c .before in
     let t = l .before in
     let a = start (t .before .before) .args in
-    export-unfit (a .offsets .now) (a .targets .now) (a .out .now) (none t) (l .text-length .ensures .0) (c .if1 .taken)
+    promised (a .offsets .now) (a .targets .now) (length (a .out .now)) (export-unfit (a .offsets .now) (a .targets .now) (a .out .now) (none t) (l .text-length .ensures .0) (c .if1 .taken))
 
 put-text-requires : tie.Need-put-text-requires
 put-text-requires c κs =
@@ -36,7 +37,7 @@ returns-2 c =
     let f = c .before .verdict .given in
     let k = c .before .before .before in
     let a = start k .args in
-    export-refused (a .offsets .now) (a .targets .now) (a .out .now) (f .0 .0) (when-faulty (k .check-graph .ensures) (f .1))
+    promised (a .offsets .now) (a .targets .now) (length (a .out .now)) (export-refused (a .offsets .now) (a .targets .now) (a .out .now) (f .0 .0) (when-faulty (k .check-graph .ensures) (f .1)))
 
 returns-3 : tie.Need-returns-3
 returns-3 c =
@@ -44,7 +45,7 @@ returns-3 c =
     let e = p .before .before in
     let t = e .before .before in
     let a = start (t .before .before) .args in
-    export-written (a .offsets .now) (a .targets .now) (a .out .now) (none t) (e .if1 .left ∙ e .before .text-length .ensures .0) (p .put-text .ensures)
+    promised (a .offsets .now) (a .targets .now) (length (a .out .now)) (export-written (a .offsets .now) (a .targets .now) (a .out .now) (none t) (e .if1 .left ∙ e .before .text-length .ensures .0) (p .put-text .ensures))
 
 same-length : tie.Need-same-length
 same-length c =

@@ -9,11 +9,18 @@ use borrow.Author.Needs.{needs}
 use borrow.Author.Tests.{not-true, not-false}
 use Rattle.catalogue.specs.Store.{Pair}
 use Rattle.market.specs.Reading.{pairsIn}
-use Rattle.market.specs.Import.{outside, misfits, fault, fromZero}
+use Rattle.market.specs.Import.{outside, misfits, fault, fromZero, Imports}
+use Rattle.catalogue.specs.Answer.{Row}
+use Rattle.market.specs.Promise.{Accepts}
 use Rattle.market.specs.Steps.{Fillable}
+use Rattle.market.proofs.Forms.{accepts}
 use Rattle.market.proofs.Checks.{in-range, fault-head, fault-lines, fault-counts, fault-objects, fault-none, fillable, pairs-are, lengths-are, imports-refused, imports-unfit, imports-filled}
 use Rattle.market.proofs.import.Statement.{statement}
 use Rattle.market.proofs.import.Tie as tie
+
+-- the answer by its definition, and what that promises of any text
+promised : {t os ts ss : List ℕ} {r : Row} {os′ ts′ ss′ : List ℕ} → Imports t os ts ss r os′ ts′ ss′ → Imports t os ts ss r os′ ts′ ss′ × Accepts t r
+promised a = (a, accepts a)
 
 -- the places on the way
 abbrev head : tie.Else1 → tie.After-head-of
@@ -71,7 +78,7 @@ filled c = c .before .before .before .before .before .before
 returns : tie.Need-returns
 returns c =
     let p = c .before .before in
-    imports-refused (start p .args .text .now) _ _ _ (fault-head (p .head-of .ensures) (not-true _ (c .if1 .taken)))
+    promised (imports-refused (start p .args .text .now) _ _ _ (fault-head (p .head-of .ensures) (not-true _ (c .if1 .taken))))
 
 body-at-requires : tie.Need-body-at-requires
 body-at-requires c κs = head c .head-of .ensures .there
@@ -80,16 +87,16 @@ returns-2 : tie.Need-returns-2
 returns-2 c =
     let b = c .before .before in
     let p = head (b .before) in
-    imports-refused (start p .args .text .now) _ _ _
-    (fault-lines (p .head-of .ensures) (begun (b .before)) (b .body-at .ensures) (not-true _ (c .if2 .taken)))
+    promised (imports-refused (start p .args .text .now) _ _ _
+    (fault-lines (p .head-of .ensures) (begun (b .before)) (b .body-at .ensures) (not-true _ (c .if2 .taken))))
 
 returns-3 : tie.Need-returns-3
 returns-3 c =
     let e = c .before .before in
     let b = body e in
     let p = head (b .before) in
-    imports-refused (start p .args .text .now) _ _ _
-    (fault-counts (p .head-of .ensures) (begun (b .before)) (b .body-at .ensures) (lined e) (sym (c .before .counts-outside .ensures) ∙ c .if3 .taken))
+    promised (imports-refused (start p .args .text .now) _ _ _
+    (fault-counts (p .head-of .ensures) (begun (b .before)) (b .body-at .ensures) (lined e) (sym (c .before .counts-outside .ensures) ∙ c .if3 .taken)))
 
 returns-4 : tie.Need-returns-4
 returns-4 c =
@@ -97,8 +104,8 @@ returns-4 c =
     let e = e3 .before .before in
     let b = body e in
     let p = head (b .before) in
-    imports-refused (start p .args .text .now) _ _ _
-    (fault-objects (p .head-of .ensures) (begun (b .before)) (b .body-at .ensures) (lined e) (ranged e3) (not-true _ (c .if4 .taken)))
+    promised (imports-refused (start p .args .text .now) _ _ _
+    (fault-objects (p .head-of .ensures) (begun (b .before)) (b .body-at .ensures) (lined e) (ranged e3) (not-true _ (c .if4 .taken))))
 
 buffers-wrong-requires : tie.Need-buffers-wrong-requires
 buffers-wrong-requires c κs = can-fill c .few
@@ -107,8 +114,8 @@ returns-5 : tie.Need-returns-5
 returns-5 c =
     let e4 = c .before .before in
     let r = h e4 .head-of .ensures in
-    imports-unfit (text e4) _ _ _ (none e4) (r .rows-is (begun (e1 e4))) (r .entries-is (begun (e1 e4)))
-    (sym (c .before .buffers-wrong .ensures) ∙ c .if5 .taken) refl
+    promised (imports-unfit (text e4) _ _ _ (none e4) (r .rows-is (begun (e1 e4))) (r .entries-is (begun (e1 e4)))
+    (sym (c .before .buffers-wrong .ensures) ∙ c .if5 .taken) refl)
 
 cast-fill-graph : tie.Need-cast-fill-graph
 cast-fill-graph c = omega (arith, can-fill (c .before .before) .few)
@@ -137,8 +144,8 @@ returns-6 c =
     let n = h e4 .head-of .result in
     let l = lengths-are (n .rows) (n .entries) _ _ _ (fitting e5) in
     let ps = pairs-are r (begun (e1 e4)) (body (e2 e4) .body-at .ensures) (lined (e2 e4)) ∙ ap (λ (k : ℕ). pairsIn k (drop (n .next) (text e4))) (sym (l .1 .0)) in
-    imports-filled (text e4) _ _ _ (none e4) (r .rows-is (begun (e1 e4))) (r .entries-is (begun (e1 e4))) (fitting e5) refl (ap (map fromZero) ps)
-    (g .fill-graph .ensures .0) (g .fill-graph .ensures .1) (z .clear-sizes .ensures ∙ ap (λ (k : ℕ). replicate k 0) (l .1 .1))
+    promised (imports-filled (text e4) _ _ _ (none e4) (r .rows-is (begun (e1 e4))) (r .entries-is (begun (e1 e4))) (fitting e5) refl (ap (map fromZero) ps)
+    (g .fill-graph .ensures .0) (g .fill-graph .ensures .1) (z .clear-sizes .ensures ∙ ap (λ (k : ℕ). replicate k 0) (l .1 .1)))
 
 pub import-spec : {M : Type 1} → statement M
 import-spec =
