@@ -48,6 +48,7 @@ extern "C" {
 #define KULLNEYRA_CARDS 15   /* a card that is not in the deck, or more workers than KULLNEYRA_CARD_WORKERS */
 #define KULLNEYRA_NO_SEED 16 /* a seed whose first word is 0 */
 #define KULLNEYRA_NOT_CLOSED 17 /* a marked object has a reference to an unmarked one */
+#define KULLNEYRA_TEXT 18    /* a text that is no Matrix Market file of a graph */
 
 /* Limits. Objects, starts, workers, batch and cutoff are 1 at least; references and sizes may be 0. */
 #define KULLNEYRA_MOST_OBJECTS 65536
@@ -73,7 +74,7 @@ extern "C" {
 /* What a call answers beside its number: a struct for each answer, whose fields are the result words in
  * their order. */
 
-/* header: what the catalogue's header says. */
+/* header: what the catalogue's header says; market_header and import: what the text's counts say, and index 0. */
 struct kullneyra_head {
     uint32_t n;     /* objects */
     uint32_t m;     /* references, and subjects */
@@ -147,6 +148,7 @@ struct kullneyra_drawn {
 #define KULLNEYRA_SAVED_WORDS 1
 #define KULLNEYRA_HOP_WORDS 1
 #define KULLNEYRA_UPDATE_WORDS 1
+#define KULLNEYRA_EXPORT_WORDS 1
 #define KULLNEYRA_SWEEP_WORDS (sizeof(struct kullneyra_swept) / sizeof(uint64_t))
 #define KULLNEYRA_LENGTH_WORDS (sizeof(struct kullneyra_length) / sizeof(uint64_t))
 #define KULLNEYRA_SEED_WORDS (sizeof(struct kullneyra_seed) / sizeof(uint32_t))
@@ -261,6 +263,24 @@ uint32_t kullneyra_remove(const uint32_t *offsets, size_t offsets_len, const uin
                           const uint32_t *numbers, size_t numbers_len, const uint32_t *starts, size_t starts_len,
                           uint32_t *new_offsets, size_t new_offsets_len, uint32_t *new_targets, size_t new_targets_len,
                           uint8_t *marks, size_t marks_len, uint32_t *work, size_t work_len);
+
+/* What the counts of a Matrix Market text say, so that buffers can be lent to kullneyra_import. Looks only at what stands
+ * before the pairs. */
+uint32_t kullneyra_market_header(const uint8_t *text, size_t text_len, uint32_t *result, size_t result_len);
+
+/* A graph from a Matrix Market text: fills offsets, targets and sizes as kullneyra_read does from the catalogue of the same
+ * pairs in the same order, with the sizes 0. The index is 0. */
+uint32_t kullneyra_import(const uint8_t *text, size_t text_len, uint32_t *offsets, size_t offsets_len, uint32_t *targets,
+                          size_t targets_len, uint64_t *sizes, size_t sizes_len, uint32_t *result, size_t result_len);
+
+/* How many bytes the Matrix Market text of a graph has. */
+uint32_t kullneyra_export_length(const uint32_t *offsets, size_t offsets_len, const uint32_t *targets,
+                                 size_t targets_len, uint64_t *result, size_t result_len);
+
+/* Writes the Matrix Market text of a graph into a buffer of exactly that many bytes. There is no zero byte behind it.
+ * Beside the number there is no answer. */
+uint32_t kullneyra_export(const uint32_t *offsets, size_t offsets_len, const uint32_t *targets, size_t targets_len,
+                          uint8_t *out, size_t out_len);
 
 /* The same calls with a struct for the answer, which is written in every case: what the call answers
  * where the number is 0, and zeros beside a fault. */
@@ -394,6 +414,30 @@ static inline uint32_t kullneyra_hop_words_into(uint32_t objects, uint64_t *answ
 static inline uint32_t kullneyra_update_words_into(uint32_t objects, uint64_t *answer) {
     *answer = 0;
     return kullneyra_update_words(objects, answer, KULLNEYRA_UPDATE_WORDS);
+}
+
+static inline uint32_t kullneyra_market_header_into(const uint8_t *text, size_t text_len,
+                                                    struct kullneyra_head *answer) {
+    uint32_t words[KULLNEYRA_HEADER_WORDS] = {0};
+    const uint32_t number = kullneyra_market_header(text, text_len, words, KULLNEYRA_HEADER_WORDS);
+    memcpy(answer, words, sizeof *answer);
+    return number;
+}
+
+static inline uint32_t kullneyra_import_into(const uint8_t *text, size_t text_len, uint32_t *offsets,
+                                             size_t offsets_len, uint32_t *targets, size_t targets_len,
+                                             uint64_t *sizes, size_t sizes_len, struct kullneyra_head *answer) {
+    uint32_t words[KULLNEYRA_HEADER_WORDS] = {0};
+    const uint32_t number = kullneyra_import(text, text_len, offsets, offsets_len, targets, targets_len, sizes,
+                                             sizes_len, words, KULLNEYRA_HEADER_WORDS);
+    memcpy(answer, words, sizeof *answer);
+    return number;
+}
+
+static inline uint32_t kullneyra_export_length_into(const uint32_t *offsets, size_t offsets_len,
+                                                    const uint32_t *targets, size_t targets_len, uint64_t *answer) {
+    *answer = 0;
+    return kullneyra_export_length(offsets, offsets_len, targets, targets_len, answer, KULLNEYRA_EXPORT_WORDS);
 }
 
 #ifdef __cplusplus

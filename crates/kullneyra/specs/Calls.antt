@@ -26,6 +26,8 @@ use Rattle.seed.specs.declared.Drawn.{Drawn}
 use Rattle.seed.specs.declared.Drawn.the-variants.{Card, Refused}
 use Rattle.seed.specs.Draw.{next, drawn}
 use Rattle.seed.specs.Deal.{afterDraws, handOf, fault}
+use Rattle.market.specs.Import.{headRow, taken as importTaken, answerOf}
+use Rattle.market.specs.Export.{lengthFor as exportLengthFor}
 use Rattle.hops.specs.Hops.{HopsOf}
 use Rattle.hops.specs.Call.{lengthFor as hopLengthFor, fault as hopFault}
 use Rattle.updates.specs.Pairs.{paired}
@@ -222,3 +224,32 @@ pub record RemovesIn (offsets targets numbers starts bounds places marks work bo
   pub marks-are : answer ≡ 0 → marks′ ≡ marksAfresh (removed (graph offsets targets) numbers) starts
   pub promise : answer ≡ 0 → RemovePromise (removed (graph offsets targets) numbers) starts marks′
   pub unchanged : (k : ℕ) → answer ≡ suc k → (bounds′ ≡ bounds) × (places′ ≡ places) × (marks′ ≡ marks) × (work′ ≡ work)
+
+-- ---- market_header: n, m, index
+
+abbrev pub marketAnswer : List ℕ → List ℕ → ℕ
+marketAnswer text result = answerIn 3 result (headRow text .refusal)
+
+-- ---- import: n, m, index
+
+-- what import makes of the text; no reading where the result words are too few or too many
+abbrev pub importIn : List ℕ → List ℕ → List ℕ → List ℕ → List ℕ → Reading
+importIn text offsets targets sizes result = pick (eqb (length result) 3) (importTaken text offsets targets sizes) (refused 7)
+
+-- the number answered and every lent word afterwards, by that reading
+pub record ImportsIn (text offsets targets sizes result offsets′ targets′ sizes′ result′ : List ℕ) (answer : ℕ) : Type 0 where
+  pub answers : answer ≡ answerOf (importIn text offsets targets sizes result) .refusal
+  pub fills-offsets : offsets′ ≡ offsetsAfter (importIn text offsets targets sizes result) offsets
+  pub fills-targets : targets′ ≡ targetsAfter (importIn text offsets targets sizes result) targets
+  pub fills-sizes : sizes′ ≡ sizesAfter (importIn text offsets targets sizes result) sizes
+  pub fills-result : result′ ≡ wordsFor (answerOf (importIn text offsets targets sizes result) .refusal)
+      (headerWords (answerOf (importIn text offsets targets sizes result))) result
+
+-- ---- export_length: bytes; export: no results
+
+abbrev pub exportLengthAnswer : List ℕ → List ℕ → List ℕ → ℕ
+exportLengthAnswer offsets targets result = answerIn 1 result (exportLengthFor offsets targets .number)
+
+abbrev pub exportLengthWords : List ℕ → List ℕ → List ℕ → List ℕ
+exportLengthWords offsets targets result =
+    wordsFor (exportLengthAnswer offsets targets result) (exportLengthFor offsets targets .bytes ∷ []) result

@@ -18,8 +18,10 @@ ghost use lib.Seq.{sets};
 ghost use Rattle.cards.specs.Hand.{fault, scheduleFor, turnsOf};
 ghost use Rattle.catalogue.specs.Answer.{row, foundRow, headerRow};
 ghost use Rattle.marker.specs.Answer.{callOf, row as markRow};
-ghost use Rattle.kullneyra.specs.Calls.{ReadsIn, headerAnswer, headerWords, readWords, wordsFor, partAnswer, partWords, sweepAnswer, sweepWords, sweepList, mark-words, resultWords, markWords, MarksIn, lengthAnswer, lengthWords, BeginsIn, ResumesIn, scheduleAnswer, scheduleWords, seedWords, DrawsIn, DealsIn, hopLengthAnswer, hopLengthWords, HopsIn, updateLengthAnswer, updateLengthWords, AddsIn, RemovesIn};
+ghost use Rattle.kullneyra.specs.Calls.{ReadsIn, headerAnswer, headerWords, readWords, wordsFor, partAnswer, partWords, sweepAnswer, sweepWords, sweepList, mark-words, resultWords, markWords, MarksIn, lengthAnswer, lengthWords, BeginsIn, ResumesIn, scheduleAnswer, scheduleWords, seedWords, DrawsIn, DealsIn, hopLengthAnswer, hopLengthWords, HopsIn, updateLengthAnswer, updateLengthWords, AddsIn, RemovesIn, marketAnswer, ImportsIn, exportLengthAnswer, exportLengthWords};
 ghost use Rattle.hops.specs.Call.{lengthRow as workRow};
+ghost use Rattle.market.specs.Import.{headRow};
+ghost use Rattle.market.specs.Export.{exportFault, bytesAfter};
 
 // Result words of the marker: finished, and the counts.
 const MARK_WORDS: usize = 1 + COUNTS;
@@ -494,4 +496,64 @@ pub extern "C" fn kullneyra_remove(
         marks,
         work,
     )) as u32
+}
+
+// The counts of a Matrix Market text; result words: n, m, index.
+#[no_mangle]
+pub extern "C" fn kullneyra_market_header(text: &[u8], result: &mut [u32]) -> u32
+    ensures { λ r. ⌜ r ≡ marketAnswer (now (text .entry)) (now (result .entry)) ⌝ }
+    ensures { λ r. ⌜ now (result .exit) ≡ wordsFor (marketAnswer (now (text .entry)) (now (result .entry))) (headerWords (headRow (now (text .entry)))) (now (result .entry)) ⌝ }
+{
+    if result.len() != 3 {
+        return 7;
+    }
+    give(market::header(text), result)
+}
+
+// A graph from a Matrix Market text; result words: n, m, index.
+#[no_mangle]
+pub extern "C" fn kullneyra_import(
+    text: &[u8],
+    offsets: &mut [u32],
+    targets: &mut [u32],
+    sizes: &mut [u64],
+    result: &mut [u32],
+) -> u32
+    ensures { λ r. ⌜ ImportsIn (now (text .entry)) (now (offsets .entry)) (now (targets .entry)) (now (sizes .entry)) (now (result .entry)) (now (offsets .exit)) (now (targets .exit)) (now (sizes .exit)) (now (result .exit)) r ⌝ }
+{
+    if result.len() != 3 {
+        return 7;
+    }
+    give(market::import(text, offsets, targets, sizes), result)
+}
+
+// How many bytes the Matrix Market text of a graph has; one result word.
+#[no_mangle]
+pub extern "C" fn kullneyra_export_length(
+    offsets: &[u32],
+    targets: &[u32],
+    result: &mut [u64],
+) -> u32
+    ensures { λ r. ⌜ r ≡ exportLengthAnswer (now (offsets .entry)) (now (targets .entry)) (now (result .entry)) ⌝ }
+    ensures { λ r. ⌜ now (result .exit) ≡ exportLengthWords (now (offsets .entry)) (now (targets .entry)) (now (result .entry)) ⌝ }
+{
+    if result.len() != 1 {
+        return 7;
+    }
+    match market::export_length(offsets, targets) {
+        market::Length::Bytes(bytes) => {
+            result[0] = bytes;
+            0
+        }
+        market::Length::Refused(refusal) => refusal::number_of(refusal) as u32,
+    }
+}
+
+// The Matrix Market text of a graph; there are no result words.
+#[no_mangle]
+pub extern "C" fn kullneyra_export(offsets: &[u32], targets: &[u32], out: &mut [u8]) -> u32
+    ensures { λ r. ⌜ r ≡ exportFault (now (offsets .entry)) (now (targets .entry)) (length (now (out .entry))) ⌝ }
+    ensures { λ r. ⌜ now (out .exit) ≡ bytesAfter (now (offsets .entry)) (now (targets .entry)) (now (out .entry)) ⌝ }
+{
+    refusal::verdict_number(market::export(offsets, targets, out)) as u32
 }

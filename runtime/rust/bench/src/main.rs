@@ -10,6 +10,7 @@ mod calls;
 mod graphs;
 mod hands;
 mod hops;
+mod market;
 mod measure;
 mod plot;
 mod table;
@@ -80,7 +81,8 @@ fn main() -> io::Result<()> {
     let deal = hands::deal_rows(repetitions);
     let hops = hops::rows(&graphs, repetitions);
     let [add, remove] = updates::rows(&graphs, repetitions);
-    eprintln!("bench: read, swept, dealt, counted hops and updated");
+    let [imports, exports] = market::rows(&graphs, repetitions);
+    eprintln!("bench: read, swept, dealt, counted hops, updated, imported and exported");
     let marks = mark_rows(&graphs, repetitions);
     let stops = stop_rows(&graphs, repetitions);
     let growth = growth_rows(repetitions);
@@ -100,6 +102,8 @@ fn main() -> io::Result<()> {
             "reference",
             &remove,
         ),
+        table::calls("Import of a Matrix Market text; Rust splits lines, tuned makes the same passes", "byte", &imports),
+        table::calls("Export of one; Rust formats numbers, tuned makes the same passes", "byte", &exports),
         table::stops(&stops),
         table::growth(&growth),
         table::goals(&marks),

@@ -82,6 +82,24 @@ pub enum Call {
         numbers: Vec<u32>,
         starts: Vec<u32>,
     },
+    MarketHeader {
+        text: Vec<u8>,
+    },
+    Import {
+        text: Vec<u8>,
+        offsets: usize,
+        targets: usize,
+        sizes: usize,
+    },
+    ExportLength {
+        offsets: Vec<u32>,
+        targets: Vec<u32>,
+    },
+    Export {
+        offsets: Vec<u32>,
+        targets: Vec<u32>,
+        out: usize,
+    },
 }
 
 /// What adding and taking out are both given: a graph, marks as they are beforehand, and lengths.
@@ -160,7 +178,7 @@ impl Case {
 }
 
 impl Call {
-    pub const CALLS: usize = 17;
+    pub const CALLS: usize = 21;
     pub const NAMES: [&'static str; Self::CALLS] = [
         "header",
         "read",
@@ -179,6 +197,10 @@ impl Call {
         "update words",
         "add",
         "remove",
+        "market header",
+        "import",
+        "export length",
+        "export",
     ];
 
     pub fn place(&self) -> usize {
@@ -200,13 +222,17 @@ impl Call {
             Call::UpdateWords { .. } => 14,
             Call::Add { .. } => 15,
             Call::Remove { .. } => 16,
+            Call::MarketHeader { .. } => 17,
+            Call::Import { .. } => 18,
+            Call::ExportLength { .. } => 19,
+            Call::Export { .. } => 20,
         }
     }
 
     /// The right length of the result buffer; 0 for a call that has none.
     pub fn result_words(&self) -> usize {
         const MARKED: usize = reference::Outcome::WORDS;
-        [3, 4, 2, MARKED, 2, 1, MARKED, MARKED, 1, 0, 1, 0, 1, 0, 1, 0, 0][self.place()]
+        [3, 4, 2, MARKED, 2, 1, MARKED, MARKED, 1, 0, 1, 0, 1, 0, 1, 0, 0, 3, 3, 1, 0][self.place()]
     }
 
     /// The answers that the specification has for this call.
@@ -229,6 +255,10 @@ impl Call {
             &[0, 4, 7],
             &[0, 4, 5, 7, 10, 17],
             &[0, 4, 5, 7, 10, 13],
+            &[0, 4, 7, 18],
+            &[0, 4, 5, 7, 18],
+            &[0, 4, 7, 10],
+            &[0, 4, 7, 10],
         ];
         ANSWERS[place]
     }
@@ -263,6 +293,12 @@ fn catalogue(f: &mut fmt::Formatter<'_>, bytes: &[u8]) -> fmt::Result {
         rest = &rest[length..];
     }
     writeln!(f, "    ..")
+}
+
+/// A text, with its line feeds escaped.
+fn text(f: &mut fmt::Formatter<'_>, all: &[u8]) -> fmt::Result {
+    let shown = &all[..all.len().min(SHOWN)];
+    writeln!(f, "  text ({} bytes): {}", all.len(), shown.escape_ascii())
 }
 
 fn schedule(f: &mut fmt::Formatter<'_>, bytes: &[u8]) -> fmt::Result {
@@ -354,6 +390,20 @@ impl fmt::Display for Case {
                 write!(f, "{update}")?;
                 list(f, "numbers", numbers)?;
                 list(f, "starts", starts)?;
+            }
+            Call::MarketHeader { text: all } => text(f, all)?,
+            Call::Import { text: all, offsets, targets, sizes } => {
+                text(f, all)?;
+                writeln!(f, "  lengths: offsets {offsets}, targets {targets}, sizes {sizes}")?;
+            }
+            Call::ExportLength { offsets, targets } => {
+                list(f, "offsets", offsets)?;
+                list(f, "targets", targets)?;
+            }
+            Call::Export { offsets, targets, out } => {
+                list(f, "offsets", offsets)?;
+                list(f, "targets", targets)?;
+                writeln!(f, "  length: out {out}")?;
             }
         }
         writeln!(f, "  length: result {}", self.result)

@@ -25,6 +25,27 @@ pub fn length_once_in(rng: &mut Rng, times: usize, right: usize) -> usize {
     }
 }
 
+/// One change of a text: a byte more, less or other, a line less, twice or out of its place, or the end cut off.
+pub fn text(rng: &mut Rng, text: &mut Vec<u8>) {
+    let at = rng.below(text.len());
+    let byte = rng.pick(b"0123456789 \n\r%\t-x\x00\xff");
+    let feeds: Vec<usize> = (0..text.len()).filter(|&i| text[i] == b'\n').collect();
+    let line = rng.below(feeds.len().max(1));
+    let start = if line == 0 { 0 } else { feeds[line - 1] + 1 };
+    let end = feeds.get(line).map_or(text.len(), |feed| feed + 1);
+    match rng.below(9) {
+        0 => text[at] = byte,
+        1 => text.insert(at, byte),
+        2 => drop(text.remove(at)),
+        3 => drop(text.drain(start..end)),
+        4 => text.extend_from_within(start..end),
+        5 => drop(text.pop()),
+        6 => text.truncate(at),
+        7 => text.insert(end - 1, b'\r'),
+        _ => drop(text.splice(end..end, *b"% late\n")),
+    }
+}
+
 /// A number about `near`, at a limit, or any.
 fn number(rng: &mut Rng, near: u32, limit: u32) -> u32 {
     match rng.below(7) {

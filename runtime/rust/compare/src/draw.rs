@@ -10,7 +10,7 @@ use reference::{Tally, LARGEST_SIZE, MOST_LEASES, STARTS};
 
 /// A small case.
 pub fn small(rng: &mut Rng) -> Case {
-    let call = match rng.below(46) {
+    let call = match rng.below(54) {
         0 | 1 => Call::Header { bytes: catalogue(rng).0 },
         2..=8 => read(rng),
         9 | 10 => references(rng),
@@ -27,7 +27,11 @@ pub fn small(rng: &mut Rng) -> Case {
         37..=39 => hops(rng),
         40 => update_words(rng),
         41..=43 => add(rng),
-        _ => remove(rng),
+        44..=46 => remove(rng),
+        47 => Call::MarketHeader { text: market(rng).0 },
+        48..=50 => import(rng),
+        51 => export_length(rng),
+        _ => export(rng),
     };
     let result = match call.result_words() {
         0 => 0,
@@ -118,6 +122,74 @@ fn remove(rng: &mut Rng) -> Call {
     let n = offsets.len().saturating_sub(1);
     let marks = (0..damage::length_once_in(rng, 25, n)).map(|_| rng.word() as u8).collect();
     Call::Remove { update: update(rng, offsets, targets, marks, left), numbers, starts }
+}
+
+/// A number in decimal digits, now and then with zeros in front.
+fn digits(rng: &mut Rng, number: u64) -> String {
+    match rng.below(40) {
+        0 => format!("{number:02}"),
+        1 => format!("{number:010}"),
+        2 => format!("{number:011}"),
+        _ => number.to_string(),
+    }
+}
+
+/// A Matrix Market text, often damaged, and the n and m that its buffers are made for.
+fn market(rng: &mut Rng) -> (Vec<u8>, usize, usize) {
+    let store = small_store(rng);
+    let (mut n, m) = (store.n, store.m());
+    let mut text = format!("{}\n", reference::BANNER).into_bytes();
+    for _ in 0..rng.pick(&[0, 0, 0, 1, 3]) {
+        text.push(b'%');
+        text.extend((0..rng.below(12)).map(|_| rng.pick(b"% 1aZ\t\r\xff")));
+        text.push(b'\n');
+    }
+    if rng.once_in(20) {
+        n = rng.pick(&[0, 65_535, 65_536, 65_537]);
+    }
+    let (mut rows, mut columns, mut entries) = (n as u64, n as u64, m as u64);
+    match rng.below(60) {
+        0 => columns += 1,
+        1 => rows = columns.saturating_sub(1),
+        2 => (rows, columns) = (9_999_999_999, 9_999_999_999),
+        3 => entries += 1,
+        4 => entries = entries.saturating_sub(1),
+        5 => entries = rng.pick(&[1_048_576, 1_048_577, 9_999_999_999, 10_000_000_000]),
+        _ => {}
+    }
+    let counts = [rows, columns, entries].map(|count| digits(rng, count));
+    text.extend(format!("{}\n", counts.join(" ")).bytes());
+    let wrong = rng.once_in(8).then(|| rng.below(m + 1));
+    for (e, &(from, to)) in store.pairs.iter().enumerate() {
+        let mut ends = [u64::from(from) + 1, u64::from(to) + 1];
+        if wrong == Some(e) {
+            ends[rng.below(2)] = rng.pick(&[0, n as u64, n as u64 + 1, 9_999_999_999]);
+        }
+        let ends = ends.map(|end| digits(rng, end));
+        text.extend(format!("{}\n", ends.join(" ")).bytes());
+    }
+    if rng.once_in(4) {
+        damage::text(rng, &mut text);
+    }
+    (text, n, m)
+}
+
+fn import(rng: &mut Rng) -> Call {
+    let (text, n, m) = market(rng);
+    let (offsets, targets) = (damage::length_once_in(rng, 20, n + 1), damage::length_once_in(rng, 20, m));
+    let sizes = damage::length_once_in(rng, 20, n);
+    Call::Import { text, offsets, targets, sizes }
+}
+
+fn export_length(rng: &mut Rng) -> Call {
+    let Mark { offsets, targets, .. } = mark(rng);
+    Call::ExportLength { offsets, targets }
+}
+
+fn export(rng: &mut Rng) -> Call {
+    let Mark { offsets, targets, .. } = mark(rng);
+    let right = reference::export_length(&offsets, &targets).unwrap_or(60) as usize;
+    Call::Export { out: damage::length_once_in(rng, 8, right), offsets, targets }
 }
 
 /// W for cards, now and then out of range or more than a card has.

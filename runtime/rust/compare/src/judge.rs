@@ -103,6 +103,14 @@ pub fn demands(case: &Case, got: &After) -> Result<(), String> {
             }
         }
         Call::Remove { starts, .. } if got.number == 0 => renewed_demands(starts, got),
+        Call::Export { offsets, targets, .. } if got.number == 0 => {
+            let text: Vec<u8> = got.lent(0).iter().map(|&byte| byte as u8).collect();
+            let (mut os, mut ts) = (vec![1; offsets.len()], vec![1; targets.len()]);
+            match kullneyra::import(&text, &mut os, &mut ts, &mut vec![1; offsets.len() - 1]) {
+                Ok(_) if (&os, &ts) == (offsets, targets) => Ok(()),
+                _ => Err("does not hold: importing an export gives the same offsets and targets".into()),
+            }
+        }
         _ => Ok(()),
     }
 }

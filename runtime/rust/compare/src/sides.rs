@@ -31,6 +31,17 @@ pub trait Side {
     fn update_words(&self, objects: u32, result: &mut [u64]) -> u32;
     fn add(&self, update: &Update, from: &[u32], to: &[u32], lent: &mut Renewal<'_>) -> u32;
     fn remove(&self, update: &Update, numbers: &[u32], starts: &[u32], lent: &mut Renewal<'_>) -> u32;
+    fn market_header(&self, text: &[u8], result: &mut [u32]) -> u32;
+    fn import(
+        &self,
+        text: &[u8],
+        offsets: &mut [u32],
+        targets: &mut [u32],
+        sizes: &mut [u64],
+        result: &mut [u32],
+    ) -> u32;
+    fn export_length(&self, offsets: &[u32], targets: &[u32], result: &mut [u64]) -> u32;
+    fn export(&self, offsets: &[u32], targets: &[u32], out: &mut [u8]) -> u32;
 }
 
 /// What is lent to adding and taking out.
@@ -149,6 +160,29 @@ impl Side for Proved {
             lent.marks,
             lent.work,
         )
+    }
+
+    fn market_header(&self, text: &[u8], result: &mut [u32]) -> u32 {
+        raw::market_header(text, result)
+    }
+
+    fn import(
+        &self,
+        text: &[u8],
+        offsets: &mut [u32],
+        targets: &mut [u32],
+        sizes: &mut [u64],
+        result: &mut [u32],
+    ) -> u32 {
+        raw::import(text, offsets, targets, sizes, result)
+    }
+
+    fn export_length(&self, offsets: &[u32], targets: &[u32], result: &mut [u64]) -> u32 {
+        raw::export_length(offsets, targets, result)
+    }
+
+    fn export(&self, offsets: &[u32], targets: &[u32], out: &mut [u8]) -> u32 {
+        raw::export(offsets, targets, out)
     }
 }
 
@@ -270,6 +304,30 @@ impl Side for Typed {
         let Update { offsets, targets, .. } = update;
         kullneyra::remove(offsets, targets, numbers, starts, lent.offsets, lent.targets, lent.marks, lent.work)
             .map_or_else(Refusal::number, |()| 0)
+    }
+
+    fn market_header(&self, text: &[u8], result: &mut [u32]) -> u32 {
+        written(kullneyra::market_header(text).map(|h| [h.objects, h.references, h.index]), result, Refusal::number)
+    }
+
+    fn import(
+        &self,
+        text: &[u8],
+        offsets: &mut [u32],
+        targets: &mut [u32],
+        sizes: &mut [u64],
+        result: &mut [u32],
+    ) -> u32 {
+        let answer = kullneyra::import(text, offsets, targets, sizes);
+        written(answer.map(|h| [h.objects, h.references, h.index]), result, Refusal::number)
+    }
+
+    fn export_length(&self, offsets: &[u32], targets: &[u32], result: &mut [u64]) -> u32 {
+        written(kullneyra::export_length(offsets, targets).map(|bytes| [bytes]), result, Refusal::number)
+    }
+
+    fn export(&self, offsets: &[u32], targets: &[u32], out: &mut [u8]) -> u32 {
+        kullneyra::export(offsets, targets, out).map_or_else(Refusal::number, |()| 0)
     }
 }
 
@@ -395,6 +453,35 @@ impl Side for Reference {
         reference::remove(&update.offsets, &update.targets, numbers, starts, &mut lent.renewed())
             .map_or_else(u32::from, |()| 0)
     }
+
+    fn market_header(&self, text: &[u8], result: &mut [u32]) -> u32 {
+        if result.len() != 3 {
+            return WRONG_LENGTH;
+        }
+        written(reference::market_header(text).map(|h| [h.n, h.m, h.index]), result, u32::from)
+    }
+
+    fn import(
+        &self,
+        text: &[u8],
+        offsets: &mut [u32],
+        targets: &mut [u32],
+        sizes: &mut [u64],
+        result: &mut [u32],
+    ) -> u32 {
+        import_by(reference::import, text, offsets, targets, sizes, result)
+    }
+
+    fn export_length(&self, offsets: &[u32], targets: &[u32], result: &mut [u64]) -> u32 {
+        if result.len() != 1 {
+            return WRONG_LENGTH;
+        }
+        written(reference::export_length(offsets, targets).map(|bytes| [bytes]), result, u32::from)
+    }
+
+    fn export(&self, offsets: &[u32], targets: &[u32], out: &mut [u8]) -> u32 {
+        reference::export(offsets, targets, out).map_or_else(u32::from, |()| 0)
+    }
 }
 
 /// What the proved calls are measured against; where there is no tuned call, the plain one.
@@ -476,6 +563,29 @@ impl Side for Tuned {
     fn remove(&self, update: &Update, numbers: &[u32], starts: &[u32], lent: &mut Renewal<'_>) -> u32 {
         Reference.remove(update, numbers, starts, lent)
     }
+
+    fn market_header(&self, text: &[u8], result: &mut [u32]) -> u32 {
+        Reference.market_header(text, result)
+    }
+
+    fn import(
+        &self,
+        text: &[u8],
+        offsets: &mut [u32],
+        targets: &mut [u32],
+        sizes: &mut [u64],
+        result: &mut [u32],
+    ) -> u32 {
+        import_by(tuned::import, text, offsets, targets, sizes, result)
+    }
+
+    fn export_length(&self, offsets: &[u32], targets: &[u32], result: &mut [u64]) -> u32 {
+        Reference.export_length(offsets, targets, result)
+    }
+
+    fn export(&self, offsets: &[u32], targets: &[u32], out: &mut [u8]) -> u32 {
+        tuned::export(offsets, targets, out).map_or_else(u32::from, |()| 0)
+    }
 }
 
 /// The reader and the marker in plain Rust.
@@ -489,6 +599,22 @@ fn saved_by(saver: Saver, call: &Mark, lent: &mut Buffers<'_>) -> u32 {
         return WRONG_LENGTH;
     }
     written(saver(call.call(), marks, work, tallies, saved).map(Outcome::words), result, u32::from)
+}
+
+type Importer = fn(&[u8], &mut [u32], &mut [u32], &mut [u64]) -> Result<reference::Header, u8>;
+
+fn import_by(
+    importer: Importer,
+    text: &[u8],
+    offsets: &mut [u32],
+    targets: &mut [u32],
+    sizes: &mut [u64],
+    result: &mut [u32],
+) -> u32 {
+    if result.len() != 3 {
+        return WRONG_LENGTH;
+    }
+    written(importer(text, offsets, targets, sizes).map(|h| [h.n, h.m, h.index]), result, u32::from)
 }
 
 fn read_by(
@@ -591,6 +717,22 @@ impl Side for Untouched {
 
     fn remove(&self, _: &Update, _: &[u32], _: &[u32], _: &mut Renewal<'_>) -> u32 {
         WRONG_LENGTH
+    }
+
+    fn market_header(&self, _: &[u8], _: &mut [u32]) -> u32 {
+        0
+    }
+
+    fn import(&self, _: &[u8], _: &mut [u32], _: &mut [u32], _: &mut [u64], _: &mut [u32]) -> u32 {
+        0
+    }
+
+    fn export_length(&self, _: &[u32], _: &[u32], _: &mut [u64]) -> u32 {
+        0
+    }
+
+    fn export(&self, _: &[u32], _: &[u32], _: &mut [u8]) -> u32 {
+        0
     }
 }
 
@@ -784,6 +926,33 @@ pub fn after(case: &Case, side: &dyn Side) -> After {
         Call::Add { update, from, to } => after_update(case, update, |lent| side.add(update, from, to, lent)),
         Call::Remove { update, numbers, starts } => {
             after_update(case, update, |lent| side.remove(update, numbers, starts, lent))
+        }
+        Call::MarketHeader { text } => {
+            let mut result = words(case.result, case.fill(0));
+            let number = side.market_header(text, result.part());
+            After { number, buffers: vec![("result", Whole::Words(result.0))] }
+        }
+        Call::Import { text, offsets, targets, sizes } => {
+            let (mut offsets, mut targets) = (words(*offsets, case.fill(1)), words(*targets, case.fill(2)));
+            let (mut sizes, mut result) = (longs(*sizes, case.fill(3)), words(case.result, case.fill(0)));
+            let number = side.import(text, offsets.part(), targets.part(), sizes.part(), result.part());
+            let buffers = vec![
+                ("offsets", Whole::Words(offsets.0)),
+                ("targets", Whole::Words(targets.0)),
+                ("sizes", Whole::Longs(sizes.0)),
+                ("result", Whole::Words(result.0)),
+            ];
+            After { number, buffers }
+        }
+        Call::ExportLength { offsets, targets } => {
+            let mut result = longs(case.result, case.fill(0));
+            let number = side.export_length(offsets, targets, result.part());
+            After { number, buffers: vec![("result", Whole::Longs(result.0))] }
+        }
+        Call::Export { offsets, targets, out } => {
+            let mut out = bytes(*out, case.fill(1));
+            let number = side.export(offsets, targets, out.part());
+            After { number, buffers: vec![("out", Whole::Bytes(out.0))] }
         }
     }
 }

@@ -54,6 +54,12 @@ enum Fault {
     OlderMarkLost,
     /// A start is marked as what it reaches.
     StartsNotTold,
+    /// A line of a text may end in a carriage return and a line feed.
+    CarriageReturnTaken,
+    /// Offsets are cleared before the pairs are looked at.
+    OffsetsClearedBesideRefusal,
+    /// A text ends without a line feed.
+    LastFeedLost,
 }
 
 impl Side for Fault {
@@ -232,11 +238,48 @@ impl Side for Fault {
         }
         number
     }
+
+    fn market_header(&self, text: &[u8], result: &mut [u32]) -> u32 {
+        Reference.market_header(text, result)
+    }
+
+    fn import(
+        &self,
+        text: &[u8],
+        offsets: &mut [u32],
+        targets: &mut [u32],
+        sizes: &mut [u64],
+        result: &mut [u32],
+    ) -> u32 {
+        // Each carriage return in front of a line feed is taken away.
+        let mut text = text.to_vec();
+        if *self == Fault::CarriageReturnTaken {
+            let ends = |i: usize| text[i] == b'\r' && text.get(i + 1) == Some(&b'\n');
+            text = (0..text.len()).filter(|&i| !ends(i)).map(|i| text[i]).collect();
+        }
+        let number = Reference.import(&text, offsets, targets, sizes, result);
+        if *self == Fault::OffsetsClearedBesideRefusal && number == 5 {
+            offsets.fill(0);
+        }
+        number
+    }
+
+    fn export_length(&self, offsets: &[u32], targets: &[u32], result: &mut [u64]) -> u32 {
+        Reference.export_length(offsets, targets, result)
+    }
+
+    fn export(&self, offsets: &[u32], targets: &[u32], out: &mut [u8]) -> u32 {
+        let number = Reference.export(offsets, targets, out);
+        if *self == Fault::LastFeedLost && number == 0 {
+            out[out.len() - 1] = b' ';
+        }
+        number
+    }
 }
 
 /// The first small case in which the faulty side differs.
 fn found(fault: Fault) -> Option<u64> {
-    (LARGE..LARGE + 12_000).find(|&number| {
+    (LARGE..LARGE + 16_000).find(|&number| {
         let case = case_of(SEED, number);
         same(&case, &fault, &after(&case, &Reference)).is_err()
     })
@@ -268,6 +311,9 @@ fn faults_are_found() {
     assert!(found(Fault::FarthestLost).is_some());
     assert!(found(Fault::OlderMarkLost).is_some());
     assert!(found(Fault::StartsNotTold).is_some());
+    assert!(found(Fault::CarriageReturnTaken).is_some());
+    assert!(found(Fault::OffsetsClearedBesideRefusal).is_some());
+    assert!(found(Fault::LastFeedLost).is_some());
 }
 
 #[test]

@@ -149,12 +149,14 @@ pub enum Refusal {
     Seed,
     /// 17: a marked object has a reference to an unmarked one.
     Marks,
+    /// 18: a text that is no Matrix Market file of a graph.
+    Text,
     /// A number that this crate has no name for: the library is newer than the crate.
     Other(u32),
 }
 
 /// The refusals that have a name.
-const NAMED: [Refusal; 15] = [
+const NAMED: [Refusal; 16] = [
     Refusal::Short,
     Refusal::Kind,
     Refusal::Place,
@@ -170,6 +172,7 @@ const NAMED: [Refusal; 15] = [
     Refusal::Cards,
     Refusal::Seed,
     Refusal::Marks,
+    Refusal::Text,
 ];
 
 impl Refusal {
@@ -195,6 +198,7 @@ impl Refusal {
             Refusal::Cards => (15, "a card that is not in the deck, or more workers than a card has"),
             Refusal::Seed => (16, "the first word of a seed is 0"),
             Refusal::Marks => (17, "a marked object has a reference to an unmarked one"),
+            Refusal::Text => (18, "a text that is no Matrix Market file of a graph"),
             Refusal::Other(number) => (number, "a number newer than this crate"),
         }
     }
@@ -754,6 +758,51 @@ pub fn remove(
     answer(raw::remove(offsets, targets, numbers, starts, new_offsets, new_targets, marks, work))
 }
 
+/// What the counts of a Matrix Market text say, so that buffers can be lent to [`import`]. Looks only at what stands before
+/// the pairs. The index is 0.
+pub fn market_header(text: &[u8]) -> Result<Header, Refusal> {
+    let mut result = [0; 3];
+    answer(raw::market_header(text, &mut result))?;
+    let [objects, references, index] = result;
+    Ok(Header { objects, references, index })
+}
+
+/// A graph from the text of a Matrix Market file: the pairs in their order, sizes of 0, and index 0.
+///
+/// ```
+/// use kullneyra::{export, export_length, import, market_header};
+///
+/// let text = b"%%MatrixMarket matrix coordinate pattern general\n% two pages\n2 2 2\n2 1\n1 2\n";
+/// let header = market_header(text)?;
+/// let (mut offsets, mut targets, mut sizes) = ([9; 3], [9; 2], [9; 2]);
+/// assert_eq!(import(text, &mut offsets, &mut targets, &mut sizes)?, header);
+/// assert_eq!((offsets, targets, sizes), ([0, 1, 2], [1, 0], [0, 0]));
+///
+/// let mut out = vec![0; export_length(&offsets, &targets)? as usize];
+/// export(&offsets, &targets, &mut out)?;
+/// assert_eq!(out, b"%%MatrixMarket matrix coordinate pattern general\n2 2 2\n1 2\n2 1\n");
+/// # Ok::<(), kullneyra::Refusal>(())
+/// ```
+pub fn import(text: &[u8], offsets: &mut [u32], targets: &mut [u32], sizes: &mut [u64]) -> Result<Header, Refusal> {
+    let mut result = [0; 3];
+    answer(raw::import(text, offsets, targets, sizes, &mut result))?;
+    let [objects, references, index] = result;
+    Ok(Header { objects, references, index })
+}
+
+/// How many bytes the Matrix Market text of a graph has.
+pub fn export_length(offsets: &[u32], targets: &[u32]) -> Result<u64, Refusal> {
+    let mut result = [0];
+    answer(raw::export_length(offsets, targets, &mut result))?;
+    Ok(result[0])
+}
+
+/// Writes the Matrix Market text of a graph, object after object, into a buffer of exactly its [`export_length`]. It is read
+/// as the same offsets and targets.
+pub fn export(offsets: &[u32], targets: &[u32], out: &mut [u8]) -> Result<(), Refusal> {
+    answer(raw::export(offsets, targets, out))
+}
+
 #[cfg(test)]
 mod tests {
     use super::*;
@@ -762,7 +811,7 @@ mod tests {
 
     #[test]
     fn numbers_are_places_in_the_table() {
-        for number in (1..=10).chain([13, 14, 15, 16, 17]) {
+        for number in (1..=10).chain([13, 14, 15, 16, 17, 18]) {
             let refusal = Refusal::of(number);
             assert!(!matches!(refusal, Refusal::Other(_)));
             assert_eq!(refusal.number(), number);

@@ -124,6 +124,35 @@ mod c {
             schedule: *mut u8,
             schedule_len: usize,
         ) -> u32;
+        pub fn kullneyra_market_header(text: *const u8, text_len: usize, result: *mut u32, result_len: usize) -> u32;
+        pub fn kullneyra_import(
+            text: *const u8,
+            text_len: usize,
+            offsets: *mut u32,
+            offsets_len: usize,
+            targets: *mut u32,
+            targets_len: usize,
+            sizes: *mut u64,
+            sizes_len: usize,
+            result: *mut u32,
+            result_len: usize,
+        ) -> u32;
+        pub fn kullneyra_export_length(
+            offsets: *const u32,
+            offsets_len: usize,
+            targets: *const u32,
+            targets_len: usize,
+            result: *mut u64,
+            result_len: usize,
+        ) -> u32;
+        pub fn kullneyra_export(
+            offsets: *const u32,
+            offsets_len: usize,
+            targets: *const u32,
+            targets_len: usize,
+            out: *mut u8,
+            out_len: usize,
+        ) -> u32;
         pub fn kullneyra_hop_words(objects: u32, result: *mut u64, result_len: usize) -> u32;
         pub fn kullneyra_hops(
             offsets: *const u32,
@@ -505,6 +534,61 @@ pub fn remove(
             marks.len(),
             work.as_mut_ptr(),
             work.len(),
+        )
+    }
+}
+
+/// The counts of a Matrix Market text. Result words: n, m, index.
+pub fn market_header(text: &[u8], result: &mut [u32]) -> u32 {
+    // SAFETY: as in `header`.
+    unsafe { c::kullneyra_market_header(text.as_ptr(), text.len(), result.as_mut_ptr(), result.len()) }
+}
+
+/// A graph from a Matrix Market text. Result words: n, m, index.
+pub fn import(text: &[u8], offsets: &mut [u32], targets: &mut [u32], sizes: &mut [u64], result: &mut [u32]) -> u32 {
+    // SAFETY: as in `header`.
+    unsafe {
+        c::kullneyra_import(
+            text.as_ptr(),
+            text.len(),
+            offsets.as_mut_ptr(),
+            offsets.len(),
+            targets.as_mut_ptr(),
+            targets.len(),
+            sizes.as_mut_ptr(),
+            sizes.len(),
+            result.as_mut_ptr(),
+            result.len(),
+        )
+    }
+}
+
+/// How many bytes the Matrix Market text of a graph has. One result word.
+pub fn export_length(offsets: &[u32], targets: &[u32], result: &mut [u64]) -> u32 {
+    // SAFETY: as in `header`.
+    unsafe {
+        c::kullneyra_export_length(
+            offsets.as_ptr(),
+            offsets.len(),
+            targets.as_ptr(),
+            targets.len(),
+            result.as_mut_ptr(),
+            result.len(),
+        )
+    }
+}
+
+/// The Matrix Market text of a graph. There are no result words.
+pub fn export(offsets: &[u32], targets: &[u32], out: &mut [u8]) -> u32 {
+    // SAFETY: as in `header`.
+    unsafe {
+        c::kullneyra_export(
+            offsets.as_ptr(),
+            offsets.len(),
+            targets.as_ptr(),
+            targets.len(),
+            out.as_mut_ptr(),
+            out.len(),
         )
     }
 }

@@ -20,6 +20,18 @@ fn is_schedule(schedule: &[u8], workers: u32) -> bool {
     entries.remainder().is_empty() && entries.fold(true, |below, entry| below & (u32::from(entry[0]) < workers))
 }
 
+/// Checks 4 and 10 of a graph.
+pub fn graph(offsets: &[u32], targets: &[u32]) -> Result<(), u8> {
+    if !(2..=MOST_OBJECTS + 1).contains(&offsets.len()) || targets.len() > MOST_REFERENCES {
+        return Err(4);
+    }
+    if is_graph(offsets, targets) {
+        Ok(())
+    } else {
+        Err(10)
+    }
+}
+
 /// The number of the first fault of a call with so many marks, work words and words of tallies.
 pub fn call(call: Call<'_>, marks: usize, work: usize, tallies: usize) -> Result<(), u8> {
     let Call { offsets, targets, starts, workers, batch, cutoff, schedule } = call;

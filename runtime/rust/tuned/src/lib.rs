@@ -13,9 +13,11 @@
 
 mod check;
 mod hops;
+mod market;
 mod read;
 
 pub use hops::hops;
+pub use market::{export, import};
 pub use read::read;
 
 use reference::{Call, Outcome, Tally};
