@@ -126,10 +126,10 @@ fn remove(rng: &mut Rng) -> Call {
 
 /// A number in decimal digits, now and then with zeros in front.
 fn digits(rng: &mut Rng, number: u64) -> String {
-    match rng.below(40) {
-        0 => format!("{number:02}"),
-        1 => format!("{number:010}"),
-        2 => format!("{number:011}"),
+    match rng.below(400) {
+        0..=20 => format!("{number:02}"),
+        21..=30 => format!("{number:010}"),
+        31 => format!("{number:011}"),
         _ => number.to_string(),
     }
 }
