@@ -33,6 +33,10 @@ CALLS = (
     "updates::work_words",
     "updates::add::add",
     "updates::remove::remove",
+    "market::header",
+    "market::import",
+    "market::export_length",
+    "market::export",
 )
 EXPORTS = Path("crates/kullneyra/src/lib.rt")
 HEADER = Path("runtime/include/kullneyra.h")

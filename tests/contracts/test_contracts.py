@@ -29,6 +29,10 @@ FUNCTIONS = tuple(
         "update_words",
         "add",
         "remove",
+        "market_header",
+        "import",
+        "export_length",
+        "export",
     )
 )
 
@@ -42,8 +46,13 @@ class Contracts(unittest.TestCase):
         for path in {*sources, EXPORTS, HEADER, PROMISES}:
             (self.top / path).parent.mkdir(parents=True, exist_ok=True)
             shutil.copy(TOP / path, self.top / path)
-        self.calls = {call: (path, f"pub fn {source_of(call)[1]}") for call, path in zip(CALLS, sources)}
-        self.calls |= {name: (EXPORTS, f'pub extern "C" fn {name}') for name in FUNCTIONS}
+        self.calls = {call: (path, self.declared(path, f"pub fn {source_of(call)[1]}")) for call, path in zip(CALLS, sources)}
+        self.calls |= {name: (EXPORTS, self.declared(EXPORTS, f'pub extern "C" fn {name}')) for name in FUNCTIONS}
+
+    def declared(self, path, declaration):
+        """The declaration with the mark behind its name, so that it is of no longer name."""
+        text = (self.top / path).read_text(encoding="utf-8")
+        return next(f"{declaration}{mark}" for mark in "(<" if f"{declaration}{mark}" in text)
 
     def tearDown(self):
         shutil.rmtree(self.top)

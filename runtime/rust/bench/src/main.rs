@@ -102,7 +102,11 @@ fn main() -> io::Result<()> {
             "reference",
             &remove,
         ),
-        table::calls("Import of a Matrix Market text; Rust splits lines, tuned makes the same passes", "byte", &imports),
+        table::calls(
+            "Import of a Matrix Market text; Rust splits lines, tuned makes the same passes",
+            "byte",
+            &imports,
+        ),
         table::calls("Export of one; Rust formats numbers, tuned makes the same passes", "byte", &exports),
         table::stops(&stops),
         table::growth(&growth),
