@@ -535,6 +535,49 @@ fn updated(verdict: Verdict, bounds: &[u32], leads: &[u32], marks: &[u8], work: 
 }
 
 // The call of a kind, and the line that answers it.
+fn import(cells: &[u64], places: &[usize; 512]) {
+    let mut text = [0u8; 2560];
+    let mut offsets = [0u32; 64];
+    let mut targets = [0u32; 64];
+    let mut sizes = [0u64; 64];
+    let b = copy_bytes(cells, places, 0, &mut text);
+    let o = copy_words(cells, places, 1, &mut offsets);
+    let t = copy_words(cells, places, 2, &mut targets);
+    let s = copy_longs(cells, places, 3, &mut sizes);
+    import_into(
+        &text[..b],
+        &mut offsets[..o],
+        &mut targets[..t],
+        &mut sizes[..s],
+    );
+}
+
+fn import_into(text: &[u8], offsets: &mut [u32], targets: &mut [u32], sizes: &mut [u64]) {
+    show::answer(market::header(text));
+    io::write_all(1, b" |");
+    show::answer(market::import(text, offsets, targets, sizes));
+    show::words(offsets);
+    show::words(targets);
+    show::longs(sizes);
+}
+
+fn export(cells: &[u64], places: &[usize; 512]) {
+    let mut offsets = [0u32; 64];
+    let mut targets = [0u32; 64];
+    let mut out = [0u8; 512];
+    let o = copy_words(cells, places, 0, &mut offsets);
+    let t = copy_words(cells, places, 1, &mut targets);
+    let b = copy_bytes(cells, places, 2, &mut out);
+    export_into(&offsets[..o], &targets[..t], &mut out[..b]);
+}
+
+fn export_into(offsets: &[u32], targets: &[u32], out: &mut [u8]) {
+    show::export_length(market::export_length(offsets, targets));
+    io::write_all(1, b" |");
+    show::exported(market::export(offsets, targets, out));
+    show::bytes(out);
+}
+
 pub fn call(kind: u8, text: &[u8], cells: &[u64], places: &[usize; 512]) {
     let rest = scan::behind(text, b':');
     io::write_all(1, &text[0..rest]);
@@ -550,6 +593,8 @@ pub fn call(kind: u8, text: &[u8], cells: &[u64], places: &[usize; 512]) {
         b'n' => nearest(cells, places),
         b'a' => update(cells, places, true),
         b't' => update(cells, places, false),
+        b'i' => import(cells, places),
+        b'e' => export(cells, places),
         _ => sweep(cells, places),
     }
     io::write_all(1, b"\n");

@@ -10,6 +10,8 @@
 //     sweep NAME: MARKS | SIZES | LIST
 //     cards NAME: CARDS | W | SCHEDULE                 the length of so many cards' turns, then the turns
 //     draw NAME: SEED | ROUNDS W | SCHEDULE            one draw, then the turns of so many draws
+//     import NAME: TEXT | OFFSETS | TARGETS | SIZES   the counts of a Matrix Market text, then its graph
+//     export NAME: OFFSETS | TARGETS | OUT             the length of a graph's text, then the text
 //     nearest NAME: OFFSETS | TARGETS | STARTS | HOPS | WORK    hop counts, with the work words beside a refusal
 //     add NAME: OFFSETS | TARGETS | FROM | TO | NEW OFFSETS | NEW TARGETS | MARKS | WORK
 //     take NAME: OFFSETS | TARGETS | NUMBERS | STARTS | NEW OFFSETS | NEW TARGETS | MARKS | WORK

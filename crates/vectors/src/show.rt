@@ -132,6 +132,22 @@ pub fn updated(v: Verdict) {
     }
 }
 
+pub fn export_length(l: market::Length) {
+    match l {
+        market::Length::Bytes(bytes) => number(bytes),
+        market::Length::Refused(r) => refused(r),
+    }
+}
+
+pub fn exported(v: Verdict) {
+    match v {
+        Verdict::Fine => {
+            io::write_all(1, b" exported");
+        }
+        Verdict::Faulty(r) => refused(r),
+    }
+}
+
 pub fn seed(s: Seed) {
     number(s.first as u64);
     number(s.second as u64);
@@ -226,7 +242,7 @@ pub fn words(numbers: &[u32]) {
     list(&[], numbers, &[], numbers.len());
 }
 
-fn longs(numbers: &[u64]) {
+pub fn longs(numbers: &[u64]) {
     list(&[], &[], numbers, numbers.len());
 }
 
