@@ -1,0 +1,13 @@
+-- `sweep::refusal_of` meets its contract: of a refusal it is the number of the cause that the match told.
+use mathlib.Core.Path.{_∙_, sym, ap}
+use borrow.Author.Needs.{needs}
+use Rattle.sweep.specs.Sweep.{row}
+use Rattle.sweep.proofs.refusal_of.Statement.{statement}
+use Rattle.sweep.proofs.refusal_of.Tie as tie
+
+returns-2 : tie.Need-returns-2
+returns-2 c = c .number-of .ensures ∙ sym (ap (λ a. row a .number) (c .before .before .swept .given .1))
+
+pub refusal-of-spec : {M : Type 1} → statement M
+refusal-of-spec =
+    tie.close (tie.spec (λ c. search needs) (λ c. search needs) (λ c κs. search needs) (λ c. search needs) returns-2)
