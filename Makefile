@@ -1,8 +1,9 @@
 # `make test` is the gate; `make run` builds what it needs and runs the main job on the sample store.
 # `make install PREFIX=/usr/local DESTDIR=` installs program, library, header and kullneyra.pc.
 # `make compare CASES=n SEED=s` compares the library with the reference for longer than the gate does.
+# `make oci` builds target/bin/kullneyra-oci, the command over an OCI image layout.
 # `make bench` measures; its table and plots go to target/bench/.
-.PHONY: test run library install compare bench
+.PHONY: test run library oci install compare bench
 
 CASES ?= 5000000
 SEED ?= 2
@@ -34,6 +35,10 @@ library: target/staticlib/libkullneyra.a
 
 target/staticlib/libkullneyra.a: crates.txt $(shell find crates -type f)
 	@mkdir -p target && rt staticlib kullneyra >target/library.log 2>&1 || { cat target/library.log; exit 1; }
+
+# The command over an OCI image layout; needs Go and Debian's golang-github-opencontainers-*-dev packages (tests/go/run).
+oci: library
+	@. tools/go-env && cd runtime/go && go build -o ../../target/bin/kullneyra-oci ./cmd/kullneyra-oci
 
 install: library
 	@rt check collect >target/install.log 2>&1 || { cat target/install.log; exit 1; }
