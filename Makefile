@@ -2,8 +2,9 @@
 # `make install PREFIX=/usr/local DESTDIR=` installs program, library, header and kullneyra.pc.
 # `make compare CASES=n SEED=s` compares the library with the reference for longer than the gate does.
 # `make oci` builds target/bin/kullneyra-oci, the command over an OCI image layout.
+# `make course` opens the page that draws a run, turn by turn.
 # `make bench` measures; its table and plots go to target/bench/.
-.PHONY: test run library oci install compare bench
+.PHONY: test run library oci steps course install compare bench
 
 CASES ?= 5000000
 SEED ?= 2
@@ -39,6 +40,16 @@ target/staticlib/libkullneyra.a: crates.txt $(shell find crates -type f)
 # The command over an OCI image layout; needs Go and Debian's golang-github-opencontainers-*-dev packages (tests/go/run).
 oci: library
 	@. tools/go-env && cd runtime/go && go build -o ../../target/bin/kullneyra-oci ./cmd/kullneyra-oci
+
+# The page of the course: a run turn by turn, on 127.0.0.1. `steps` is the program behind it.
+steps: target/course/steps
+
+target/course/steps: runtime/c/steps.c runtime/include/kullneyra.h target/staticlib/libkullneyra.a
+	@mkdir -p target/course
+	@gcc -std=c11 -O2 -Wall -Wextra -Werror -pedantic -Iruntime/include runtime/c/steps.c target/staticlib/libkullneyra.a -o target/course/steps
+
+course: steps
+	@tools/course.py serve
 
 install: library
 	@rt check collect >target/install.log 2>&1 || { cat target/install.log; exit 1; }
