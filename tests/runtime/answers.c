@@ -301,27 +301,27 @@ int main(void) {
     ACCEPTED("market header", kullneyra_market_header_into(bytes_of_text, text_len, &market), market);
     expect("market header, objects", 2, market.n);
     expect("market header, references", 1, market.m);
-    uint32_t new_offsets[3] = {7, 7, 7}, new_targets[1] = {7};
-    uint64_t new_sizes[2] = {7, 7}, export_length;
+    uint32_t read_offsets[3] = {7, 7, 7}, read_targets[1] = {7};
+    uint64_t read_sizes[2] = {7, 7}, export_length;
     REFUSED("import, no last line feed", KULLNEYRA_TEXT,
-            kullneyra_import_into(bytes_of_text, text_len - 1, new_offsets, 3, new_targets, 1, new_sizes, 2, &market), market);
+            kullneyra_import_into(bytes_of_text, text_len - 1, read_offsets, 3, read_targets, 1, read_sizes, 2, &market), market);
     REFUSED("import, short sizes", KULLNEYRA_BUFFER,
-            kullneyra_import_into(bytes_of_text, text_len, new_offsets, 3, new_targets, 1, new_sizes, 1, &market), market);
-    expect("import, unchanged", 7, new_offsets[0]);
-    ACCEPTED("import", kullneyra_import_into(bytes_of_text, text_len, new_offsets, 3, new_targets, 1, new_sizes, 2, &market),
+            kullneyra_import_into(bytes_of_text, text_len, read_offsets, 3, read_targets, 1, read_sizes, 1, &market), market);
+    expect("import, unchanged", 7, read_offsets[0]);
+    ACCEPTED("import", kullneyra_import_into(bytes_of_text, text_len, read_offsets, 3, read_targets, 1, read_sizes, 2, &market),
              market);
-    expect("import, offset", 1, new_offsets[1]);
-    expect("import, target", 1, new_targets[0]);
-    expect("import, size", 0, new_sizes[1]);
-    expect("export length, no graph", KULLNEYRA_GRAPH, kullneyra_export_length_into(new_offsets, 2, NULL, 0, &export_length));
+    expect("import, offset", 1, read_offsets[1]);
+    expect("import, target", 1, read_targets[0]);
+    expect("import, size", 0, read_sizes[1]);
+    expect("export length, no graph", KULLNEYRA_GRAPH, kullneyra_export_length_into(read_offsets, 2, NULL, 0, &export_length));
     expect("export length beside a fault", 0, export_length);
-    expect("export length", KULLNEYRA_OK, kullneyra_export_length_into(new_offsets, 3, new_targets, 1, &export_length));
+    expect("export length", KULLNEYRA_OK, kullneyra_export_length_into(read_offsets, 3, read_targets, 1, &export_length));
     expect("export length, bytes", text_len, export_length);
     uint8_t written[sizeof text];
     memset(written, 0x5a, sizeof written);
-    expect("export, long buffer", KULLNEYRA_BUFFER, kullneyra_export(new_offsets, 3, new_targets, 1, written, sizeof text));
+    expect("export, long buffer", KULLNEYRA_BUFFER, kullneyra_export(read_offsets, 3, read_targets, 1, written, sizeof text));
     expect("export, unchanged", 0x5a, written[0]);
-    expect("export", KULLNEYRA_OK, kullneyra_export(new_offsets, 3, new_targets, 1, written, text_len));
+    expect("export", KULLNEYRA_OK, kullneyra_export(read_offsets, 3, read_targets, 1, written, text_len));
     expect("export, text", 0, memcmp(written, text, text_len) != 0);
     expect("export, behind it", 0x5a, written[text_len]);
     return failed;
