@@ -6,12 +6,18 @@ import os
 import shutil
 import signal
 import subprocess
+import sys
 import tempfile
 import time
 import unittest
 from pathlib import Path
 
 TOP = Path(__file__).resolve().parents[2]
+sys.path.insert(0, str(TOP / "tools"))
+import course  # noqa: E402
+import course_draw as draw  # noqa: E402
+import course_run as play  # noqa: E402
+
 COMMAND = TOP / "target" / "bin" / "kullneyra-oci"
 DOCKER = "application/vnd.docker.distribution.manifest.v2+json"
 DOCKER_CONFIG = "application/vnd.docker.container.image.v1+json"
@@ -250,6 +256,19 @@ class Layouts(unittest.TestCase):
         self.assertEqual(oci("catalogue", "--seed", "0,1", self.layout, folder, status=1).stderr.split(":")[1].strip(), "refusal 16")
         oci("catalogue", "--turns", "1", self.layout, folder)
         self.assertEqual(run(TOP / "target" / "bin" / "collect", cwd=folder).stdout.splitlines()[0], "unfinished")
+
+    def test_drawn(self):
+        """The course's page draws a layout: the same objects are dead, and a large one is summed up."""
+        unlist(self.layout, "two")
+        run = play.play(course.of_layout(str(self.layout)))
+        self.assertTrue(run.finished)
+        self.assertEqual(len(run.dead), len(plan(self.layout)["dead"]))
+        self.assertEqual(draw.map_svg(run, len(run.turns)).count(">dead<"), 3)
+        self.many(110)
+        run = play.play(course.of_layout(str(self.layout)), 40)
+        self.assertIn("too many to draw", draw.map_svg(run, 40))
+        with self.assertRaises(play.Fault):
+            course.of_layout(str(self.folder / "nowhere"))
 
     def test_built_and_copied(self):
         """What buildah built and skopeo copied into one layout, with a tag moved to a newer image."""
