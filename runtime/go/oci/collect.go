@@ -83,18 +83,77 @@ func RoundRobin(workers uint32, turns int) Order {
 	return Order{kullneyra.Settings{Workers: workers, Batch: batch, Cutoff: cutoff}, schedule}
 }
 
-// Enough is a round-robin order that finishes whatever the layout is: as many rounds as demand 3's bound has stretches,
-// with every reference counted as reached.
-func (l *Layout) Enough(workers uint32) Order {
-	return RoundRobin(workers, int(workers)*l.enough(int(workers)))
+// Store is a layout as the proved reader read it, with what is kept as leases.
+type Store struct {
+	layout *Layout
+	graph  kullneyra.Graph
+	sizes  []uint64
+	starts []uint32
 }
 
-// enough is the bound on stretches, and so on rounds: 7R + 4W + 2.
-func (l *Layout) enough(workers int) int { return 7*len(l.References) + 4*workers + 2 }
+// Read makes the catalogue of the layout, with leases on these digests, and lets the proved reader read it.
+func (l *Layout) Read(keep []digest.Digest) (*Store, error) {
+	catalogue, err := l.Catalogue(keep)
+	if err != nil {
+		return nil, err
+	}
+	refused := func(err error) error {
+		return fmt.Errorf("a layout of %d objects, %d references and %d kept: %w", len(l.Blobs), len(l.References), len(keep), err)
+	}
+	head, err := kullneyra.Header(catalogue)
+	if err != nil {
+		return nil, refused(err)
+	}
+	s := &Store{
+		layout: l,
+		graph:  kullneyra.Graph{Offsets: make([]uint32, head.N+1), Targets: make([]uint32, head.M)},
+		sizes:  make([]uint64, head.N),
+		starts: make([]uint32, kullneyra.Starts),
+	}
+	store, err := kullneyra.Read(catalogue, s.graph.Offsets, s.graph.Targets, s.sizes, s.starts)
+	if err != nil {
+		return nil, refused(err)
+	}
+	s.starts = s.starts[:store.Starts]
+	return s, nil
+}
 
-// SeedOrder is the order of enough rounds of cards drawn from a seed.
-func (l *Layout) SeedOrder(seed kullneyra.Seed, workers uint32) (Order, error) {
-	rounds := l.enough(int(workers))
+// Rounds is how many rounds of so many workers finish every collection of the store: demand 3's bound, 7R + 4W + 2. R, the
+// references that leave reachable objects, is told by the hops.
+func (s *Store) Rounds(workers uint32) (int, error) {
+	n := len(s.sizes)
+	words, err := kullneyra.HopWords(uint32(n))
+	if err != nil {
+		return 0, err
+	}
+	hops := make([]uint32, n)
+	if err := kullneyra.Hops(s.graph, s.starts, hops, make([]uint32, words)); err != nil {
+		return 0, err
+	}
+	reached := 0
+	for object, hop := range hops {
+		if hop != kullneyra.NoHops {
+			reached += len(kullneyra.References(s.graph, uint32(object)))
+		}
+	}
+	return 7*reached + 4*int(workers) + 2, nil
+}
+
+// Enough is the shortest round-robin order that the bound guarantees to finish.
+func (s *Store) Enough(workers uint32) (Order, error) {
+	rounds, err := s.Rounds(workers)
+	if err != nil {
+		return Order{}, err
+	}
+	return RoundRobin(workers, int(workers)*rounds), nil
+}
+
+// SeedOrder is the order of as many rounds of cards drawn from a seed.
+func (s *Store) SeedOrder(seed kullneyra.Seed, workers uint32) (Order, error) {
+	rounds, err := s.Rounds(workers)
+	if err != nil {
+		return Order{}, err
+	}
 	length, err := kullneyra.ScheduleLength(rounds, workers)
 	if err != nil {
 		return Order{}, err
@@ -109,30 +168,15 @@ func (l *Layout) SeedOrder(seed kullneyra.Seed, workers uint32) (Order, error) {
 // errUnfinished is no refusal: the schedule was too short.
 var errUnfinished = errors.New("the schedule does not finish the collection, so nothing is known to be dead")
 
-// Plan runs the proved reader, marker and sweep on the layout.
-func (l *Layout) Plan(keep []digest.Digest, order Order) (*Plan, error) {
-	catalogue, err := l.Catalogue(keep)
-	if err != nil {
-		return nil, err
-	}
-	head, err := kullneyra.Header(catalogue)
-	if err != nil {
-		return nil, fmt.Errorf("a layout of %d objects and %d references: %w", len(l.Blobs), len(l.References), err)
-	}
-	n, m := int(head.N), int(head.M)
-	graph := kullneyra.Graph{Offsets: make([]uint32, n+1), Targets: make([]uint32, m)}
-	sizes, starts := make([]uint64, n), make([]uint32, kullneyra.Starts)
-	store, err := kullneyra.Read(catalogue, graph.Offsets, graph.Targets, sizes, starts)
-	if err != nil {
-		return nil, fmt.Errorf("a layout of %d objects, %d references and %d kept: %w", len(l.Blobs), len(l.References), len(keep), err)
-	}
-	workers := int(order.Settings.Workers)
+// Plan runs the proved marker and sweep on the store.
+func (s *Store) Plan(order Order) (*Plan, error) {
+	n, workers := len(s.sizes), int(order.Settings.Workers)
 	buffers := kullneyra.Buffers{
 		Marks:   make([]byte, n),
 		Work:    make([]uint32, kullneyra.Work(n, workers)),
 		Tallies: make([]uint64, kullneyra.Tallies(workers)),
 	}
-	marked, err := kullneyra.Mark(graph, starts[:store.Starts], order.Settings, order.Schedule, buffers)
+	marked, err := kullneyra.Mark(s.graph, s.starts, order.Settings, order.Schedule, buffers)
 	if err != nil {
 		return nil, err
 	}
@@ -140,15 +184,28 @@ func (l *Layout) Plan(keep []digest.Digest, order Order) (*Plan, error) {
 		return nil, errUnfinished
 	}
 	list := make([]uint32, n)
-	swept, err := kullneyra.Sweep(buffers.Marks, sizes, list)
+	swept, err := kullneyra.Sweep(buffers.Marks, s.sizes, list)
 	if err != nil {
 		return nil, err
 	}
 	plan := &Plan{Freed: swept.Freed, Live: marked.Live, Marked: marked}
 	for _, number := range list[:swept.Dead] {
-		plan.Dead = append(plan.Dead, l.Blobs[number])
+		plan.Dead = append(plan.Dead, s.layout.Blobs[number])
 	}
 	return plan, nil
+}
+
+// Plan is what a collection of one worker finds dead, with these digests kept.
+func (l *Layout) Plan(keep []digest.Digest) (*Plan, error) {
+	store, err := l.Read(keep)
+	if err != nil {
+		return nil, err
+	}
+	order, err := store.Enough(1)
+	if err != nil {
+		return nil, err
+	}
+	return store.Plan(order)
 }
 
 // lockFile stands in the layout while it is pruned. The lock goes with the process, so what a crash leaves locks nobody out.

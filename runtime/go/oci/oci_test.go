@@ -95,7 +95,7 @@ func (s *store) open() *oci.Layout {
 func (s *store) dead(keep ...digest.Digest) []digest.Digest {
 	s.t.Helper()
 	l := s.open()
-	plan, err := l.Plan(keep, l.Enough(1))
+	plan, err := l.Plan(keep)
 	if err != nil {
 		s.t.Fatal(err)
 	}
@@ -249,7 +249,7 @@ func TestStray(t *testing.T) {
 	if len(l.Stray) != 6 {
 		t.Errorf("stray: %v", l.Stray)
 	}
-	plan, err := l.Plan(nil, l.Enough(1))
+	plan, err := l.Plan(nil)
 	if err != nil {
 		t.Fatal(err)
 	}
@@ -325,7 +325,7 @@ func TestChangedMeanwhile(t *testing.T) {
 			s.list(s.image("image", nil, s.layer("image")))
 			dead := s.layer("dead")
 			l := s.open()
-			plan, err := l.Plan(nil, l.Enough(1))
+			plan, err := l.Plan(nil)
 			if err != nil || len(plan.Dead) != 1 {
 				t.Fatal(plan, err)
 			}
@@ -374,7 +374,7 @@ func TestInterrupted(t *testing.T) {
 	live := len(s.open().Blobs) - len(s.dead())
 	for {
 		l := s.open()
-		plan, err := l.Plan(nil, l.Enough(1))
+		plan, err := l.Plan(nil)
 		if err != nil {
 			t.Fatal(err)
 		}
@@ -397,34 +397,63 @@ func TestLimits(t *testing.T) {
 	layer := s.layer("one")
 	s.list(s.image("image", nil, layer))
 	l := s.open()
-	if _, err := l.Plan([]digest.Digest{digest.FromString("nowhere")}, l.Enough(1)); err == nil {
+	if _, err := l.Plan([]digest.Digest{digest.FromString("nowhere")}); err == nil {
 		t.Error("a digest to be kept that is not there")
 	}
 	many := make([]digest.Digest, kullneyra.MostLeases+1)
 	for k := range many {
 		many[k] = layer.Digest
 	}
-	if _, err := l.Plan(many[1:], l.Enough(1)); err != nil {
+	if _, err := l.Plan(many[1:]); err != nil {
 		t.Error(err)
 	}
-	if _, err := l.Plan(many, l.Enough(1)); !errors.Is(err, kullneyra.NoStarts) {
+	if _, err := l.Plan(many); !errors.Is(err, kullneyra.NoStarts) {
 		t.Error(err)
 	}
-	if _, err := l.Plan(nil, oci.RoundRobin(1, 1)); err == nil {
+	read, err := l.Read(nil)
+	if err != nil {
+		t.Fatal(err)
+	}
+	if _, err := read.Plan(oci.RoundRobin(1, 1)); err == nil {
 		t.Error("a schedule that does not finish")
 	}
 	for workers := uint32(1); workers <= kullneyra.MostWorkers; workers++ {
-		if plan, err := l.Plan(nil, l.Enough(workers)); err != nil || plan.Live != 4 {
+		order, err := read.Enough(workers)
+		if err != nil {
+			t.Fatal(err)
+		}
+		if plan, err := read.Plan(order); err != nil || plan.Live != 4 {
 			t.Error(workers, plan, err)
 		}
 	}
 	for workers := uint32(1); workers <= kullneyra.CardWorkers; workers++ {
-		order, err := l.SeedOrder(kullneyra.Seed{First: 5}, workers)
+		order, err := read.SeedOrder(kullneyra.Seed{First: 5}, workers)
 		if err != nil {
 			t.Fatal(err)
 		}
-		if plan, err := l.Plan(nil, order); err != nil || plan.Live != 4 {
+		if plan, err := read.Plan(order); err != nil || plan.Live != 4 {
 			t.Error(workers, plan, err)
+		}
+	}
+}
+
+// R counts what leaves reachable objects: a dead manifest's references are not in the bound, unless it is kept.
+func TestRounds(t *testing.T) {
+	s := newStore(t)
+	shared := s.layer("shared")
+	gone := s.image("gone", nil, shared, s.layer("old"))
+	s.list(s.image("kept", nil, shared))
+	for keep, reached := range map[digest.Digest]int{"": 3, gone.Digest: 6} {
+		var kept []digest.Digest
+		if keep != "" {
+			kept = append(kept, keep)
+		}
+		read, err := s.open().Read(kept)
+		if err != nil {
+			t.Fatal(err)
+		}
+		if rounds, err := read.Rounds(2); err != nil || rounds != 7*reached+10 {
+			t.Errorf("%d rounds with %d references reached, %v", rounds, reached, err)
 		}
 	}
 }
@@ -447,7 +476,7 @@ func TestLarge(t *testing.T) {
 	if len(l.Blobs) < 8000 {
 		t.Fatalf("%d blobs", len(l.Blobs))
 	}
-	plan, err := l.Plan(nil, l.Enough(1))
+	plan, err := l.Plan(nil)
 	if err != nil {
 		t.Fatal(err)
 	}

@@ -124,7 +124,7 @@ func collect(prune bool, words []string, out, said io.Writer) error {
 	if err != nil {
 		return err
 	}
-	plan, err := layout.Plan(keep, layout.Enough(1))
+	plan, err := layout.Plan(keep)
 	if err != nil {
 		return err
 	}
@@ -219,7 +219,11 @@ func catalogue(words []string, said io.Writer) error {
 	if err != nil {
 		return err
 	}
-	order, err := orderOf(layout, uint32(*boxes), *turns, *seed)
+	read, err := layout.Read(keep)
+	if err != nil {
+		return err
+	}
+	order, err := orderOf(read, uint32(*boxes), *turns, *seed)
 	if err != nil {
 		return err
 	}
@@ -244,7 +248,7 @@ func catalogue(words []string, said io.Writer) error {
 }
 
 // orderOf is the schedule that the flags ask for.
-func orderOf(layout *oci.Layout, boxes uint32, turns int, seed string) (oci.Order, error) {
+func orderOf(store *oci.Store, boxes uint32, turns int, seed string) (oci.Order, error) {
 	if seed != "" {
 		first, second, both := strings.Cut(seed, ",")
 		a, err := strconv.ParseUint(first, 10, 32)
@@ -252,10 +256,10 @@ func orderOf(layout *oci.Layout, boxes uint32, turns int, seed string) (oci.Orde
 		if !both || err != nil || err2 != nil {
 			return oci.Order{}, errUsage
 		}
-		return layout.SeedOrder(kullneyra.Seed{First: uint32(a), Second: uint32(b)}, boxes)
+		return store.SeedOrder(kullneyra.Seed{First: uint32(a), Second: uint32(b)}, boxes)
 	}
 	if turns < 0 {
-		return layout.Enough(boxes), nil
+		return store.Enough(boxes)
 	}
 	return oci.RoundRobin(boxes, turns), nil
 }
