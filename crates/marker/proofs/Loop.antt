@@ -23,7 +23,8 @@ use Rattle.machine.proofs.Progress.{counts-grow}
 use Rattle.machine.proofs.Ended.{ended-turns}
 use Rattle.turns.specs.declared.Setup.{Setup}
 use Rattle.turns.specs.Counting.{running?}
-use Rattle.turns.specs.Held.{Memory, settingOf, Holds}
+use Rattle.turns.specs.declared.Progress.{Progress}
+use Rattle.turns.specs.Held.{Memory, memory, settingOf, Holds}
 use Rattle.turns.specs.Turned.{Ready, Does, IsLent}
 use Rattle.marker.specs.Stages.{IsScheduled, scheduled}
 use Rattle.marker.proofs.Checks.{pair-is}
@@ -171,6 +172,13 @@ module _ {g : Setup} {offsets targets schedule : List ℕ} {μ₀ : Memory} wher
               handed-room = omega (arith, r .handed-room, next-count, grown .0);
               moved-room = omega (arith, r .moved-room, next-count, grown .1);
             }
+
+        -- and the turn tells how far it is
+        pub at-told : {marks work tallies regs : List ℕ} {p q : Progress}
+            → Does (IsLent g offsets targets (getD schedule i 0)) g (getD schedule i 0) (getD schedule (i + 1) 0) μ (memory marks work tallies regs p)
+            → p ≡ q
+            → LoopAt x (i + 2) (memory marks work tallies regs q)
+        at-told {marks} {work} {tallies} {regs} does e = subst (λ (q : Progress). LoopAt x (i + 2) (memory marks work tallies regs q)) e (at-next does)
 
 -- ---- after the loop
 

@@ -4,6 +4,7 @@ pub mod start;
 use machine::Counts;
 use refusal::Refusal;
 use refusal::Verdict;
+use turns::Outcome;
 use turns::Progress;
 use turns::Setup;
 use turns::counts;
@@ -205,17 +206,24 @@ pub fn take_turns(
         setup (now (schedule .entry)) (memory (now (marks .entry)) (now (work .entry)) (now (tallies .entry)) (now (regs .entry)) begun)
         (memory (now (marks .exit)) (now (work .exit)) (now (tallies .exit)) (now (regs .exit)) p) ⌝ }
 {
+    if begun.running == 0 {
+        return begun;
+    }
     let mut p = begun;
     let mut i: usize = 0;
     while i < schedule.len() {
-        let running = p.running;
-        if running == 0 {
-            return p;
-        }
         let b = schedule[i] as u32;
         let v = schedule[i + 1] as u32;
-        p = turns::turn(offsets, targets, setup, marks, work, tallies, regs, p, b, v);
+        let outcome = turns::turn(offsets, targets, setup, marks, work, tallies, regs, p, b, v);
         i += 2;
+        match outcome {
+            Outcome::Goes(q) => {
+                p = q;
+            }
+            Outcome::Over(q) => {
+                return q;
+            }
+        }
     }
     p
 }

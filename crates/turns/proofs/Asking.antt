@@ -8,6 +8,8 @@ use lib.ListN.{length}
 use lib.Dec.{eqb}
 use borrow.Author.Tests.{eq-eqb, ne-eqb}
 use Rattle.laws.specs.Every.{Every}
+use Rattle.laws.specs.Sum.{sum}
+use Rattle.laws.proofs.Sum.{sum-at}
 use Rattle.graph.specs.Graph.{Graph, references, target}
 use Rattle.machine.specs.Ring.{Colour, white, black, shade, colourOf, passedOn}
 use Rattle.machine.specs.Run.{Run, run}
@@ -298,9 +300,22 @@ module _ {g : Setup} {marks work tallies regs : List ℕ} {p : Progress} {b : �
   pub holder-here : p .ring .holder ≡ x .state .ring .holder
   holder-here = ap (λ (w : Words). w .holder) (x .holds .ring-is)
 
-  abbrev pub holding : blockAt regs 0 .status ≢ 3 → p .ring .holder ≡ b → Ready (IsHolder b) g (memory marks work tallies regs p)
-  holding z e =
-      told-as x (record { is = x .here; going = stopped-if (x .scene) (x .holds) 0 first-there .1 z; holds = sym e ∙ holder-here })
+  -- an idle worker that holds the token: worker 0 has not ended
+  pub holder-going : b ≡ x .state .ring .holder → stopped (worker (x .state) 0) ≡ 0
+  holder-going e = by (stopped (worker (x .state) 0)) refl
+    where
+      by : (k : ℕ) → stopped (worker (x .state) 0) ≡ k → k ≡ 0
+      by zero q = refl
+      by (suc k) q =
+          let S = x .scene .sound in
+          let there : 0 < length (x .state .workers) = omega (arith, S .workers-length, first-there) in
+          let first = S .first-ended (omega (arith, q, sum-at stopped ended (x .state .workers) 0 (worker (x .state) 0) refl there)) in
+          absurd (omega (arith, q, ap (λ (i : ℕ). stopped (worker (x .state) i)) (sym (e ∙ first .1)) ∙ ap stopped (x .here)))
+
+  abbrev pub holding : p .ring .holder ≡ b → Ready (IsHolder b) g (memory marks work tallies regs p)
+  holding e =
+      let here = sym e ∙ holder-here in
+      told-as x (record { is = x .here; going = holder-going here; holds = here })
 
   abbrev pub asking-here : blockAt regs 0 .status ≢ 3 → p .ring .holder ≢ b → Ready (IsAsking b) g (memory marks work tallies regs p)
   asking-here z n =

@@ -1,4 +1,5 @@
 // The turn of an idle worker.
+use crate::Outcome;
 use crate::Progress;
 use crate::Setup;
 use crate::counts;
@@ -7,6 +8,7 @@ use worker::registers;
 ghost use mathlib.Core.List.{List};
 ghost use Prim.Native.Nat.{ℕ};
 ghost use Rattle.turns.specs.Held.{memory};
+ghost use Rattle.turns.specs.Outcome.{progressOf, ToldOver};
 ghost use Rattle.turns.specs.Turned.{Ready, Does, DoesAny, IsIdle, IsHolder, IsAsking};
 
 // The worker asks the named worker, if that is busy and its cell is empty.
@@ -55,23 +57,25 @@ fn pass(setup: Setup, regs: &mut [u32], p: Progress, b: u32) -> Progress
     counts::ringed(p, next)
 }
 
-// The worker ends if worker 0 has ended. Else it passes the token, if it holds it, and asks, if not.
-pub fn idle_turn(setup: Setup, regs: &mut [u32], p: Progress, b: u32, v: u32) -> Progress
+// The worker passes the token, if it holds it: worker 0 has not ended then. Else it ends if worker 0 has
+// ended, and asks, if not.
+pub fn idle_turn(setup: Setup, regs: &mut [u32], p: Progress, b: u32, v: u32) -> Outcome
     requires { ⌜ ((marks : List ℕ) × ((work : List ℕ) × ((tallies : List ℕ) × Ready (IsIdle b) setup (memory marks work tallies (now regs) p)))) ⌝ }
     ensures { λ r. ⌜ ((marks work tallies : List ℕ) → Does (IsIdle b) setup b v
         (memory marks work tallies (now (regs .entry)) p)
-        (memory marks work tallies (now (regs .exit)) r)) ⌝ }
+        (memory marks work tallies (now (regs .exit)) (progressOf r))) ⌝ }
+    ensures { λ r. ⌜ ToldOver r ⌝ }
 {
+    let ring = p.ring;
+    let holder = ring.holder;
+    if holder == b as u64 {
+        return crate::ending(pass(setup, regs, p, b));
+    }
     let first = registers::load(regs, 0);
     let status = first.status;
     if status == registers::ENDED {
         registers::put(regs, b, registers::STATUS, registers::ENDED);
-        return counts::ended(p);
+        return crate::ending(counts::ended(p));
     }
-    let ring = p.ring;
-    let holder = ring.holder;
-    if holder == b as u64 {
-        return pass(setup, regs, p, b);
-    }
-    ask(setup, regs, p, b, v)
+    Outcome::Goes(ask(setup, regs, p, b, v))
 }

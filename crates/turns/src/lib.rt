@@ -10,6 +10,7 @@ use worker::registers;
 ghost use mathlib.Core.Path.{_≡_};
 ghost use Rattle.machine.specs.Tally.{tally};
 ghost use Rattle.turns.specs.Held.{memory};
+ghost use Rattle.turns.specs.Outcome.{progressOf, ToldOver};
 ghost use Rattle.turns.specs.Raising.{Raisable, raisedWords};
 ghost use Rattle.turns.specs.Turned.{Ready, Does, IsLent};
 
@@ -32,6 +33,24 @@ pub struct Progress {
     pub carrying: u64,
     pub running: u64,
     pub ring: Ring,
+}
+
+// How far a turn leaves the collection. Over is told by the turn in which the last worker ends; so no
+// other turn need be followed by a test.
+pub enum Outcome {
+    Goes(Progress),
+    Over(Progress),
+}
+
+// A worker may have ended, and been the last.
+fn ending(p: Progress) -> Outcome
+    ensures { λ r. ⌜ progressOf r ≡ p ⌝ }
+    ensures { λ r. ⌜ ToldOver r ⌝ }
+{
+    if p.running == 0 {
+        return Outcome::Over(p);
+    }
+    Outcome::Goes(p)
 }
 
 // Worker b's tally, with so many more followed, won, lost and handed. Where a number is 0, no word is
@@ -63,11 +82,12 @@ pub fn turn(
     p: Progress,
     b: u32,
     v: u32,
-) -> Progress
+) -> Outcome
     requires { ⌜ Ready (IsLent setup (now offsets) (now targets) b) setup (memory (now marks) (now work) (now tallies) (now regs) p) ⌝ }
     ensures { λ r. ⌜ Does (IsLent setup (now (offsets .entry)) (now (targets .entry)) b) setup b v
         (memory (now (marks .entry)) (now (work .entry)) (now (tallies .entry)) (now (regs .entry)) p)
-        (memory (now (marks .exit)) (now (work .exit)) (now (tallies .exit)) (now (regs .exit)) r) ⌝ }
+        (memory (now (marks .exit)) (now (work .exit)) (now (tallies .exit)) (now (regs .exit)) (progressOf r)) ⌝ }
+    ensures { λ r. ⌜ ToldOver r ⌝ }
 {
     let r = registers::load(regs, b);
     let status = r.status;
@@ -75,12 +95,21 @@ pub fn turn(
         registers::IDLE => idle::idle_turn(setup, regs, p, b, v),
         registers::DENIED => {
             registers::put(regs, b, registers::STATUS, registers::IDLE);
-            counts::moved(p, 0, 0)
+            Outcome::Goes(counts::moved(p, 0, 0))
         }
-        registers::GIVEN => follow::take_up(targets, setup, regs, p, b),
-        registers::POLL => poll::poll(setup, work, tallies, regs, p, b),
-        registers::LOOK => follow::look(targets, setup, marks, work, tallies, regs, p, b),
-        registers::CLAIM => follow::claim(
+        registers::GIVEN => Outcome::Goes(follow::take_up(targets, setup, regs, p, b)),
+        registers::POLL => Outcome::Goes(poll::poll(setup, work, tallies, regs, p, b)),
+        registers::LOOK => Outcome::Goes(follow::look(
+            targets,
+            setup,
+            marks,
+            work,
+            tallies,
+            regs,
+            p,
+            b,
+        )),
+        registers::CLAIM => Outcome::Goes(follow::claim(
             offsets,
             targets,
             setup,
@@ -90,7 +119,7 @@ pub fn turn(
             regs,
             p,
             b,
-        ),
-        _ => p,
+        )),
+        _ => Outcome::Goes(p),
     }
 }

@@ -77,7 +77,7 @@ returns c =
     let at-match = at-idle-turn .before .before in
     let at-load = at-match .before in
     let z = rw (at-load .load .ensures) at (at-match .match .keys1) in
-    λ x. at-idle-turn .idle-turn .ensures _ _ _ (told x (idle-here x z))
+    (λ x. at-idle-turn .idle-turn .ensures .0 _ _ _ (told x (idle-here x z)), at-idle-turn .idle-turn .ensures .1)
 
 returns-2 : tie.Need-returns-2
 returns-2 c =
@@ -87,7 +87,7 @@ returns-2 c =
     let start = entry at-load in
     let z = rw (at-load .load .ensures) at (at-match .match .keys2) in
     let a = start .args in
-    λ x. rw (at-put .put .ensures, c .moved .ensures) (holds-woken (x .scene) (x .holds) (a .b) (a .v) (denied-here x z))
+    (λ x. rw (at-put .put .ensures, c .moved .ensures) (holds-woken (x .scene) (x .holds) (a .b) (a .v) (denied-here x z)), tt)
 
 returns-3 : tie.Need-returns-3
 returns-3 c =
@@ -97,7 +97,7 @@ returns-3 c =
     let start = entry at-load in
     let z = rw (at-load .load .ensures) at (at-match .match .keys3) in
     let v = start .args .v in
-    λ x. at-take-up .take-up .ensures _ _ _ v (told x (given-here x z))
+    (λ x. at-take-up .take-up .ensures _ _ _ v (told x (given-here x z)), tt)
 
 returns-4 : tie.Need-returns-4
 returns-4 c =
@@ -107,7 +107,7 @@ returns-4 c =
     let start = entry at-load in
     let z = rw (at-load .load .ensures) at (at-match .match .keys4) in
     let v = start .args .v in
-    λ x. at-poll .poll .ensures _ v (told x (poll-here x z))
+    (λ x. at-poll .poll .ensures _ v (told x (poll-here x z)), tt)
 
 returns-5 : tie.Need-returns-5
 returns-5 c =
@@ -117,7 +117,7 @@ returns-5 c =
     let start = entry at-load in
     let z = rw (at-load .load .ensures) at (at-match .match .keys5) in
     let v = start .args .v in
-    λ x. at-look .look .ensures v (told x (look-here x z))
+    (λ x. at-look .look .ensures v (told x (look-here x z)), tt)
 
 returns-6 : tie.Need-returns-6
 returns-6 c =
@@ -127,7 +127,7 @@ returns-6 c =
     let start = entry at-load in
     let z = rw (at-load .load .ensures) at (at-match .match .keys6) in
     let v = start .args .v in
-    λ x. at-claim .claim .ensures v (told x (claim-here x z))
+    (λ x. at-claim .claim .ensures v (told x (claim-here x z)), tt)
 
 returns-7 : tie.Need-returns-7
 returns-7 c =
@@ -136,7 +136,7 @@ returns-7 c =
     let n = c .match .rest in
     let e = ap (λ (r : Block). r .status) (at-load .load .ensures) in
     let v = start .args .v in
-    λ x. holds-quiet x (λ z. n .0 .0 .0 .0 .0 .1 (e ∙ z)) (λ z. n .0 .0 .0 .0 .1 (e ∙ z)) (λ z. n .0 .0 .0 .1 (e ∙ z)) (λ z. n .0 .0 .1 (e ∙ z)) (λ z. n .0 .1 (e ∙ z)) (λ z. n .1 (e ∙ z)) v
+    (λ x. holds-quiet x (λ z. n .0 .0 .0 .0 .0 .1 (e ∙ z)) (λ z. n .0 .0 .0 .0 .1 (e ∙ z)) (λ z. n .0 .0 .0 .1 (e ∙ z)) (λ z. n .0 .0 .1 (e ∙ z)) (λ z. n .0 .1 (e ∙ z)) (λ z. n .1 (e ∙ z)) v, tt)
 
 pub turn-spec : {M : Type 1} → statement M
 turn-spec =

@@ -1,4 +1,4 @@
--- `idle_turn`: by worker 0's status and by the holder.
+-- `idle_turn`: by the holder and by worker 0's status.
 use native.Mathlib.Omega.{arith}
 use Rattle.turns.proofs.Bounds.{block-room, roomy}
 use Rattle.turns.proofs.Asking.{idle-low, idle-running, over-here, holding, asking-here, ends-behind, holds-ended}
@@ -6,77 +6,77 @@ use borrow.Author.Needs.{needs}
 use Rattle.turns.proofs.idle.idle_turn.Statement.{statement}
 use Rattle.turns.proofs.idle.idle_turn.Tie as tie
 
--- back to the entry
-abbrev entry : tie.After-load → tie.Start
-entry c = c .before .before .before
+-- back to the entry; and to where the holder is another
+abbrev entry : tie.After-ring → tie.Start
+entry c = c .before .before
+
+abbrev other : tie.After-load → tie.Else1
+other c = c .before .before
+
+pass-requires : tie.Need-pass-requires
+pass-requires c κs =
+    let at-if1 = c .before in
+    let y = entry (at-if1 .before) .pre in
+    (y .0, (y .1 .0, (y .1 .1 .0, holding (y .1 .1 .1) (at-if1 .if1 .taken))))
+
+returns : tie.Need-returns
+returns c =
+    let at-pass = c .before .before .before in
+    let at-if1 = at-pass .before .before in
+    let a = entry (at-if1 .before) .args in (
+      λ marks work tallies x. rw (c .ending .ensures .0) (at-pass .pass .ensures marks work tallies (a .v) (holding x (at-if1 .if1 .taken))),
+      c .ending .ensures .1,
+    )
 
 load-requires : tie.Need-load-requires
 load-requires c κs =
-    let x = c .before .before .pre .1 .1 .1 in
+    let x = entry (c .before .before) .pre .1 .1 .1 in
     block-room (x .scene) (x .holds) 0 (x .scene .accepted .some-worker)
 
 put-requires : tie.Need-put-requires
 put-requires c κs =
-    let start = entry (c .before .before) in
+    let start = entry (other (c .before .before) .before) in
     let x = start .pre .1 .1 .1 in
     (block-room (x .scene) (x .holds) (start .args .b) (idle-low (x .scene) (x .holds) (start .args .b) 0 (x .here)), omega arith)
 
 ended-requires : tie.Need-ended-requires
 ended-requires c κs =
-    let start = entry (c .before .before .before .before .before) in
+    let start = entry (other (c .before .before .before .before .before) .before) in
     let x = start .pre .1 .1 .1 in
     (roomy (x .scene) (x .holds), idle-running (x .scene) (x .holds) (start .args .b) 0 (x .here))
 
-returns : tie.Need-returns
-returns c =
-    let at-put = c .before .before .before in
-    let at-if1 = at-put .before .before in
-    let at-load = at-if1 .before in
-    let a = entry at-load .args in
-    let z = rw (at-load .load .ensures) at (at-if1 .if1 .taken) in
-    λ marks work tallies x.
-    rw (at-put .put .ensures, c .ended .ensures)
-    (holds-ended (x .scene) (x .holds) (a .b) (a .v) (x .here) (ends-behind (x .scene) (x .holds) (a .b) (a .v) (x .here) (over-here x z)))
-
-pass-requires : tie.Need-pass-requires
-pass-requires c κs =
-    let at-if2 = c .before in
-    let at-if1 = at-if2 .before .before in
-    let at-load = at-if1 .before in
-    let y = entry at-load .pre in
-    let z = rw (at-load .load .ensures) at (at-if1 .if1 .left) in
-    (y .0, (y .1 .0, (y .1 .1 .0, holding (y .1 .1 .1) z (at-if2 .if2 .taken))))
-
 returns-2 : tie.Need-returns-2
 returns-2 c =
-    let at-pass = c .before .before in
-    let at-if2 = at-pass .before .before in
-    let at-if1 = at-if2 .before .before in
-    let at-load = at-if1 .before in
-    let a = entry at-load .args in
-    let z = rw (at-load .load .ensures) at (at-if1 .if1 .left) in
-    λ marks work tallies x. at-pass .pass .ensures marks work tallies (a .v) (holding x z (at-if2 .if2 .taken))
+    let at-ended = c .before in
+    let at-put = at-ended .before .before .before in
+    let at-if2 = at-put .before .before in
+    let at-load = at-if2 .before in
+    let a = entry (other at-load .before) .args in
+    let z = rw (at-load .load .ensures) at (at-if2 .if2 .taken) in (
+      λ marks work tallies x.
+          rw (at-put .put .ensures, c .ending2 .ensures .0, at-ended .ended .ensures)
+          (holds-ended (x .scene) (x .holds) (a .b) (a .v) (x .here) (ends-behind (x .scene) (x .holds) (a .b) (a .v) (x .here) (over-here x z))),
+      c .ending2 .ensures .1,
+    )
 
 ask-requires : tie.Need-ask-requires
 ask-requires c κs =
     let at-if2 = c .before in
-    let at-if1 = at-if2 .before .before in
-    let at-load = at-if1 .before in
-    let y = entry at-load .pre in
-    let z = rw (at-load .load .ensures) at (at-if1 .if1 .left) in
-    (y .0, (y .1 .0, (y .1 .1 .0, asking-here (y .1 .1 .1) z (at-if2 .if2 .left))))
+    let at-load = at-if2 .before in
+    let y = entry (other at-load .before) .pre in
+    let z = rw (at-load .load .ensures) at (at-if2 .if2 .left) in
+    (y .0, (y .1 .0, (y .1 .1 .0, asking-here (y .1 .1 .1) z (other at-load .if1 .left))))
 
 returns-3 : tie.Need-returns-3
 returns-3 c =
     let at-ask = c .before .before in
     let at-if2 = at-ask .before .before in
-    let at-if1 = at-if2 .before .before in
-    let at-load = at-if1 .before in
-    let z = rw (at-load .load .ensures) at (at-if1 .if1 .left) in
-    λ marks work tallies x. at-ask .ask .ensures marks work tallies (asking-here x z (at-if2 .if2 .left))
+    let at-load = at-if2 .before in
+    let z = rw (at-load .load .ensures) at (at-if2 .if2 .left) in
+    (λ marks work tallies x. at-ask .ask .ensures marks work tallies (asking-here x z (other at-load .if1 .left)), tt)
 
 pub idle-turn-spec : {M : Type 1} → statement M
 idle-turn-spec =
     tie.close
-    (tie.spec load-requires put-requires ended-requires (λ c. search needs) returns pass-requires (λ c. search needs) returns-2 ask-requires
+    (tie.spec pass-requires (λ c κs. tt) (λ c. search needs) returns load-requires put-requires ended-requires (λ c κs. tt) (λ c. search needs) returns-2 ask-requires
     (λ c. search needs) returns-3)
