@@ -1,11 +1,12 @@
 #!/usr/bin/env python3
 """A case written by hand, to and from the files that the programs read.
 
-    case.py make CASE.txt FOLDER    writes FOLDER/store.cat and FOLDER/order.run; FOLDER/collection.saved
-                                    too if the case tells of a stopped collection
+    case.py make CASE.txt FOLDER    writes FOLDER/store.cat and FOLDER/order.run; FOLDER/store.update too
+                                    if references come or go, and FOLDER/collection.saved if the case
+                                    tells of a stopped collection
     case.py show FOLDER             prints the case that these files hold
     case.py show FOLDER --marks M   the same, with who claimed each object: M holds the marks that a
-                                    marking of the case left, a byte for each object
+                                    marking or an update of the case left, a byte for each object
 
 A case is lines of words. '#' begins a comment, blank lines are skipped.
 
@@ -24,6 +25,18 @@ A case is lines of words. '#' begins a comment, blank lines are skipped.
                           with their number. Those below it have a turn each, in the card's order, and
                           each names the next, the last the first
     seed A B rounds N     the rounds of N cards drawn from the seed of these two words
+
+References that go and come are an update of the store that the lines above tell. The Rust crate's
+example update takes the ones out, and then adds the others.
+
+    remove NUMBER         one line for each reference that goes, by its number in the store: those of
+                          object 0 stand first, and each object's in catalogue order
+    remove FROM TO        all references from FROM to TO go
+    add FROM TO           one line for each reference that comes, in list order
+
+A subject is a reference from the subject to the object that names it there. store.update has words of 32
+bits, the lowest byte first: how many come, how many go, the FROM of each that comes, the TO of each, and
+the number of each that goes.
 
 A stopped collection, which the program pause takes up, stands behind all of that. What is not told is 0.
 
@@ -61,6 +74,10 @@ SETTINGS = {"boxes": 0xFF, "batch": 0xFFFF, "cutoff": 0xFFFF}
 SETTINGS_FORMAT = struct.Struct("<BHH")
 
 BYTE, WORD, LONG = 0xFF, 0xFFFFFFFF, 0xFFFFFFFFFFFFFFFF
+
+# References that come and go, and the mark of an object that was reached by them.
+UPDATE_NAME = "store.update"
+REACHED = 255
 
 # The saved words of a stopped collection: the counts and statuses in their order, and the numbers of a tally.
 SAVED_NAME = "collection.saved"
@@ -100,8 +117,8 @@ class Saved:
 
 @dataclass
 class Case:
-    """A store and an order, and a stopped collection if there is one; pairs are (from, to) and (box, asked). The references
-    have the subjects among them; `subjects` has their places there."""
+    """A store and an order, the references that come and go, and a stopped collection if there is one; pairs are (from, to) and
+    (box, asked). The references have the subjects among them; `subjects` has their places there. `removed` has numbers."""
 
     index: Optional[int] = None
     sizes: list[int] = field(default_factory=list)
@@ -110,6 +127,8 @@ class Case:
     leases: list[int] = field(default_factory=list)
     settings: dict[str, int] = field(default_factory=dict)
     turns: list[tuple[int, int]] = field(default_factory=list)
+    added: list[tuple[int, int]] = field(default_factory=list)
+    removed: list[int] = field(default_factory=list)
     saved: Optional[Saved] = None
 
 
@@ -143,6 +162,20 @@ def drawn(first: int, second: int, rounds: int) -> Iterator[int]:
         first ^= first << 5 & WORD
         second = second + SEED_STEP & WORD
         yield (first + second & WORD) % len(DECK)
+
+
+def stored(case: Case) -> list[tuple[int, int]]:
+    """The references by their numbers, as the reader stores them: object by object, subjects the other way round."""
+    ends = [(b, a) if at in case.subjects else (a, b) for at, (a, b) in enumerate(case.references)]
+    return sorted(ends, key=lambda pair: pair[0])
+
+
+def numbers_of(case: Case, ends: tuple[int, int], where: str) -> list[int]:
+    """The numbers of all references with these ends."""
+    numbers = [at for at, pair in enumerate(stored(case)) if pair == ends]
+    if not numbers:
+        raise Fault(f"{where}: no reference leads from {ends[0]} to {ends[1]}")
+    return numbers
 
 
 def named(words: list[str], names: tuple[str, ...]) -> Optional[list[str]]:
@@ -192,6 +225,7 @@ def parse_saved(saved: Saved, name: str, rest: list[str], where: str) -> bool:
 def parse(text: str) -> Case:
     """The case that the text tells."""
     case = Case()
+    removals = []
     for at, line in enumerate(text.splitlines(), 1):
         where = f"line {at}"
         words = line.split("#", 1)[0].replace(":", " : ").split()
@@ -224,6 +258,10 @@ def parse(text: str) -> Case:
                 raise Fault(f"{where}: the first word of a seed is not 0")
             for card in drawn(first, second, number(rest[3], WORD, where)):
                 case.turns += dealt(case.settings.get("boxes"), card, where)
+        elif name == "add" and len(rest) == 2:
+            case.added.append(pair(rest, WORD, where))
+        elif name == "remove" and len(rest) in (1, 2):
+            removals.append(([number(word, WORD, where) for word in rest], where))
         elif name == "saved" and len(rest) == 1 and case.saved is None:
             case.saved = Saved(number(rest[0], WORD, where))
         elif case.saved is not None and parse_saved(case.saved, name, rest, where):
@@ -235,6 +273,9 @@ def parse(text: str) -> Case:
     for name in SETTINGS:
         if name not in case.settings:
             raise Fault(f"there is no {name} line")
+    # Numbers are known only when all references are.
+    for words, where in removals:
+        case.removed += words if len(words) == 1 else numbers_of(case, tuple(words), where)
     return case
 
 
@@ -258,6 +299,23 @@ def order_bytes(case: Case) -> bytes:
     """order.run"""
     head = SETTINGS_FORMAT.pack(*(case.settings[name] for name in SETTINGS))
     return head + bytes(byte for turn in case.turns for byte in turn)
+
+
+def update_bytes(case: Case) -> bytes:
+    """store.update"""
+    words = [len(case.added), len(case.removed), *(a for a, _ in case.added), *(b for _, b in case.added), *case.removed]
+    return struct.pack(f"<{len(words)}I", *words)
+
+
+def read_update(data: bytes) -> tuple[list[tuple[int, int]], list[int]]:
+    """The references that come and the numbers of those that go, by the file."""
+    if len(data) < 8:
+        raise Fault(f"{UPDATE_NAME}: fewer than 8 bytes")
+    come, go = struct.unpack_from("<II", data)
+    if len(data) != 4 * (2 + 2 * come + go):
+        raise Fault(f"{UPDATE_NAME}: {len(data)} bytes, where {come} references come and {go} go")
+    words = struct.unpack_from(f"<{2 * come + go}I", data, 8)
+    return list(zip(words[:come], words[come : 2 * come])), list(words[2 * come :])
 
 
 def stretch_pairs(case: Case) -> int:
@@ -361,9 +419,11 @@ def read(store: bytes, order: bytes) -> Case:
 
 
 def owner(starts: set[int], number: int, mark: int) -> str:
-    """Who claimed an object, by its mark; that of a start is 1, as of what box 0 claimed."""
+    """Who claimed an object, by its mark; that of a start is 1, as of what box 0 claimed. An update names no box."""
     if mark == 0:
         return "nobody"
+    if mark == REACHED:
+        return "reached"
     return "start" if mark == 1 and number in starts else f"box {mark - 1}"
 
 
@@ -376,7 +436,7 @@ def owners(case: Case, marks: bytes) -> list[str]:
 
 
 def show(case: Case, marks: Optional[bytes] = None) -> str:
-    """The case as text, which `parse` reads back; owners are comments."""
+    """The case as text, which `parse` reads back; owners, and the ends of references that go, are comments."""
     names = [""] * len(case.sizes) if marks is None else [f" # {name}" for name in owners(case, marks)]
     lines = [f"index {case.index}"]
     lines += [f"object {size}{name}" for size, name in zip(case.sizes, names)]
@@ -385,6 +445,9 @@ def show(case: Case, marks: Optional[bytes] = None) -> str:
     lines += [f"lease {lease}" for lease in case.leases]
     lines += [f"{name} {case.settings[name]}" for name in SETTINGS]
     lines += [f"turn {box} {asked}" for box, asked in case.turns]
+    ends = [f"from {a} to {b}" for a, b in stored(case)] if case.removed else []
+    lines += [f"remove {at} # {ends[at] if at < len(ends) else 'no reference'}" for at in case.removed]
+    lines += [f"add {a} {b}" for a, b in case.added]
     lines += show_saved(case.saved) if case.saved else []
     return "\n".join(lines) + "\n"
 
@@ -413,11 +476,14 @@ def load_text(path: Path) -> Case:
 
 
 def save(case: Case, folder: Path) -> None:
-    """Writes the files; the folder is made if it is not there."""
+    """Writes the files; the folder is made if it is not there. An update of an earlier case does not stay."""
     files = {"store.cat": store_bytes(case), "order.run": order_bytes(case)}
+    if case.added or case.removed:
+        files[UPDATE_NAME] = update_bytes(case)
     if case.saved:
         files[SAVED_NAME] = saved_bytes(case)
     folder.mkdir(parents=True, exist_ok=True)
+    (folder / UPDATE_NAME).unlink(missing_ok=True)
     for name, data in files.items():
         (folder / name).write_bytes(data)
 
@@ -425,6 +491,8 @@ def save(case: Case, folder: Path) -> None:
 def load(folder: Path) -> Case:
     """The case in the files of a folder."""
     case = read((folder / "store.cat").read_bytes(), (folder / "order.run").read_bytes())
+    if (folder / UPDATE_NAME).exists():
+        case.added, case.removed = read_update((folder / UPDATE_NAME).read_bytes())
     if (folder / SAVED_NAME).exists():
         case.saved = read_saved(case, (folder / SAVED_NAME).read_bytes())
     return case
@@ -441,12 +509,12 @@ class Parser(argparse.ArgumentParser):
 def arguments(words: list[str]) -> argparse.Namespace:
     parser = Parser(prog="case.py", description=__doc__, formatter_class=argparse.RawDescriptionHelpFormatter)
     commands = parser.add_subparsers(dest="command", metavar="make | show", required=True)
-    make = commands.add_parser("make", help="writes store.cat and order.run, and collection.saved")
+    make = commands.add_parser("make", help="writes store.cat and order.run, store.update and collection.saved")
     make.add_argument("case", type=Path, metavar="CASE.txt")
     make.add_argument("folder", type=Path, metavar="FOLDER")
     shown = commands.add_parser("show", help="prints the case that the files hold")
     shown.add_argument("folder", type=Path, metavar="FOLDER")
-    shown.add_argument("--marks", type=Path, metavar="M", help="the marks that a marking of the case left")
+    shown.add_argument("--marks", type=Path, metavar="M", help="the marks that a marking or an update of the case left")
     return parser.parse_args(words)
 
 

@@ -143,6 +143,58 @@ class Cases(unittest.TestCase):
             with self.assertRaises(case.Fault, msg=line):
                 case.saved_bytes(case.parse(head + line + "\n"))
 
+    def test_update_there_and_back(self):
+        rng = random.Random(12)
+        some = lambda: rng.choice([rng.randrange(9), rng.randrange(2**32)])
+        with tempfile.TemporaryDirectory() as work:
+            for _ in range(300):
+                made = some_case(rng)
+                made.added = [(some(), some()) for _ in range(rng.randrange(5))]
+                made.removed = [some() for _ in range(rng.randrange(5))]
+                self.assertEqual(case.read_update(case.update_bytes(made)), (made.added, made.removed))
+                self.assertEqual(case.parse(case.show(made)), made)
+                # In one folder, case after case: of an earlier one nothing is left.
+                case.save(made, Path(work))
+                self.assertEqual(case.load(Path(work)), made)
+                self.assertEqual((Path(work) / case.UPDATE_NAME).exists(), bool(made.added or made.removed))
+
+    def test_update_words(self):
+        """The examples of SPECIFICATION 12: the words, the lines, and the same case by the ends of what goes."""
+        head = SAMPLE.read_text()
+        made = case.parse(head + "add 4 1\nadd 3 5\nremove 3\nremove 1\nremove 3\n")
+        words = [2, 3, 4, 3, 1, 5, 3, 1, 3]
+        self.assertEqual(case.update_bytes(made), struct.pack("<9I", *words))
+        lines = case.show(made).splitlines()
+        goes = ["remove 3 # from 2 to 3", "remove 1 # from 0 to 2", "remove 3 # from 2 to 3"]
+        self.assertEqual(lines[-5:], [*goes, "add 4 1", "add 3 5"])
+        self.assertEqual(case.store_bytes(made), case.store_bytes(case.parse(head)))
+        self.assertEqual(case.parse("remove 2 3\nremove 0 2\nremove 2 3\nadd 4 1\nadd 3 5\n" + head), made)
+
+    def test_update_numbers(self):
+        """Numbers are those of the stored references: by object, in catalogue order, subjects the other way round."""
+        references = "reference 2 1\nreference 0 2\nsubject 1 0\nreference 2 0\nreference 0 2\nsubject 2 2\n"
+        head = "index 0\nobject 1\nobject 1\nobject 1\nboxes 1\nbatch 1\ncutoff 1\n" + references
+        by_number = [(0, 2), (0, 1), (0, 2), (2, 1), (2, 0), (2, 2)]
+        self.assertEqual(case.stored(case.parse(head)), by_number)
+        for ends, numbers in (((0, 2), [0, 2]), ((0, 1), [1]), ((2, 1), [3]), ((2, 0), [4]), ((2, 2), [5])):
+            self.assertEqual(case.parse(head + "remove {} {}\n".format(*ends)).removed, numbers)
+        beyond = case.parse(head + "remove 5\nremove 6\n")
+        self.assertEqual(case.show(beyond).splitlines()[-2:], ["remove 5 # from 2 to 2", "remove 6 # no reference"])
+        signed = SAMPLE.read_text().replace("reference 5 4", "subject 4 0")
+        self.assertEqual([to for _, to in case.stored(case.parse(signed))], [1, 2, 4, 3, 3, 0])
+
+    def test_update_refused(self):
+        head = SAMPLE.read_text()
+        for line in ("add", "add 1", "add 1 2 3", "add x 1", "add 4294967296 0", "add 0 -1", "remove", "remove 1 2 3", "remove x", "remove 4294967296"):
+            with self.assertRaisesRegex(case.Fault, "^line 19: .*(cannot be read here|is not a decimal number|is above)", msg=line):
+                case.parse(head + line + "\n")
+        with self.assertRaisesRegex(case.Fault, "^line 20: no reference leads from 4 to 5$"):
+            case.parse(head + "add 4 5\nremove 4 5\n")
+        good = case.update_bytes(case.parse(head + "add 4 1\nremove 3\n"))
+        for bad in (b"", good[:7], good[:-1], good[:-4], good + bytes(4), good[:4] + b"\2" + good[5:], b"\2" + good[1:]):
+            with self.assertRaises(case.Fault, msg=bad.hex()):
+                case.read_update(bad)
+
     def test_cards(self):
         head = "index 0\nobject 1\nbatch 1\ncutoff 1\n"
         made = case.parse(head + "boxes 3\ncards 0 120\nturn 2 2\ncards 719\n")
@@ -174,6 +226,7 @@ class Cases(unittest.TestCase):
         told = [line.split("# ")[1] for line in shown.splitlines() if line.startswith("object")]
         self.assertEqual(told, ["start", "box 0", "box 0", "box 1", "nobody", "nobody"])
         self.assertEqual(case.parse(shown), sample)
+        self.assertEqual(case.owners(sample, bytes([255, 1, 16, 254, 255, 0])), ["reached", "box 0", "box 15", "box 253", "reached", "nobody"])
         for count in (0, 5, 7):
             with self.assertRaises(case.Fault):
                 case.show(sample, bytes(count))

@@ -7,38 +7,19 @@
 //! A catalogue made from a file has sizes of 0, index 0 and no lease. A file made from a catalogue has its stored references
 //! object by object; sizes, index and leases are not in it.
 
+mod catalogue;
+
 use kullneyra::{export, export_length, header, import, market_header, read, STARTS};
 use std::error::Error;
 use std::path::Path;
 use std::{env, fs};
-
-/// A record of a catalogue: its length, its kind and its contents.
-fn record(catalogue: &mut Vec<u8>, kind: u16, contents: &[u8]) {
-    catalogue.extend((4 + contents.len() as u16).to_le_bytes());
-    catalogue.extend(kind.to_le_bytes());
-    catalogue.extend(contents);
-}
-
-fn words(words: &[u32]) -> Vec<u8> {
-    words.iter().flat_map(|word| word.to_le_bytes()).collect()
-}
 
 fn catalogue_of(text: &[u8]) -> Result<Vec<u8>, Box<dyn Error>> {
     let head = market_header(text)?;
     let (n, m) = (head.objects as usize, head.references as usize);
     let (mut offsets, mut targets, mut sizes) = (vec![0; n + 1], vec![0; m], vec![0; n]);
     import(text, &mut offsets, &mut targets, &mut sizes)?;
-    let mut catalogue = Vec::with_capacity(16 + 12 * (n + m));
-    record(&mut catalogue, 1, &words(&[head.objects, head.references, head.index]));
-    for size in sizes {
-        record(&mut catalogue, 2, &size.to_le_bytes());
-    }
-    for (from, part) in (0..).zip(offsets.windows(2)) {
-        for &to in &targets[part[0] as usize..part[1] as usize] {
-            record(&mut catalogue, 3, &words(&[from, to]));
-        }
-    }
-    Ok(catalogue)
+    Ok(catalogue::layout(&offsets, &targets, &sizes, head.index, &[]))
 }
 
 fn text_of(catalogue: &[u8]) -> Result<Vec<u8>, Box<dyn Error>> {
