@@ -5,7 +5,7 @@ use mathlib.Core.List.{List, [], _∷_, _++_, map, flatMap}
 use Prim.Native.Nat.{ℕ}
 use lib.ListN.{take}
 use Rattle.laws.specs.Words.{le, word}
-use Rattle.laws.specs.Sum.{sum, hit}
+use Rattle.laws.specs.Sum.{hit}
 use Rattle.laws.specs.Grouping.{starts, below, under, grouped, part}
 use Rattle.graph.specs.Chain.{marksAt}
 use Rattle.catalogue.specs.Examples.{bytesOfS, bytesOfLeased}
@@ -18,7 +18,7 @@ use Rattle.machine.specs.Run.{carried, keep, rest}
 use Rattle.machine.specs.Machine.{turns, start, startRuns, entries, allEnded, live}
 use Rattle.machine.specs.Call.{scheduleFits}
 use Rattle.sweep.specs.Sweep.{deadFrom, sizesOf}
-use Rattle.text.specs.Text.{codes, digitsIn, decimal}
+use Rattle.text.specs.Text.{codes, decimal}
 use Rattle.report.specs.declared.Loaded.the-variants.{Whole}
 use Rattle.report.specs.Lines.{countLines, tallyLine, tallyLines, deadLines}
 use Rattle.report.specs.Report.{Files, files, programText}
@@ -30,6 +30,14 @@ readWhole store order = files Whole store Whole order
 -- an order with W 2, D 1, K 1 and these turns
 abbrev pub ordering : List ℕ → List ℕ
 ordering schedule = 2 ∷ 1 ∷ 0 ∷ 1 ∷ 0 ∷ schedule
+
+-- what the texts are computed by unfolds with this: bytes and their grouping, the reader, the marker, the sweep, the lines
+computed : List Files → List (List ℕ)
+unfolding word hit starts below under grouped part marksAt
+    headerRow catalogueFault faults leaseFaults recordFault storeOf records
+    turnsA turns start startRuns entries allEnded live carried keep rest scheduleFits
+    deadFrom sizesOf decimal countLines tallyLine tallyLines deadLines
+computed = map programText
 
 -- store S with the turns of A, with its first five, and with an entry for worker 2; an empty catalogue; S with leases for 5
 -- and 0, by which all of it lives, and the turns of A twice
@@ -47,7 +55,7 @@ pub listings :
     ∷ codes "refusal 1\n"
     ∷ codes "finished\nlive 6\nfollowed 6\nhanded 2\nrefused 0\nmoved 22\ncarrying 0\nbox 0 followed 4 won 3 lost 0 handed 2\nbox 1 followed 2 won 1 lost 0 handed 0\nfreed 0\n"
     ∷ []
-unfolding turnsA naming0 word sum hit starts below under grouped part marksAt headerRow catalogueFault faults leaseFaults recordFault storeOf records turns start startRuns entries allEnded live carried keep rest scheduleFits deadFrom sizesOf digitsIn decimal countLines tallyLine tallyLines deadLines
+unfolding computed
 listings = refl
 
 -- an image with a signature and a bill of material, by which all of it lives, and the same where the index no longer refers to
@@ -58,5 +66,5 @@ pub signed-listings :
     ≡ codes "finished\nlive 5\nfollowed 4\nhanded 1\nrefused 0\nmoved 16\ncarrying 0\nbox 0 followed 3 won 3 lost 0 handed 1\nbox 1 followed 1 won 1 lost 0 handed 0\nfreed 0\n"
     ∷ codes "finished\nlive 1\nfollowed 0\nhanded 0\nrefused 0\nmoved 2\ncarrying 0\nbox 0 followed 0 won 0 lost 0 handed 0\nbox 1 followed 0 won 0 lost 0 handed 0\ndead 1 20\ndead 2 30\ndead 3 40\ndead 4 50\nfreed 140\n"
     ∷ []
-unfolding layout le flatMap turnsA naming0 word sum hit starts below under grouped part marksAt headerRow catalogueFault faults leaseFaults recordFault storeOf records turns start startRuns entries allEnded live carried keep rest scheduleFits deadFrom sizesOf digitsIn decimal countLines tallyLine tallyLines deadLines
+unfolding computed layout le flatMap
 signed-listings = refl

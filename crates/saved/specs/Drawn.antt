@@ -1,26 +1,21 @@
 -- Drawings of saved collections: store S, two workers, D 1 and K 1, stopped after each of case A's turns.
 use mathlib.Core.Path.{_≡_, refl}
-use mathlib.Core.Bool.{Bool, true, false}
+use mathlib.Core.Bool.{true, false}
 use mathlib.Core.List.{List, [], _∷_, map}
 use Prim.Native.Nat.{ℕ}
-use lib.ListN.{length, take, set, replicate}
-use Rattle.laws.specs.Blocks.{laid}
-use Rattle.laws.specs.Span.{listing, span}
-use Rattle.laws.specs.Sum.{sum, hit}
-use Rattle.laws.specs.Test.{all, allUpTo, someUpTo, same}
-use Rattle.graph.specs.Graph.{rising, allBelow, wellFormed}
+use lib.ListN.{take, set, replicate}
+use Rattle.laws.specs.Sum.{hit}
+use Rattle.graph.specs.Graph.{wellFormed}
 use Rattle.graph.specs.Chain.{marksAt, overMarked}
-use Rattle.machine.specs.Ring.{blackSet}
-use Rattle.machine.specs.Run.{carried, keep, rest, pairs}
-use Rattle.machine.specs.Tally.{talliesWords}
-use Rattle.machine.specs.Machine.{Setting, State, start, startRuns, turns, entries, live, stretch, memory}
+use Rattle.machine.specs.Run.{carried, keep, rest}
+use Rattle.machine.specs.Machine.{Setting, State, start, startRuns, turns, entries, live}
 use Rattle.machine.specs.Sound.{runsSum}
-use Rattle.machine.specs.Call.{Call, scheduleFits}
+use Rattle.machine.specs.Call.{Call}
 use Rattle.machine.specs.Demand2.{outcome}
 use Rattle.machine.specs.Drawings.{S, turnsA}
-use Rattle.saved.specs.Layout.{workersWords, savedWords, savedLength, runsIn, stateOf}
-use Rattle.saved.specs.Calls.{beginFault, resumeFault}
-use Rattle.saved.specs.Test.{wholeButLast?, conditions, sound?, held?, saved?}
+use Rattle.saved.specs.Layout.{savedWords, stateOf}
+use Rattle.saved.specs.Calls.{resumeFault}
+use Rattle.saved.specs.Test.{saved?}
 
 -- D and K
 abbrev pub one : Setting
@@ -39,12 +34,12 @@ moments = 0 ∷ 8 ∷ 10 ∷ 12 ∷ 20 ∷ 28 ∷ 36 ∷ 40 ∷ []
 
 -- what is saved there is sound
 pub sound-A : map (λ (k : ℕ). saved? S (0 ∷ []) 2 one (wordsA k)) moments ≡ true ∷ true ∷ true ∷ true ∷ true ∷ true ∷ true ∷ true ∷ []
-unfolding saved? held? sound? conditions wholeButLast? savedWords workersWords stateOf listing runsIn laid span sum hit all allUpTo someUpTo same marksAt overMarked carried keep rest pairs talliesWords blackSet start startRuns turns entries live stretch memory runsSum turnsA
+unfolding saved? savedWords stateOf hit marksAt overMarked carried keep rest start startRuns turns entries live runsSum turnsA
 sound-A = refl
 
 -- no words hold a state whose form is 0, and none whose form is that before there was a ring
 pub none-A : saved? S (0 ∷ []) 2 one (set (wordsA 10) 0 0) ∷ saved? S (0 ∷ []) 2 one (set (wordsA 10) 0 1) ∷ [] ≡ false ∷ false ∷ []
-unfolding saved? held? sound? conditions wholeButLast? savedWords workersWords stateOf listing runsIn laid span sum hit all allUpTo someUpTo same marksAt overMarked carried keep rest pairs talliesWords blackSet start startRuns turns entries live stretch memory runsSum turnsA
+unfolding saved? savedWords
 none-A = refl
 
 -- case A's call with another schedule
@@ -59,5 +54,5 @@ pub faults-A :
     ∷ resumeFault (callA []) 6 32 8 (replicate 77 0)
     ∷ []
     ≡ 9 ∷ 14 ∷ 0 ∷ 7 ∷ []
-unfolding resumeFault beginFault wellFormed rising allBelow scheduleFits saved? held? sound? conditions wholeButLast? savedWords workersWords stateOf listing runsIn laid span sum hit all allUpTo someUpTo same marksAt overMarked carried keep rest pairs talliesWords blackSet start startRuns turns entries live stretch memory runsSum turnsA
+unfolding resumeFault wellFormed saved? savedWords stateOf hit marksAt overMarked carried keep rest start startRuns turns entries live runsSum turnsA
 faults-A = refl

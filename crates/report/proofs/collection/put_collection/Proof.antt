@@ -7,8 +7,15 @@ use borrow.Author.Needs.{needs}
 use Rattle.report.proofs.collection.put_collection.Statement.{statement}
 use Rattle.report.proofs.collection.put_collection.Tie as tie
 
+-- the slices are known first: the shared ones, and then the lent ones
+abbrev shared : tie.After-shared-slice-known5 → tie.Start
+shared c = c .before .before .before .before .before
+
+abbrev lent : tie.After-slice-known5 → tie.After-shared-slice-known5
+lent c = c .before .before .before .before .before
+
 abbrev entry : tie.After-mark → tie.Start
-entry c = c .before .before .before .before .before .before .before .before .before .before .before .before .before .before
+entry c = shared (lent (c .before .before .before .before))
 
 abbrev at-mark : tie.After-slice-known8 → tie.After-mark
 at-mark c = c .before .before .before .before .before .before

@@ -14,8 +14,15 @@ use borrow.Author.Needs.{needs}
 use Rattle.report.proofs.store.put_ordered.Statement.{statement}
 use Rattle.report.proofs.store.put_ordered.Tie as tie
 
+-- the slices are known first: the shared ones, and then the lent ones
+abbrev shared : tie.After-shared-slice-known5 → tie.Start
+shared c = c .before .before .before .before .before
+
+abbrev lent : tie.After-slice-known5 → tie.After-shared-slice-known5
+lent c = c .before .before .before .before .before
+
 abbrev entry : tie.After-order-of → tie.Start
-entry c = c .before .before .before .before .before .before .before .before .before .before .before
+entry c = shared (lent (c .before))
 
 abbrev at-order : tie.After-struct-known → tie.After-order-of
 at-order c = c .before .before .before .before
@@ -69,7 +76,8 @@ put-collection-requires c κs =
 
 returns-2 : tie.Need-returns-2
 returns-2 c =
-    let at-collection = c .before .before .before .before .before .before .before .before .before .before in
+    let work-back = c .before .before .before .before .before .before in
+    let at-collection = work-back .before .before .before .before in
     let s = at-collection .before .before .before .before .before .before .before in
     as-text (due-collection (entry (at-order s) .pre) (at-order s .order-of .ensures) (fine s) (behind (entry (at-order s) .args .order .now)))
     (at-collection .put-collection .ensures)

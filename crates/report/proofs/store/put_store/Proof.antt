@@ -19,6 +19,14 @@ entry c = at-start (lent c .before .before .before .before .before)
 abbrev at-read : tie.After-slice-known13 → tie.After-read
 at-read c = c .before .before .before .before .before .before .before .before
 
+-- the starts are cut to their number once the reader has told it
+abbrev found : tie.After-put-ordered-arg3 → tie.After-found
+found c = c .before .before .before .before
+
+-- the arguments behind the starts, back to the cut
+abbrev at-cut : tie.After-put-ordered-arg9 → tie.After-put-ordered-arg3
+at-cut c = c .before .before .before .before .before .before
+
 returns : tie.Need-returns
 returns c =
     let at-refusal = c .before .before in
@@ -30,7 +38,7 @@ returns c =
 -- the starts are the first words of their buffer
 slice-reshare-prefix-put-ordered : tie.Need-slice-reshare-prefix-put-ordered
 slice-reshare-prefix-put-ordered c =
-    let at-found = c .before .before .before .before in
+    let at-found = found c in
     let r = at-read (at-found .before .before) in
     starts-fit (entry r .pre) (r .read .ensures .0) (at-found .found .given .1)
 
@@ -39,14 +47,15 @@ slice-aggregate-put-ordered c = sym (length-take-le _ _ (slice-reshare-prefix-pu
 
 put-ordered-requires : tie.Need-put-ordered-requires
 put-ordered-requires c κs =
-    let at-found = c .before .before .before .before .before .before .before .before .before .before in
+    let at-found = found (at-cut c) in
     let r = at-read (at-found .before .before) in
     orderly (entry r .pre) (r .read .ensures .0) (at-found .found .given .1)
 
 returns-2 : tie.Need-returns-2
 returns-2 c =
-    let at-ordered = c .before .before .before .before .before .before .before .before .before .before in
-    let at-found = at-ordered .before .before .before .before .before .before .before .before .before .before .before in
+    let work-back = c .before .before .before .before .before .before in
+    let at-ordered = work-back .before .before .before .before in
+    let at-found = found (at-cut (at-ordered .before)) in
     let r = at-read (at-found .before .before) in
     as-text (due-read (entry r .pre) (r .read .ensures .0) (at-found .found .given .1)) (at-ordered .put-ordered .ensures)
 
