@@ -1,34 +1,53 @@
 -- The computed test is exactly the conditions, both ways.
-use mathlib.Core.Path.{_≡_, refl, ap, sym, _∙_}
-use mathlib.Core.Bool.{Bool, true, false, not}
+use mathlib.Core.Path.{_≡_, refl, ap}
+use mathlib.Core.Bool.{Bool, true, false}
 use mathlib.Core.List.{List, [], _∷_}
-use mathlib.Core.Logic.{_⊎_, inl, inr, ⊎-elim, _↔_, by-cases}
+use mathlib.Core.Logic.{_⊎_, inl, inr, by-cases}
 use Prim.Native.Nat.{ℕ, zero, suc, _+_, _*_, _≤_, _<_}
 use native.Mathlib.Decide.{decLt}
 use native.Mathlib.Omega.{arith}
 use lib.ListN.{length, getD}
 use lib.Dec.{leb, ltb, eqb}
-use borrow.Author.Tests.{ltb-true, ltb-false, leb-true, eqb-true, not-true, lt-ltb, le-ltb, le-leb, eq-eqb}
+use borrow.Author.Tests.{ltb-true, ltb-false, leb-true, leb-false, eqb-true, eqb-false, lt-ltb, le-ltb, le-leb, lt-leb, eq-eqb, ne-eqb}
 use Rattle.laws.specs.Choice.{both, either}
 use Rattle.laws.specs.Every.{Every}
 use Rattle.laws.specs.Grouping.{itself}
 use Rattle.laws.specs.Sum.{sum, hit}
-use Rattle.laws.specs.Test.{all, allUpTo, someUpTo}
-use Rattle.laws.proofs.Sum.{sum-zero-each, sum-positive, sum-share, inside, hit-same, hit-equal}
-use Rattle.laws.proofs.Test.{both-true, both-is, either-true, either-left, either-right, tested, all-at, at-all, all-every, every-all, all-hit, hit-all, up-to-each, each-up-to, some-found, found-some, same-equal, equal-same}
+use Rattle.laws.specs.Test.{all, allUpTo}
+use Rattle.laws.proofs.Sum.{sum-zero-each, sum-positive, sum-share, hit-same, hit-equal}
+use Rattle.laws.proofs.Test.{both-true, both-is, tested, all-at, at-all, all-every, every-all, all-hit, hit-all, up-to-each, each-up-to, some-found, found-some}
 use Rattle.graph.specs.Graph.{Graph, Leaves, objects, references, first, after, target}
 use Rattle.graph.specs.Formed.{Formed}
 use Rattle.graph.specs.Leaving.{leavingUnmarked}
 use Rattle.graph.proofs.OverMarked.{after-limit}
 use Rattle.machine.specs.Ring.{blackBelow}
 use Rattle.machine.specs.Run.{Run, run, carried}
-use Rattle.machine.specs.Tally.{Tally, noTally}
-use Rattle.machine.specs.Machine.{Setting, State, Worker, idle, asking, denied, ended, given, busy, Cell, empty, from, worker, runsOf, carriedBy, carries?, carriedAll, live, stopped}
+use Rattle.machine.specs.Tally.{noTally}
+use Rattle.machine.specs.Machine.{Setting, State, Worker, idle, asking, denied, ended, given, busy, empty, from, worker, runsOf, carriedBy, carries?, carriedAll, live, stopped}
 use Rattle.machine.specs.Sound.{Marked, Within, Whole, WholeButLast, WholeInside, holds, waits, sinceOf, heldSum, carriedTimes, followedSum, handedSum, wonSum, distinctStarts}
 use Rattle.machine.specs.Demand3.{movedBound, handedBound}
 use Rattle.machine.proofs.Runs.{within-source}
 use Rattle.saved.specs.Sound.{batchIn, Supplied, SavedSound}
 use Rattle.saved.specs.Test.{marked?, withinAt?, wholeAt?, within?, whole?, wholeButLast?, wholeInside?, leaves?, targetMarked?, supplied?, cellKnown?, claims?, clear?, conditions, sound?}
+
+-- one test holds, and those behind it
+infixr 4 _&_
+_&_ : {p q : Bool} → p ≡ true → q ≡ true → both p q ≡ true
+_&_ = both-is
+
+-- of two tests the second holds where the first does not
+otherwise : {p : Bool} (q : Bool) → either p q ≡ true → p ≡ false → q ≡ true
+otherwise q h e = rw e at h
+
+or-else : (p : Bool) {q : Bool} → (p ≡ false → q ≡ true) → either p q ≡ true
+or-else true f = refl
+or-else false f = f refl
+
+some-not-zero : (x : ℕ) → 0 < x → eqb x 0 ≡ false
+some-not-zero x p = ne-eqb x 0 (λ (e : x ≡ 0). omega (arith, e))
+
+not-zero-some : (x : ℕ) → eqb x 0 ≡ false → 0 < x
+not-zero-some x e = by-cases (decLt 0 x) (λ (p : 0 < x). p) (λ (p : ¬ (0 < x)). absurd (eqb-false x 0 e (omega arith)))
 
 -- ---- one run
 
@@ -224,17 +243,11 @@ module _ {G : Graph} (F : Formed G) (starts : List ℕ) (W : ℕ) (g : Setting) 
       (λ (p : ¬ (e < references G)). omega (arith, carried-low w e (omega arith)))
 
   stopped-from : either (eqb (sum stopped (s .workers)) 0) (eqb (carriedAll s) 0) ≡ true → 0 < sum stopped (s .workers) → carriedAll s ≡ 0
-  stopped-from h p =
-      ⊎-elim
-      (λ (e : eqb (sum stopped (s .workers)) 0 ≡ true). absurd (omega (arith, eqb-true (sum stopped (s .workers)) 0 e)))
-      (λ (e : eqb (carriedAll s) 0 ≡ true). eqb-true (carriedAll s) 0 e)
-      (either-true (eqb (sum stopped (s .workers)) 0) (eqb (carriedAll s) 0) h)
+  stopped-from h p = eqb-true (carriedAll s) 0 (otherwise (eqb (carriedAll s) 0) h (some-not-zero (sum stopped (s .workers)) p))
 
   stopped-to : (0 < sum stopped (s .workers) → carriedAll s ≡ 0) → either (eqb (sum stopped (s .workers)) 0) (eqb (carriedAll s) 0) ≡ true
   stopped-to h =
-      by-cases (decLt 0 (sum stopped (s .workers)))
-      (λ (p : 0 < sum stopped (s .workers)). either-right (eqb (sum stopped (s .workers)) 0) (eq-eqb (carriedAll s) 0 (h p)))
-      (λ (p : ¬ (0 < sum stopped (s .workers))). either-left (eqb (carriedAll s) 0) (eq-eqb (sum stopped (s .workers)) 0 (omega arith)))
+      or-else (eqb (sum stopped (s .workers)) 0) (λ (e : eqb (sum stopped (s .workers)) 0 ≡ false). eq-eqb (carriedAll s) 0 (h (not-zero-some (sum stopped (s .workers)) e)))
 
   -- the since of worker b, which is there only where it carries nothing
   abbrev rests? : ℕ → Bool
@@ -245,49 +258,39 @@ module _ {G : Graph} (F : Formed G) (starts : List ℕ) (W : ℕ) (g : Setting) 
   rested-from h b p =
       by-cases (decLt b W)
       (λ (q : b < W).
-      ⊎-elim
-      (λ (e : eqb (carriedBy (worker s b)) 0 ≡ true). absurd (omega (arith, eqb-true (carriedBy (worker s b)) 0 e)))
-      (λ (e : eqb (getD (s .rested) b 0) 0 ≡ true). eqb-true (getD (s .rested) b 0) 0 e)
-      (either-true (eqb (carriedBy (worker s b)) 0) (eqb (getD (s .rested) b 0) 0) (up-to-each rests? W h b q)))
+      eqb-true (getD (s .rested) b 0) 0
+      (otherwise (eqb (getD (s .rested) b 0) 0) (up-to-each rests? W h b q) (some-not-zero (carriedBy (worker s b)) p)))
       (λ (q : ¬ (b < W)). absurd (omega (arith, ap carriedBy (beyond b (omega arith)))))
 
   rested-to : ((b : ℕ) → 0 < carriedBy (worker s b) → getD (s .rested) b 0 ≡ 0) → allUpTo W rests? ≡ true
   rested-to h =
       each-up-to rests? W
       (λ (b : ℕ) (q : b < W).
-      by-cases (decLt 0 (carriedBy (worker s b)))
-      (λ (p : 0 < carriedBy (worker s b)). either-right (eqb (carriedBy (worker s b)) 0) (eq-eqb (getD (s .rested) b 0) 0 (h b p)))
-      (λ (p : ¬ (0 < carriedBy (worker s b))). either-left (eqb (getD (s .rested) b 0) 0) (eq-eqb (carriedBy (worker s b)) 0 (omega arith))))
+      or-else (eqb (carriedBy (worker s b)) 0)
+      (λ (e : eqb (carriedBy (worker s b)) 0 ≡ false). eq-eqb (getD (s .rested) b 0) 0 (h b (not-zero-some (carriedBy (worker s b)) e))))
 
   -- a worker above the holder
   above-from : either (ltb 0 (blackBelow (s .ring))) (allUpTo W (clear? s)) ≡ true → blackBelow (s .ring) ≡ 0 → (b : ℕ) → s .ring .holder < b
       → carriedBy (worker s b) ≡ 0
   unfolding carried sum
   above-from h z b l =
-      ⊎-elim
-      (λ (e : ltb 0 (blackBelow (s .ring)) ≡ true). absurd (omega (arith, ltb-true 0 (blackBelow (s .ring)) e)))
-      (λ (e : allUpTo W (clear? s) ≡ true).
+      let e = otherwise (allUpTo W (clear? s)) h (le-ltb 0 (blackBelow (s .ring)) (omega (arith, z))) in
       by-cases (decLt b W)
       (λ (q : b < W).
-      ⊎-elim
-      (λ (k : leb b (s .ring .holder) ≡ true). absurd (omega (arith, leb-true b (s .ring .holder) k)))
-      (λ (k : eqb (carriedBy (worker s b)) 0 ≡ true). eqb-true (carriedBy (worker s b)) 0 k)
-      (either-true (leb b (s .ring .holder)) (eqb (carriedBy (worker s b)) 0) (up-to-each (clear? s) W e b q)))
-      (λ (q : ¬ (b < W)). ap carriedBy (beyond b (omega arith))))
-      (either-true (ltb 0 (blackBelow (s .ring))) (allUpTo W (clear? s)) h)
+      eqb-true (carriedBy (worker s b)) 0
+      (otherwise (eqb (carriedBy (worker s b)) 0) (up-to-each (clear? s) W e b q) (lt-leb b (s .ring .holder) l)))
+      (λ (q : ¬ (b < W)). ap carriedBy (beyond b (omega arith)))
 
   above-to : (blackBelow (s .ring) ≡ 0 → (b : ℕ) → s .ring .holder < b → carriedBy (worker s b) ≡ 0)
       → either (ltb 0 (blackBelow (s .ring))) (allUpTo W (clear? s)) ≡ true
   above-to h =
-      by-cases (decLt 0 (blackBelow (s .ring)))
-      (λ (p : 0 < blackBelow (s .ring)). either-left (allUpTo W (clear? s)) (lt-ltb 0 (blackBelow (s .ring)) p))
-      (λ (p : ¬ (0 < blackBelow (s .ring))).
-      either-right (ltb 0 (blackBelow (s .ring)))
-      (each-up-to (clear? s) W
+      or-else (ltb 0 (blackBelow (s .ring)))
+      (λ (z : ltb 0 (blackBelow (s .ring)) ≡ false).
+      each-up-to (clear? s) W
       (λ (b : ℕ) (q : b < W).
-      by-cases (decLt (s .ring .holder) b)
-      (λ (l : s .ring .holder < b). either-right (leb b (s .ring .holder)) (eq-eqb (carriedBy (worker s b)) 0 (h (omega arith) b l)))
-      (λ (l : ¬ (s .ring .holder < b)). either-left (eqb (carriedBy (worker s b)) 0) (le-leb b (s .ring .holder) (omega arith))))))
+      or-else (leb b (s .ring .holder))
+      (λ (l : leb b (s .ring .holder) ≡ false).
+      eq-eqb (carriedBy (worker s b)) 0 (h (omega (arith, ltb-false 0 (blackBelow (s .ring)) z)) b (leb-false b (s .ring .holder) l)))))
 
   -- worker 0 has ended, with the token, where some have
   abbrev first? : Bool
@@ -295,166 +298,86 @@ module _ {G : Graph} (F : Formed G) (starts : List ℕ) (W : ℕ) (g : Setting) 
 
   first-from : either (eqb (sum stopped (s .workers)) 0) first? ≡ true → 0 < sum stopped (s .workers) → (stopped (worker s 0) ≡ 1) × (s .ring .holder ≡ 0)
   first-from h p =
-      ⊎-elim
-      (λ (e : eqb (sum stopped (s .workers)) 0 ≡ true). absurd (omega (arith, eqb-true (sum stopped (s .workers)) 0 e)))
-      (λ (e : first? ≡ true).
+      let e = otherwise first? h (some-not-zero (sum stopped (s .workers)) p) in
       let t = both-true (eqb (stopped (worker s 0)) 1) (eqb (s .ring .holder) 0) e in
-      (eqb-true (stopped (worker s 0)) 1 (t .0), eqb-true (s .ring .holder) 0 (t .1)))
-      (either-true (eqb (sum stopped (s .workers)) 0) first? h)
+      (eqb-true (stopped (worker s 0)) 1 (t .0), eqb-true (s .ring .holder) 0 (t .1))
 
   first-to : (0 < sum stopped (s .workers) → (stopped (worker s 0) ≡ 1) × (s .ring .holder ≡ 0)) → either (eqb (sum stopped (s .workers)) 0) first? ≡ true
   first-to h =
-      by-cases (decLt 0 (sum stopped (s .workers)))
-      (λ (p : 0 < sum stopped (s .workers)).
-      let t = h p in
-      either-right (eqb (sum stopped (s .workers)) 0) (both-is (eq-eqb (stopped (worker s 0)) 1 (t .0)) (eq-eqb (s .ring .holder) 0 (t .1))))
-      (λ (p : ¬ (0 < sum stopped (s .workers))). either-left first? (eq-eqb (sum stopped (s .workers)) 0 (omega arith)))
+      or-else (eqb (sum stopped (s .workers)) 0)
+      (λ (e : eqb (sum stopped (s .workers)) 0 ≡ false).
+      let t = h (not-zero-some (sum stopped (s .workers)) e) in both-is (eq-eqb (stopped (worker s 0)) 1 (t .0)) (eq-eqb (s .ring .holder) 0 (t .1)))
 
   -- the test says the conditions
   pub from-test : sound? G starts W g s ≡ true → SavedSound G starts W g s
   unfolding sound? conditions all carried sum
   from-test h =
-      let t0 = all-every (λ (t : Bool). t) (λ (t : Bool). t ≡ true) (λ t e. e) (conditions G starts W g s) h in
-      let t1 = t0 .1 in
-      let t2 = t1 .1 in
-      let t3 = t2 .1 in
-      let t4 = t3 .1 in
-      let t5 = t4 .1 in
-      let t6 = t5 .1 in
-      let t7 = t6 .1 in
-      let t8 = t7 .1 in
-      let t9 = t8 .1 in
-      let t10 = t9 .1 in
-      let t11 = t10 .1 in
-      let t12 = t11 .1 in
-      let t13 = t12 .1 in
-      let t14 = t13 .1 in
-      let t15 = t14 .1 in
-      let t16 = t15 .1 in
-      let t17 = t16 .1 in
-      let t18 = t17 .1 in
-      let t19 = t18 .1 in
-      let t20 = t19 .1 in
-      let t21 = t20 .1 in
-      let t22 = t21 .1 in
-      let t23 = t22 .1 in
-      let t24 = t23 .1 in
-      let t25 = t24 .1 in
-      let t26 = t25 .1 in
-      let within = within-each (t4 .0) in
+      let t = all-at (λ (t : Bool). t) true refl (conditions G starts W g s) h in
+      let within = within-each (t 4) in
       record {
-        marks-limit = λ (v : ℕ). leb-true (getD (s .marks) v 0) W (all-at (λ (x : ℕ). leb x W) 0 (le-leb 0 W (omega arith)) (s .marks) (t0 .0) v);
-        starts-marked = λ (v : ℕ) (p : 0 < sum (hit v) starts). ltb-true 0 (getD (s .marks) v 0) (all-hit (marked? (s .marks)) starts (t1 .0) v p);
-        live-is = eqb-true (s .counts .live) (live (s .marks)) (t2 .0);
-        carrying-is = eqb-true (s .counts .carrying) (sum carries? (s .workers)) (t3 .0);
+        marks-limit = λ (v : ℕ). leb-true (getD (s .marks) v 0) W (all-at (λ (x : ℕ). leb x W) 0 (le-leb 0 W (omega arith)) (s .marks) (t 0) v);
+        starts-marked = λ (v : ℕ) (p : 0 < sum (hit v) starts). ltb-true 0 (getD (s .marks) v 0) (all-hit (marked? (s .marks)) starts (t 1) v p);
+        live-is = eqb-true (s .counts .live) (live (s .marks)) (t 2);
+        carrying-is = eqb-true (s .counts .carrying) (sum carries? (s .workers)) (t 3);
         runs-within = within;
-        runs-whole = λ (b : ℕ). inside-from G (runsOf (worker s b)) (at-workers (λ (w : Worker). wholeInside? G (runsOf w)) refl (t5 .0) b);
-        carried-once = once-from within (t6 .0);
-        total = eqb-true (s .counts .followed + carriedAll s + leavingUnmarked G (s .marks)) (references G) (t7 .0);
-        targets-marked = targets-from (t8 .0);
-        supplied = λ (b : ℕ). supplied-from (worker s b) (at-workers supplied? refl (t9 .0) b);
-        cells = cells-from (t10 .0) (t11 .0);
+        runs-whole = λ (b : ℕ). inside-from G (runsOf (worker s b)) (at-workers (λ (w : Worker). wholeInside? G (runsOf w)) refl (t 5) b);
+        carried-once = once-from within (t 6);
+        total = eqb-true (s .counts .followed + carriedAll s + leavingUnmarked G (s .marks)) (references G) (t 7);
+        targets-marked = targets-from (t 8);
+        supplied = λ (b : ℕ). supplied-from (worker s b) (at-workers supplied? refl (t 9) b);
+        cells = cells-from (t 10) (t 11);
         batch-limit = λ (b : ℕ).
-            leb-true (batchIn (worker s b)) (g .batch) (at-workers (λ (w : Worker). leb (batchIn w) (g .batch)) (le-leb 0 (g .batch) (omega arith)) (t12 .0) b);
+            leb-true (batchIn (worker s b)) (g .batch) (at-workers (λ (w : Worker). leb (batchIn w) (g .batch)) (le-leb 0 (g .batch) (omega arith)) (t 12) b);
         batch-carried = λ (b : ℕ).
-            leb-true (batchIn (worker s b)) (carriedBy (worker s b)) (at-workers (λ (w : Worker). leb (batchIn w) (carriedBy w)) refl (t13 .0) b);
-        stopped-empty = stopped-from (t14 .0);
-        moved-limit = leb-true (s .counts .moved) (movedBound (references G) W) (t15 .0);
-        handed-limit = leb-true (s .counts .handed * g .cutoff) (handedBound (references G)) (t16 .0);
-        since-followed = leb-true (sum sinceOf (s .workers) + sum itself (s .rested)) (s .counts .followed) (t17 .0);
-        rested-carrying = rested-from (t18 .0);
-        refused-moved = leb-true (s .counts .refused) (s .counts .moved) (t19 .0);
-        tallies-followed = eqb-true (followedSum s) (s .counts .followed) (t20 .0);
-        tallies-handed = eqb-true (handedSum s) (s .counts .handed) (t21 .0);
-        tallies-won = eqb-true (wonSum s + distinctStarts G starts) (s .counts .live) (t22 .0);
+            leb-true (batchIn (worker s b)) (carriedBy (worker s b)) (at-workers (λ (w : Worker). leb (batchIn w) (carriedBy w)) refl (t 13) b);
+        stopped-empty = stopped-from (t 14);
+        moved-limit = leb-true (s .counts .moved) (movedBound (references G) W) (t 15);
+        handed-limit = leb-true (s .counts .handed * g .cutoff) (handedBound (references G)) (t 16);
+        since-followed = leb-true (sum sinceOf (s .workers) + sum itself (s .rested)) (s .counts .followed) (t 17);
+        rested-carrying = rested-from (t 18);
+        refused-moved = leb-true (s .counts .refused) (s .counts .moved) (t 19);
+        tallies-followed = eqb-true (followedSum s) (s .counts .followed) (t 20);
+        tallies-handed = eqb-true (handedSum s) (s .counts .handed) (t 21);
+        tallies-won = eqb-true (wonSum s + distinctStarts G starts) (s .counts .live) (t 22);
         tallies-claims = λ (b : ℕ).
-            let y = getD (s .tallies) b noTally in leb-true (y .won + y .lost) (y .followed) (all-at claims? noTally refl (s .tallies) (t23 .0) b);
-        holder-below = ltb-true (s .ring .holder) W (t24 .0);
-        above-holder = above-from (t25 .0);
-        first-ended = first-from (t26 .0);
+            let y = getD (s .tallies) b noTally in leb-true (y .won + y .lost) (y .followed) (all-at claims? noTally refl (s .tallies) (t 23) b);
+        holder-below = ltb-true (s .ring .holder) W (t 24);
+        above-holder = above-from (t 25);
+        first-ended = first-from (t 26);
       }
 
   -- and the conditions the test
   pub to-test : SavedSound G starts W g s → sound? G starts W g s ≡ true
   unfolding sound? conditions
   to-test S =
-      every-all (λ (t : Bool). t) (λ (t : Bool). t ≡ true) (λ t e. e) (conditions G starts W g s) (
-        at-all (λ (x : ℕ). leb x W) 0 (s .marks) (λ (v : ℕ). le-leb (getD (s .marks) v 0) W (S .marks-limit v)),
-        (
-          hit-all (marked? (s .marks)) starts (λ (v : ℕ) (p : 0 < sum (hit v) starts). lt-ltb 0 (getD (s .marks) v 0) (S .starts-marked v p)),
-          (
-            eq-eqb (s .counts .live) (live (s .marks)) (S .live-is),
-            (
-              eq-eqb (s .counts .carrying) (sum carries? (s .workers)) (S .carrying-is),
-              (
-                at-all (λ (w : Worker). all (within? G (s .marks)) (runsOf w)) ended (s .workers)
-                    (λ (b : ℕ). every-all (within? G (s .marks)) (Within G (s .marks)) (within-to G (s .marks)) (runsOf (worker s b)) (S .runs-within b)),
-                (
-                  at-all (λ (w : Worker). wholeInside? G (runsOf w)) ended (s .workers) (λ (b : ℕ). inside-to G (runsOf (worker s b)) (S .runs-whole b)),
-                  (
-                    each-up-to (λ (e : ℕ). leb (carriedTimes s e) 1) (references G) (λ (e : ℕ) (p : e < references G). le-leb (carriedTimes s e) 1 (S .carried-once e)),
-                    (
-                      eq-eqb (s .counts .followed + carriedAll s + leavingUnmarked G (s .marks)) (references G) (S .total),
-                      (
-                        targets-to (S .targets-marked),
-                        (
-                          at-all supplied? ended (s .workers) (λ (b : ℕ). supplied-to (worker s b) (S .supplied b)),
-                          (
-                            cells-known (S .cells),
-                            (
-                              each-up-to (λ (a : ℕ). eqb (sum (holds a) (s .workers)) (waits (worker s a))) W
-                                  (λ (a : ℕ) (p : a < W). eq-eqb (sum (holds a) (s .workers)) (waits (worker s a)) (S .cells a)),
-                              (
-                                at-all (λ (w : Worker). leb (batchIn w) (g .batch)) ended (s .workers) (λ (b : ℕ). le-leb (batchIn (worker s b)) (g .batch) (S .batch-limit b)),
-                                (
-                                  at-all (λ (w : Worker). leb (batchIn w) (carriedBy w)) ended (s .workers)
-                                      (λ (b : ℕ). le-leb (batchIn (worker s b)) (carriedBy (worker s b)) (S .batch-carried b)),
-                                  (
-                                    stopped-to (S .stopped-empty),
-                                    (
-                                      le-leb (s .counts .moved) (movedBound (references G) W) (S .moved-limit),
-                                      (
-                                        le-leb (s .counts .handed * g .cutoff) (handedBound (references G)) (S .handed-limit),
-                                        (
-                                          le-leb (sum sinceOf (s .workers) + sum itself (s .rested)) (s .counts .followed) (S .since-followed),
-                                          (
-                                            rested-to (S .rested-carrying),
-                                            (
-                                              le-leb (s .counts .refused) (s .counts .moved) (S .refused-moved),
-                                              (
-                                                eq-eqb (followedSum s) (s .counts .followed) (S .tallies-followed),
-                                                (
-                                                  eq-eqb (handedSum s) (s .counts .handed) (S .tallies-handed),
-                                                  (
-                                                    eq-eqb (wonSum s + distinctStarts G starts) (s .counts .live) (S .tallies-won),
-                                                    (
-                                                      at-all claims? noTally (s .tallies)
-                                                          (λ (b : ℕ). let y = getD (s .tallies) b noTally in le-leb (y .won + y .lost) (y .followed) (S .tallies-claims b)),
-                                                      (
-                                                        lt-ltb (s .ring .holder) W (S .holder-below),
-                                                        (above-to (S .above-holder), (first-to (S .first-ended), tt)),
-                                                      ),
-                                                    ),
-                                                  ),
-                                                ),
-                                              ),
-                                            ),
-                                          ),
-                                        ),
-                                      ),
-                                    ),
-                                  ),
-                                ),
-                              ),
-                            ),
-                          ),
-                        ),
-                      ),
-                    ),
-                  ),
-                ),
-              ),
-            ),
-          ),
-        ),
-      )
+      at-all (λ (x : ℕ). leb x W) 0 (s .marks) (λ (v : ℕ). le-leb (getD (s .marks) v 0) W (S .marks-limit v))
+      & hit-all (marked? (s .marks)) starts (λ (v : ℕ) (p : 0 < sum (hit v) starts). lt-ltb 0 (getD (s .marks) v 0) (S .starts-marked v p))
+      & eq-eqb (s .counts .live) (live (s .marks)) (S .live-is)
+      & eq-eqb (s .counts .carrying) (sum carries? (s .workers)) (S .carrying-is)
+      & at-all (λ (w : Worker). all (within? G (s .marks)) (runsOf w)) ended (s .workers)
+      (λ (b : ℕ). every-all (within? G (s .marks)) (Within G (s .marks)) (within-to G (s .marks)) (runsOf (worker s b)) (S .runs-within b))
+      & at-all (λ (w : Worker). wholeInside? G (runsOf w)) ended (s .workers) (λ (b : ℕ). inside-to G (runsOf (worker s b)) (S .runs-whole b))
+      & each-up-to (λ (e : ℕ). leb (carriedTimes s e) 1) (references G) (λ (e : ℕ) (p : e < references G). le-leb (carriedTimes s e) 1 (S .carried-once e))
+      & eq-eqb (s .counts .followed + carriedAll s + leavingUnmarked G (s .marks)) (references G) (S .total)
+      & targets-to (S .targets-marked)
+      & at-all supplied? ended (s .workers) (λ (b : ℕ). supplied-to (worker s b) (S .supplied b))
+      & cells-known (S .cells)
+      & each-up-to (λ (a : ℕ). eqb (sum (holds a) (s .workers)) (waits (worker s a))) W
+      (λ (a : ℕ) (p : a < W). eq-eqb (sum (holds a) (s .workers)) (waits (worker s a)) (S .cells a))
+      & at-all (λ (w : Worker). leb (batchIn w) (g .batch)) ended (s .workers) (λ (b : ℕ). le-leb (batchIn (worker s b)) (g .batch) (S .batch-limit b))
+      & at-all (λ (w : Worker). leb (batchIn w) (carriedBy w)) ended (s .workers)
+      (λ (b : ℕ). le-leb (batchIn (worker s b)) (carriedBy (worker s b)) (S .batch-carried b))
+      & stopped-to (S .stopped-empty)
+      & le-leb (s .counts .moved) (movedBound (references G) W) (S .moved-limit)
+      & le-leb (s .counts .handed * g .cutoff) (handedBound (references G)) (S .handed-limit)
+      & le-leb (sum sinceOf (s .workers) + sum itself (s .rested)) (s .counts .followed) (S .since-followed)
+      & rested-to (S .rested-carrying)
+      & le-leb (s .counts .refused) (s .counts .moved) (S .refused-moved)
+      & eq-eqb (followedSum s) (s .counts .followed) (S .tallies-followed)
+      & eq-eqb (handedSum s) (s .counts .handed) (S .tallies-handed)
+      & eq-eqb (wonSum s + distinctStarts G starts) (s .counts .live) (S .tallies-won)
+      & at-all claims? noTally (s .tallies) (λ (b : ℕ). let y = getD (s .tallies) b noTally in le-leb (y .won + y .lost) (y .followed) (S .tallies-claims b))
+      & lt-ltb (s .ring .holder) W (S .holder-below)
+      & above-to (S .above-holder)
+      & first-to (S .first-ended)
+      & refl
