@@ -105,49 +105,27 @@ module _ {G : Graph} {starts : List ℕ} {W : ℕ} {g : Setting} (A : Accepted G
   -- ---- and back
 
   module _ {s : State} (S : Sound G starts W g s) where
+    -- what a worker that is sound has to itself
+    own : (x : Worker) → WorkerSound G g (s .marks) x
+        → Supplied x × (batchIn x ≤ g .batch) × (batchIn x ≤ carriedBy x) × WholeInside G (runsOf x)
+    own idle t = (tt, omega arith, omega arith, tt)
+    own asking t = (tt, omega arith, omega arith, tt)
+    own denied t = (tt, omega arith, omega arith, tt)
+    own ended t = (tt, omega arith, omega arith, tt)
+    own (given rs) t = (t .some, omega arith, omega arith, t .whole-inside)
+    own (busy c n p rs) t = (t .carries .some, t .batch-limit, t .batch-carried, t .carries .whole-inside)
+
     supplied : (b : ℕ) → Supplied (worker s b)
-    supplied b = by (worker s b) (S .each-worker b)
-      where
-        by : (x : Worker) → WorkerSound G g (s .marks) x → Supplied x
-        by idle t = tt
-        by asking t = tt
-        by denied t = tt
-        by ended t = tt
-        by (given rs) t = t .some
-        by (busy c n p rs) t = t .carries .some
+    supplied b = own (worker s b) (S .each-worker b) .0
 
     batch-limit : (b : ℕ) → batchIn (worker s b) ≤ g .batch
-    batch-limit b = by (worker s b) (S .each-worker b)
-      where
-        by : (x : Worker) → WorkerSound G g (s .marks) x → batchIn x ≤ g .batch
-        by idle t = omega arith
-        by asking t = omega arith
-        by denied t = omega arith
-        by ended t = omega arith
-        by (given rs) t = omega arith
-        by (busy c n p rs) t = t .batch-limit
+    batch-limit b = own (worker s b) (S .each-worker b) .1
 
     batch-carried : (b : ℕ) → batchIn (worker s b) ≤ carriedBy (worker s b)
-    batch-carried b = by (worker s b) (S .each-worker b)
-      where
-        by : (x : Worker) → WorkerSound G g (s .marks) x → batchIn x ≤ carriedBy x
-        by idle t = omega arith
-        by asking t = omega arith
-        by denied t = omega arith
-        by ended t = omega arith
-        by (given rs) t = omega arith
-        by (busy c n p rs) t = t .batch-carried
+    batch-carried b = own (worker s b) (S .each-worker b) .2
 
     whole : (b : ℕ) → WholeInside G (runsOf (worker s b))
-    whole b = by (worker s b) (S .each-worker b)
-      where
-        by : (x : Worker) → WorkerSound G g (s .marks) x → WholeInside G (runsOf x)
-        by idle t = tt
-        by asking t = tt
-        by denied t = tt
-        by ended t = tt
-        by (given rs) t = t .whole-inside
-        by (busy c n p rs) t = t .carries .whole-inside
+    whole b = own (worker s b) (S .each-worker b) .3
 
     pub shaped : Shaped (objects G) W s
     shaped =
