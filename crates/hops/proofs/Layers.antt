@@ -180,7 +180,7 @@ module _ {G : Graph} {starts H L S : List ℕ} {d : ℕ} (formed : Formed G) (fe
   pub layer-low : d + 1 < none
   layer-low = omega (arith, y .budget)
 
-  pub layer-ready : Walkable G (d + 1) H L empty × Apart H L empty (contents L S) × Bag L S
+  layer-ready : Walkable G (d + 1) H L empty × Apart H L empty (contents L S) × Bag L S
   layer-ready = (
     record {
       growable = record {
@@ -264,7 +264,7 @@ module _ {G : Graph} {starts H L S : List ℕ} {d : ℕ} (formed : Formed G) (fe
         let k = g .kept (target G e) (r .0) in
         (λ z. r .0 (sym k ∙ z), omega (arith, r .1)))
 
-    pub layer-next : sizeOf S ≢ 0 → Layer G starts (d + 1) H′ L′ S′
+    layer-next : sizeOf S ≢ 0 → Layer G starts (d + 1) H′ L′ S′
     layer-next more =
         record {
           bag = g .bag;
@@ -278,7 +278,7 @@ module _ {G : Graph} {starts H L S : List ℕ} {d : ℕ} (formed : Formed G) (fe
           budget = omega (arith, g .sized, empty-length L, y .budget, y .bag .counted);
         }
 
-    pub layer-less : sizeOf S ≢ 0 → length (contents L′ S′) + unknown H′ < length (contents L S) + unknown H
+    layer-less : sizeOf S ≢ 0 → length (contents L′ S′) + unknown H′ < length (contents L S) + unknown H
     layer-less more = omega (arith, g .sized, empty-length L, y .bag .counted)
 
   -- ---- the last layer
@@ -326,6 +326,18 @@ module _ {G : Graph} {starts H L : List ℕ} (ok : Searchable G starts H L) {H�
 
   pub begun : {H′ L′ S′ : List ℕ} → Grown 0 (λ (w : ℕ). times w starts) H₀ L empty H′ L′ S′ → Layer G starts 0 H′ L′ S′
   begun g = layer-start ok (rw fresh at g)
+
+-- a layer fills a bag that is empty
+module _ {G : Graph} {starts H₀ L₀ H L S N : List ℕ} {d : ℕ} (ok : Searchable G starts H₀ L₀) (y : Layer G starts d H L S) (e : N ≡ empty) where
+  pub pass-ready : Walkable G (d + 1) H L N × Apart H L N (contents L S) × Bag L S
+  pass-ready = rw e (layer-ready (ok .formed) (ok .few) y)
+
+  module _ {H′ L′ S′ : List ℕ} (g : Grown (d + 1) (λ (w : ℕ). sum (leadsTo G w) (contents L S)) H L N H′ L′ S′) (more : sizeOf S ≢ 0) where
+    pub passed : Layer G starts (d + 1) H′ L′ S′
+    passed = layer-next (ok .formed) (ok .few) y (rw e at g) more
+
+    pub passed-less : length (contents L′ S′) + unknown H′ < length (contents L S) + unknown H
+    passed-less = layer-less (ok .formed) (ok .few) y (rw e at g) more
 
 module _ {G : Graph} {starts H₀ L₀ H L S : List ℕ} {d : ℕ} (ok : Searchable G starts H₀ L₀) (y : Layer G starts d H L S) where
   pub hops-same : length H ≡ length H₀

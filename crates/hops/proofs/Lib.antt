@@ -1,5 +1,6 @@
 pub mod Growing
 pub mod Visiting
+pub mod Walking
 pub mod Spreading
 pub mod Layers
 pub mod Checks

@@ -6,7 +6,7 @@ ghost use Prim.Native.Nat.{ℕ, _<_};
 ghost use mathlib.Core.Bool.{true};
 ghost use lib.ListN.{length, replicate};
 ghost use Rattle.laws.specs.Sum.{sum, hit};
-ghost use Rattle.bag.specs.Bag.{Bag, times, treeOf, pennantOf, contents};
+ghost use Rattle.bag.specs.Bag.{slot-count, Bag, times, treeOf, pennantOf, contents};
 ghost use Rattle.graph.specs.Graph.{graph, allBelow};
 ghost use Rattle.hops.specs.Hops.{none, HopsOf};
 ghost use Rattle.hops.specs.Search.{leadsTo, Growable, Grown, Walkable, Apart, Searchable};
@@ -48,7 +48,8 @@ fn visit(
     }
 }
 
-// The same for all objects of a tree.
+// The same for all objects of a tree: from the root down the left, while the trees to the right wait
+// with their heights.
 fn walk(
     offsets: &[u32],
     targets: &[u32],
@@ -60,22 +61,38 @@ fn walk(
     x: u32,
 )
     requires { ⌜ Walkable (graph (now offsets) (now targets)) hop (now hops) (now links) (now slots)
-        × Apart (now hops) (now links) (now slots) (treeOf height (now links) x) ⌝ }
+        × Apart (now hops) (now links) (now slots) (treeOf height (now links) x) × (height < slot-count) ⌝ }
     ensures { λ _. ⌜ Grown hop (λ (w : ℕ). sum (leadsTo (graph (now (offsets .entry)) (now (targets .entry))) w) (treeOf height (now (links .entry)) x))
         (now (hops .entry)) (now (links .entry)) (now (slots .entry)) (now (hops .exit)) (now (links .exit)) (now (slots .exit)) ⌝ }
 {
     if height == 0 {
         return;
     }
-    if height == 1 {
-        visit(offsets, targets, hops, links, slots, hop, x);
-        return;
+    let mut rights = [0u32; 16];
+    let mut heights = [0usize; 16];
+    let mut depth: usize = 0;
+    let mut at = x;
+    let mut rest = height;
+    while rest != 0 {
+        if rest != 1 {
+            let left = links[2 * at as usize];
+            let right = links[2 * at as usize + 1];
+            rest = rest - 1;
+            rights[depth] = right;
+            heights[depth] = rest;
+            depth += 1;
+            visit(offsets, targets, hops, links, slots, hop, at);
+            at = left;
+        } else {
+            visit(offsets, targets, hops, links, slots, hop, at);
+            if depth == 0 {
+                return;
+            }
+            depth = depth - 1;
+            at = rights[depth];
+            rest = heights[depth];
+        }
     }
-    let left = links[2 * x as usize];
-    let right = links[2 * x as usize + 1];
-    visit(offsets, targets, hops, links, slots, hop, x);
-    walk(offsets, targets, hops, links, slots, hop, height - 1, left);
-    walk(offsets, targets, hops, links, slots, hop, height - 1, right);
 }
 
 // The same for all objects of a pennant.
@@ -90,7 +107,7 @@ fn fill(
     root: u32,
 )
     requires { ⌜ Walkable (graph (now offsets) (now targets)) hop (now hops) (now links) (now slots)
-        × Apart (now hops) (now links) (now slots) (pennantOf height (now links) root) ⌝ }
+        × Apart (now hops) (now links) (now slots) (pennantOf height (now links) root) × (height < slot-count) ⌝ }
     ensures { λ _. ⌜ Grown hop (λ (w : ℕ). sum (leadsTo (graph (now (offsets .entry)) (now (targets .entry))) w) (pennantOf height (now (links .entry)) root))
         (now (hops .entry)) (now (links .entry)) (now (slots .entry)) (now (hops .exit)) (now (links .exit)) (now (slots .exit)) ⌝ }
 {
@@ -112,7 +129,7 @@ fn spread(
     root: u32,
 )
     requires { ⌜ Walkable (graph (now offsets) (now targets)) hop (now hops) (now links) (now next)
-        × Apart (now hops) (now links) (now next) (pennantOf height (now links) root) ⌝ }
+        × Apart (now hops) (now links) (now next) (pennantOf height (now links) root) × (height < slot-count) ⌝ }
     ensures { λ _. ⌜ Grown hop (λ (w : ℕ). sum (leadsTo (graph (now (offsets .entry)) (now (targets .entry))) w) (pennantOf height (now (links .entry)) root))
         (now (hops .entry)) (now (links .entry)) (now (next .entry)) (now (hops .exit)) (now (links .exit)) (now (next .exit)) ⌝ }
 {
@@ -172,7 +189,7 @@ fn begin(starts: &[u32], hops: &mut [u32], links: &mut [u32], slots: &mut [u32; 
     }
 }
 
-// The hop counts: layer after layer, until one is empty.
+// The hop counts: layer after layer, until one is empty. Two bags take turns, so that none is copied.
 pub fn search(offsets: &[u32], targets: &[u32], starts: &[u32], hops: &mut [u32], links: &mut [u32])
     requires { ⌜ Searchable (graph (now offsets) (now targets)) (now starts) (now hops) (now links) ⌝ }
     ensures { λ _. ⌜ HopsOf (graph (now (offsets .entry)) (now (targets .entry))) (now (starts .entry)) (now (hops .exit)) ⌝ }
@@ -180,11 +197,17 @@ pub fn search(offsets: &[u32], targets: &[u32], starts: &[u32], hops: &mut [u32]
     forget(hops);
     let mut layer = [0u32; 18];
     begin(starts, hops, links, &mut layer);
+    let mut next = [0u32; 18];
     let mut hop: u32 = 0;
     while layer[SIZE] != 0 {
         hop += 1;
-        let mut next = [0u32; 18];
         pass(offsets, targets, hops, links, &layer, &mut next, hop);
-        layer = next;
+        layer = [0u32; 18];
+        if next[SIZE] == 0 {
+            return;
+        }
+        hop += 1;
+        pass(offsets, targets, hops, links, &next, &mut layer, hop);
+        next = [0u32; 18];
     }
 }

@@ -15,7 +15,8 @@ walk-requires : tie.Need-walk-requires
 walk-requires c κs =
     let v = c .before .before .before .before .before .before .before in
     let p = entered v .pre in
-    fill-walk _ _ (p .0) (p .1) (v .visit .ensures)
+    let r = fill-walk _ _ (p .0) (p .1) (v .visit .ensures) in
+    (r .0, r .1, p .2)
 
 returns : tie.Need-returns
 returns c =

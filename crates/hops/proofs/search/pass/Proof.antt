@@ -28,7 +28,8 @@ spread-requires c κs =
     let n = t .before .before in
     let l = n .before in
     let p = start l .pre in
-    passing-ready (p .0) (p .1) (p .2) (l .loop .inv) (low n) (t .if1 .taken)
+    let r = passing-ready (p .0) (p .1) (p .2) (l .loop .inv) (low n) (t .if1 .taken) in
+    (r .0, r .1, low n)
 
 loop-again : tie.Need-loop-again Inv-loop μ-loop
 loop-again c =

@@ -14,7 +14,7 @@ returns : tie.Need-returns
 returns c = c .before .before .before .before .fill .ensures
 
 fill-requires-2 : tie.Need-fill-requires-2
-fill-requires-2 c κs = let p = c .before .before .before .before .before .before .before .before .before .pre in own-ready (p .0) (p .1)
+fill-requires-2 c κs = let p = c .before .before .before .before .before .before .before .before .before .pre in let r = own-ready (p .0) (p .1) in (r .0, r .1, p .2)
 
 join-requires : tie.Need-join-requires
 join-requires c κs = let f = c .before .before .before .before .before .before .before in own-join (entered f .pre .0) (f .fill2 .ensures)
