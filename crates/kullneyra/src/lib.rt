@@ -18,7 +18,9 @@ ghost use lib.Seq.{sets};
 ghost use Rattle.cards.specs.Hand.{fault, scheduleFor, turnsOf};
 ghost use Rattle.catalogue.specs.Answer.{row, foundRow, headerRow};
 ghost use Rattle.marker.specs.Answer.{callOf, row as markRow};
-ghost use Rattle.kullneyra.specs.Calls.{ReadsIn, headerAnswer, headerWords, readWords, wordsFor, partAnswer, partWords, sweepAnswer, sweepWords, sweepList, mark-words, resultWords, markWords, MarksIn, lengthAnswer, lengthWords, BeginsIn, ResumesIn, scheduleAnswer, scheduleWords, seedWords, DrawsIn, DealsIn, hopLengthAnswer, hopLengthWords, HopsIn, updateLengthAnswer, updateLengthWords, AddsIn, RemovesIn, marketAnswer, ImportsIn, exportLengthAnswer, exportLengthWords};
+ghost use Rattle.kullneyra.specs.Calls.{wordsFor, headerAnswer, headerWords, readWords, ReadsIn, partAnswer, partWords, sweepAnswer, sweepWords, sweepList, marketAnswer, ImportsIn};
+ghost use Rattle.kullneyra.specs.Calls.{mark-words, resultWords, markWords, MarksIn, BeginsIn, ResumesIn, seedWords, DrawsIn, DealsIn, HopsIn, AddsIn, RemovesIn};
+ghost use Rattle.kullneyra.specs.Calls.{lengthAnswer, lengthWords, scheduleAnswer, scheduleWords, hopLengthAnswer, hopLengthWords, updateLengthAnswer, updateLengthWords, exportLengthAnswer, exportLengthWords};
 ghost use Rattle.hops.specs.Call.{lengthRow as workRow};
 ghost use Rattle.market.specs.Import.{headRow};
 ghost use Rattle.market.specs.Export.{exportFault, bytesAfter};
@@ -194,7 +196,9 @@ pub extern "C" fn kullneyra_mark(
     tallies: &mut [u64],
     result: &mut [u64],
 ) -> u32
-    ensures { λ r. ⌜ MarksIn (callOf (now (offsets .entry)) (now (targets .entry)) (now (starts .entry)) workers batch cutoff (now (schedule .entry))) (now (marks .entry)) (now (work .entry)) (now (tallies .entry)) (now (result .entry)) (now (marks .exit)) (now (work .exit)) (now (tallies .exit)) (now (result .exit)) r ⌝ }
+    ensures { λ r. ⌜ MarksIn (callOf (now (offsets .entry)) (now (targets .entry)) (now (starts .entry)) workers batch cutoff (now (schedule .entry)))
+        (now (marks .entry)) (now (work .entry)) (now (tallies .entry)) (now (result .entry))
+        (now (marks .exit)) (now (work .exit)) (now (tallies .exit)) (now (result .exit)) r ⌝ }
 {
     if result.len() != MARK_WORDS {
         return 7;
@@ -248,7 +252,9 @@ pub extern "C" fn kullneyra_begin(
     saved: &mut [u32],
     result: &mut [u64],
 ) -> u32
-    ensures { λ r. ⌜ BeginsIn (callOf (now (offsets .entry)) (now (targets .entry)) (now (starts .entry)) workers batch cutoff (now (schedule .entry))) (now (marks .entry)) (now (work .entry)) (now (tallies .entry)) (now (saved .entry)) (now (result .entry)) (now (marks .exit)) (now (work .exit)) (now (tallies .exit)) (now (saved .exit)) (now (result .exit)) r ⌝ }
+    ensures { λ r. ⌜ BeginsIn (callOf (now (offsets .entry)) (now (targets .entry)) (now (starts .entry)) workers batch cutoff (now (schedule .entry)))
+        (now (marks .entry)) (now (work .entry)) (now (tallies .entry)) (now (saved .entry)) (now (result .entry))
+        (now (marks .exit)) (now (work .exit)) (now (tallies .exit)) (now (saved .exit)) (now (result .exit)) r ⌝ }
 {
     if result.len() != MARK_WORDS {
         return 7;
@@ -285,7 +291,9 @@ pub extern "C" fn kullneyra_resume(
     saved: &mut [u32],
     result: &mut [u64],
 ) -> u32
-    ensures { λ r. ⌜ ResumesIn (callOf (now (offsets .entry)) (now (targets .entry)) (now (starts .entry)) workers batch cutoff (now (schedule .entry))) (now (marks .entry)) (now (work .entry)) (now (tallies .entry)) (now (saved .entry)) (now (result .entry)) (now (marks .exit)) (now (work .exit)) (now (tallies .exit)) (now (saved .exit)) (now (result .exit)) r ⌝ }
+    ensures { λ r. ⌜ ResumesIn (callOf (now (offsets .entry)) (now (targets .entry)) (now (starts .entry)) workers batch cutoff (now (schedule .entry)))
+        (now (marks .entry)) (now (work .entry)) (now (tallies .entry)) (now (saved .entry)) (now (result .entry))
+        (now (marks .exit)) (now (work .exit)) (now (tallies .exit)) (now (saved .exit)) (now (result .exit)) r ⌝ }
 {
     if result.len() != MARK_WORDS {
         return 7;
