@@ -23,7 +23,7 @@ first-and-rest [] q a h = absurd (omega arith)
 first-and-rest (x ∷ l) q a h = ap (λ (r : List ℕ). a ∷ r) (rw (suc-sub-suc, sub-zero, drop-length l) (append-nil q))
 
 -- beside a refusal nothing is written
-unwritten : (k : ℕ) (results before : List ℕ) → 0 < k → before ≡ wordsFor k results before
+pub unwritten : (k : ℕ) (results before : List ℕ) → 0 < k → before ≡ wordsFor k results before
 unwritten zero results before h = absurd (omega arith)
 unwritten (suc k) results before h = refl
 

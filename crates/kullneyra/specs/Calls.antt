@@ -8,7 +8,7 @@ use lib.ListN.{length, getD}
 use lib.Dec.{eqb}
 use Rattle.laws.specs.Choice.{pick}
 use Rattle.graph.specs.Graph.{graph, objects, partStart, partLength}
-use Rattle.cards.specs.Hand.{lengthOf, turnsOf}
+use Rattle.cards.specs.Hand.{turnsOf}
 use Rattle.catalogue.specs.Answer.{Row, ReadRow, headerRow, taken, readRow, offsetsAfter, targetsAfter, sizesAfter, startsAfter}
 use Rattle.catalogue.specs.Reading.{Reading, refused}
 use Rattle.machine.specs.declared.Counts.{Counts}
@@ -19,7 +19,6 @@ use Rattle.machine.specs.Call.{Call, graphOf, final, marking, marksAfter, workA
 use Rattle.sweep.specs.Sweep.{sweeping, listAfter}
 use Rattle.saved.specs.Layout.{savedWords}
 use Rattle.saved.specs.Calls.{beginFault, resumeFault, resumed, rowFor, bufferFor}
-use Rattle.resume.specs.Answer.{lengthFor}
 use Rattle.refusal.specs.Number.{number}
 use Rattle.seed.specs.declared.Seed.{Seed}
 use Rattle.seed.specs.declared.Drawn.{Drawn}
@@ -27,13 +26,12 @@ use Rattle.seed.specs.declared.Drawn.the-variants.{Card, Refused}
 use Rattle.seed.specs.Draw.{next, drawn}
 use Rattle.seed.specs.Deal.{afterDraws, handOf, fault}
 use Rattle.market.specs.Import.{headRow, taken as importTaken, answerOf}
-use Rattle.market.specs.Export.{lengthFor as exportLengthFor}
 use Rattle.hops.specs.Hops.{HopsOf}
-use Rattle.hops.specs.Call.{lengthFor as hopLengthFor, fault as hopFault}
+use Rattle.hops.specs.Call.{fault as hopFault}
 use Rattle.updates.specs.Pairs.{paired}
 use Rattle.updates.specs.Stores.{added, completed, removed, marksAfresh}
 use Rattle.updates.specs.Promise.{AddPromise, RemovePromise}
-use Rattle.updates.specs.Call.{lengths, addFault, removeFault, lengthFor as updateLengthFor}
+use Rattle.updates.specs.Call.{lengths, addFault, removeFault}
 
 -- 7 where the result words are not as many as the call has results, else what the call answers
 abbrev pub answerIn : ℕ → List ℕ → ℕ → ℕ
@@ -118,13 +116,12 @@ pub record MarksIn (c : Call) (marks work tallies result marks′ work′ tallie
   pub fills-tallies : tallies′ ≡ pick (eqb (length result) mark-words) (talliesAfter c marks work tallies) tallies
   pub fills-result : result′ ≡ wordsFor (answerIn mark-words result (marking c marks work tallies .number)) (markWords (marking c marks work tallies)) result
 
--- ---- saved words: how many
+-- ---- saved_words, schedule_length, hop_words, update_words, export_length: the length
 
-abbrev pub lengthAnswer : ℕ → ℕ → List ℕ → ℕ
-lengthAnswer n W result = answerIn 1 result (lengthFor n W .number)
-
-abbrev pub lengthWords : ℕ → ℕ → List ℕ
-lengthWords n W = lengthFor n W .words ∷ []
+-- the number answered and the result word afterwards, of a call that answers this number and this length
+pub record LengthIn (number long : ℕ) (result result′ : List ℕ) (answer : ℕ) : Type 0 where
+  pub answers : answer ≡ answerIn 1 result number
+  pub fills-result : result′ ≡ wordsFor (answerIn 1 result number) (long ∷ []) result
 
 -- ---- begin and resume: the words of mark, and the saved ones
 
@@ -145,14 +142,6 @@ BeginsIn c marks work tallies w result =
 abbrev pub ResumesIn : Call → List ℕ → List ℕ → List ℕ → List ℕ → List ℕ → List ℕ → List ℕ → List ℕ → List ℕ → List ℕ → ℕ → Type 0
 ResumesIn c marks work tallies w result =
     SavesIn c (resumeFault c (length marks) (length work) (length tallies) w) (resumed c w) marks work tallies w result
-
--- ---- schedule_length: bytes
-
-abbrev pub scheduleAnswer : ℕ → ℕ → List ℕ → ℕ
-scheduleAnswer W k result = answerIn 1 result (lengthOf W k .number)
-
-abbrev pub scheduleWords : ℕ → ℕ → List ℕ
-scheduleWords W k = lengthOf W k .bytes ∷ []
 
 -- ---- draw: the card; deal_seed: no results. The seed is two lent words.
 
@@ -188,13 +177,7 @@ pub record DealsIn (seed : List ℕ) (k W : ℕ) (schedule seed′ schedule′ :
   pub moves : seed′ ≡ wordsFor (dealAnswer seed k W (length schedule)) (seedWords (afterDraws k (seedOf seed))) seed
   pub fills-schedule : schedule′ ≡ wordsFor (dealAnswer seed k W (length schedule)) (turnsOf W (handOf k (seedOf seed))) schedule
 
--- ---- hop_words: how many words; hops: no results
-
-abbrev pub hopLengthAnswer : ℕ → List ℕ → ℕ
-hopLengthAnswer n result = answerIn 1 result (hopLengthFor n .number)
-
-abbrev pub hopLengthWords : ℕ → List ℕ → List ℕ
-hopLengthWords n result = wordsFor (hopLengthAnswer n result) (hopLengthFor n .words ∷ []) result
+-- ---- hops: no results
 
 -- the answer is the first fault; without one the hop counts are those of the graph, and beside a refusal every lent word is as it was
 pub record HopsIn (offsets targets starts hops work hops′ work′ : List ℕ) (answer : ℕ) : Type 0 where
@@ -202,13 +185,7 @@ pub record HopsIn (offsets targets starts hops work hops′ work′ : List ℕ) 
   pub counted : answer ≡ 0 → HopsOf (graph offsets targets) starts hops′
   pub unchanged : (k : ℕ) → answer ≡ suc k → (hops′ ≡ hops) × (work′ ≡ work)
 
--- ---- update_words: how many words; add, remove: no results
-
-abbrev pub updateLengthAnswer : ℕ → List ℕ → ℕ
-updateLengthAnswer n result = answerIn 1 result (updateLengthFor n .number)
-
-abbrev pub updateLengthWords : ℕ → List ℕ → List ℕ
-updateLengthWords n result = wordsFor (updateLengthAnswer n result) (updateLengthFor n .words ∷ []) result
+-- ---- add, remove: no results
 
 -- the answer is the first fault; without one the store and the marks are the definitions', and beside a refusal every lent word is as it was
 pub record AddsIn (offsets targets from to bounds places marks work bounds′ places′ marks′ work′ : List ℕ) (answer : ℕ) : Type 0 where
@@ -244,12 +221,3 @@ pub record ImportsIn (text offsets targets sizes result offsets′ targets′ si
   pub fills-sizes : sizes′ ≡ sizesAfter (importIn text offsets targets sizes result) sizes
   pub fills-result : result′ ≡ wordsFor (answerOf (importIn text offsets targets sizes result) .refusal)
       (headerWords (answerOf (importIn text offsets targets sizes result))) result
-
--- ---- export_length: bytes; export: no results
-
-abbrev pub exportLengthAnswer : List ℕ → List ℕ → List ℕ → ℕ
-exportLengthAnswer offsets targets result = answerIn 1 result (exportLengthFor offsets targets .number)
-
-abbrev pub exportLengthWords : List ℕ → List ℕ → List ℕ → List ℕ
-exportLengthWords offsets targets result =
-    wordsFor (exportLengthAnswer offsets targets result) (exportLengthFor offsets targets .bytes ∷ []) result

@@ -15,15 +15,16 @@ ghost use mathlib.Core.List.{[], _∷_};
 ghost use Prim.Native.Nat.{_≤_};
 ghost use lib.ListN.{length};
 ghost use lib.Seq.{sets};
-ghost use Rattle.cards.specs.Hand.{fault, scheduleFor, turnsOf};
+ghost use Rattle.cards.specs.Hand.{fault, scheduleFor, turnsOf, lengthOf as scheduleLength};
 ghost use Rattle.catalogue.specs.Answer.{row, foundRow, headerRow};
 ghost use Rattle.marker.specs.Answer.{callOf, row as markRow};
 ghost use Rattle.kullneyra.specs.Calls.{wordsFor, headerAnswer, headerWords, readWords, ReadsIn, partAnswer, partWords, sweepAnswer, sweepWords, sweepList, marketAnswer, ImportsIn};
-ghost use Rattle.kullneyra.specs.Calls.{mark-words, resultWords, markWords, MarksIn, BeginsIn, ResumesIn, seedWords, DrawsIn, DealsIn, HopsIn, AddsIn, RemovesIn};
-ghost use Rattle.kullneyra.specs.Calls.{lengthAnswer, lengthWords, scheduleAnswer, scheduleWords, hopLengthAnswer, hopLengthWords, updateLengthAnswer, updateLengthWords, exportLengthAnswer, exportLengthWords};
-ghost use Rattle.hops.specs.Call.{lengthRow as workRow};
+ghost use Rattle.kullneyra.specs.Calls.{LengthIn, mark-words, resultWords, markWords, MarksIn, BeginsIn, ResumesIn, seedWords, DrawsIn, DealsIn, HopsIn, AddsIn, RemovesIn};
+ghost use Rattle.resume.specs.Answer.{lengthFor as savedLength};
+ghost use Rattle.hops.specs.Call.{lengthRow as workRow, lengthFor as hopLength};
+ghost use Rattle.updates.specs.Call.{lengthFor as updateLength};
 ghost use Rattle.market.specs.Import.{headRow};
-ghost use Rattle.market.specs.Export.{exportFault, bytesAfter};
+ghost use Rattle.market.specs.Export.{exportFault, bytesAfter, lengthFor as exportLength};
 
 // Result words of the marker: finished, and the counts.
 const MARK_WORDS: usize = 1 + COUNTS;
@@ -218,21 +219,27 @@ pub extern "C" fn kullneyra_mark(
     give_marked(answer, result)
 }
 
-// How many words a saved collection takes; one result word.
-#[no_mangle]
-pub extern "C" fn kullneyra_saved_words(objects: u32, workers: u32, result: &mut [u64]) -> u32
-    ensures { λ r. ⌜ r ≡ lengthAnswer objects workers (now (result .entry)) ⌝ }
-    ensures { λ r. ⌜ now (result .exit) ≡ wordsFor (lengthAnswer objects workers (now (result .entry))) (lengthWords objects workers) (now (result .entry)) ⌝ }
+// A number as it is answered and, where it is no fault, a length in the result word.
+fn put_length(number: u32, long: u64, result: &mut [u64]) -> u32
+    ensures { λ r. ⌜ LengthIn number long (now (result .entry)) (now (result .exit)) r ⌝ }
 {
     if result.len() != 1 {
         return 7;
     }
+    if number == 0 {
+        result[0] = long;
+    }
+    number
+}
+
+// How many words a saved collection takes; one result word.
+#[no_mangle]
+pub extern "C" fn kullneyra_saved_words(objects: u32, workers: u32, result: &mut [u64]) -> u32
+    ensures { λ r. ⌜ LengthIn (savedLength objects workers .number) (savedLength objects workers .words) (now (result .entry)) (now (result .exit)) r ⌝ }
+{
     match resume::saved_length(objects, workers) {
-        Length::Words(words) => {
-            result[0] = words;
-            0
-        }
-        Length::Refused(refusal) => refusal::number_of(refusal) as u32,
+        Length::Words(words) => put_length(0, words, result),
+        Length::Refused(refusal) => put_length(refusal::number_of(refusal) as u32, 0, result),
     }
 }
 
@@ -317,18 +324,13 @@ pub extern "C" fn kullneyra_resume(
 // How many bytes the schedule of so many cards has; result words: bytes.
 #[no_mangle]
 pub extern "C" fn kullneyra_schedule_length(cards: usize, workers: u32, result: &mut [u64]) -> u32
-    ensures { λ r. ⌜ r ≡ scheduleAnswer workers cards (now (result .entry)) ⌝ }
-    ensures { λ r. ⌜ now (result .exit) ≡ wordsFor (scheduleAnswer workers cards (now (result .entry))) (scheduleWords workers cards) (now (result .entry)) ⌝ }
+    ensures { λ r. ⌜ LengthIn (scheduleLength workers cards .number) (scheduleLength workers cards .bytes) (now (result .entry)) (now (result .exit)) r ⌝ }
 {
-    if result.len() != 1 {
-        return 7;
-    }
     match cards::schedule_length(cards, workers) {
-        cards::Length::Bytes(bytes) => {
-            result[0] = bytes as u64;
-            0
+        cards::Length::Bytes(bytes) => put_length(0, bytes as u64, result),
+        cards::Length::Refused(refusal) => {
+            put_length(refusal::number_of(refusal) as u32, 0, result)
         }
-        cards::Length::Refused(refusal) => refusal::number_of(refusal) as u32,
     }
 }
 
@@ -403,28 +405,21 @@ pub extern "C" fn kullneyra_deal_seed(
 
 // A number of work words, or why there is none.
 fn give_length(found: hops::Length, result: &mut [u64]) -> u32
-    requires { ⌜ length (now result) ≡ 1 ⌝ }
-    ensures { λ r. ⌜ r ≡ workRow found .number ⌝ }
-    ensures { λ r. ⌜ now (result .exit) ≡ wordsFor (workRow found .number) (workRow found .words ∷ []) (now (result .entry)) ⌝ }
+    ensures { λ r. ⌜ LengthIn (workRow found .number) (workRow found .words) (now (result .entry)) (now (result .exit)) r ⌝ }
 {
     match found {
-        hops::Length::Words(words) => {
-            result[0] = words;
-            0
+        hops::Length::Words(words) => put_length(0, words, result),
+        hops::Length::Refused(refusal) => {
+            put_length(refusal::number_of(refusal) as u32, 0, result)
         }
-        hops::Length::Refused(refusal) => refusal::number_of(refusal) as u32,
     }
 }
 
 // How many work words the hop counts take; one result word.
 #[no_mangle]
 pub extern "C" fn kullneyra_hop_words(objects: u32, result: &mut [u64]) -> u32
-    ensures { λ r. ⌜ r ≡ hopLengthAnswer objects (now (result .entry)) ⌝ }
-    ensures { λ r. ⌜ now (result .exit) ≡ hopLengthWords objects (now (result .entry)) ⌝ }
+    ensures { λ r. ⌜ LengthIn (hopLength objects .number) (hopLength objects .words) (now (result .entry)) (now (result .exit)) r ⌝ }
 {
-    if result.len() != 1 {
-        return 7;
-    }
     give_length(hops::work_words(objects), result)
 }
 
@@ -445,12 +440,8 @@ pub extern "C" fn kullneyra_hops(
 // How many work words adding and taking out references take; result word: words.
 #[no_mangle]
 pub extern "C" fn kullneyra_update_words(objects: u32, result: &mut [u64]) -> u32
-    ensures { λ r. ⌜ r ≡ updateLengthAnswer objects (now (result .entry)) ⌝ }
-    ensures { λ r. ⌜ now (result .exit) ≡ updateLengthWords objects (now (result .entry)) ⌝ }
+    ensures { λ r. ⌜ LengthIn (updateLength objects .number) (updateLength objects .words) (now (result .entry)) (now (result .exit)) r ⌝ }
 {
-    if result.len() != 1 {
-        return 7;
-    }
     give_length(updates::work_words(objects), result)
 }
 
@@ -542,18 +533,14 @@ pub extern "C" fn kullneyra_export_length(
     targets: &[u32],
     result: &mut [u64],
 ) -> u32
-    ensures { λ r. ⌜ r ≡ exportLengthAnswer (now (offsets .entry)) (now (targets .entry)) (now (result .entry)) ⌝ }
-    ensures { λ r. ⌜ now (result .exit) ≡ exportLengthWords (now (offsets .entry)) (now (targets .entry)) (now (result .entry)) ⌝ }
+    ensures { λ r. ⌜ LengthIn (exportLength (now (offsets .entry)) (now (targets .entry)) .number) (exportLength (now (offsets .entry)) (now (targets .entry)) .bytes)
+        (now (result .entry)) (now (result .exit)) r ⌝ }
 {
-    if result.len() != 1 {
-        return 7;
-    }
     match market::export_length(offsets, targets) {
-        market::Length::Bytes(bytes) => {
-            result[0] = bytes;
-            0
+        market::Length::Bytes(bytes) => put_length(0, bytes, result),
+        market::Length::Refused(refusal) => {
+            put_length(refusal::number_of(refusal) as u32, 0, result)
         }
-        market::Length::Refused(refusal) => refusal::number_of(refusal) as u32,
     }
 }
 
