@@ -37,6 +37,7 @@ use Rattle.resume.specs.Copies.{numbersOf, Bytes}
 use Rattle.resume.specs.Restoring.{runs?, runningIn, ringFrom, Telling, progressFrom, partOf, Resumable}
 use Rattle.resume.specs.Workers.{listed, savedAt, Restorable, AllRestorable, Restored, AllRestored}
 use Rattle.resume.proofs.Numbers.{numbers-back}
+use Rattle.resume.proofs.Parts.{part-lent}
 
 -- four words are all of a worker's
 four-words : (v : Worker) (n : ℕ)
@@ -117,18 +118,20 @@ module _ {targets : List ℕ} {g : Setup} {w marks work tallies regs : List ℕ}
   pub work-is : drop (16 + 4 * g .workers + 8 * g .workers + length marks) w ≡ laidMemory (objects (x .graph)) (x .state .workers)
   work-is = rw (x .marks-long, x .run .words-are) (stretches-told shape)
 
-  -- the same behind marks that are those
-  pub work-there : {marks′ : List ℕ} → marks′ ≡ x .state .marks
+  -- the same behind marks that were taken
+  pub work-there : {marks′ : List ℕ} → marks′ ≡ partOf (16 + 4 * g .workers + 8 * g .workers) (length marks) w
       → drop (16 + 4 * g .workers + 8 * g .workers + length marks′) w ≡ laidMemory (objects (x .graph)) (x .state .workers)
   work-there e =
-      let m = ap length e ∙ S .marks-length ∙ sym (x .marks-long) in
+      let m = ap length (e ∙ marks-are) ∙ S .marks-length ∙ sym (x .marks-long) in
       ap (λ (k : ℕ). drop (16 + 4 * W + 8 * W + k) w) m ∙ work-is
 
-  pub work-room : {marks′ : List ℕ} → marks′ ≡ x .state .marks → 16 + 4 * g .workers + 8 * g .workers + length marks′ + length work ≡ length w
-  work-room e = omega (arith, long, ap length e, S .marks-length, x .work-long, ap (λ (l : ℕ). W * l) (x .stretch-is))
+  pub work-room : {marks′ : List ℕ} → marks′ ≡ partOf (16 + 4 * g .workers + 8 * g .workers) (length marks) w
+      → 16 + 4 * g .workers + 8 * g .workers + length marks′ + length work ≡ length w
+  work-room e = omega (arith, long, ap length (e ∙ marks-are), S .marks-length, x .work-long, ap (λ (l : ℕ). W * l) (x .stretch-is))
 
-  pub records-are : partOf 16 (4 * g .workers) w ≡ workersWords (x .state .workers) (x .state .rested)
-  records-are = rw (x .run .words-are) (records-told shape)
+  -- the workers' words, as they are lent
+  pub records-lent : take (16 + 4 * g .workers - 16) (drop 16 w) ≡ workersWords (x .state .workers) (x .state .rested)
+  records-lent = part-lent w 16 (4 * W) ∙ rw (x .run .words-are) (records-told shape)
 
   ring-told : ringFrom w ≡ ringOf (x .state .ring)
   unfolding savedWords laid

@@ -7,93 +7,45 @@ use Rattle.resume.proofs.Finishing.{begin-ready, begin-collects}
 use borrow.Author.Needs.{needs}
 use Rattle.resume.proofs.begin_held.Statement.{statement}
 use Rattle.resume.proofs.begin_held.Tie as tie
-use Rattle.resume.proofs.begin_held.Reads as reads
-use Rattle.resume.proofs.begin_held.Lts as lts
-use Rattle.marker.proofs.start.clear_tallies.Reads as clear-tallies-reads
-use Rattle.marker.proofs.start.start.Reads as start-reads
-use Rattle.resume.proofs.finish.Reads as finish-reads
 
--- back from the tallies to the start, and from there to the entry
+-- back from the turns to the tallies, from there to the start, and to the entry
+abbrev cleared : tie.After-finish-arg5 → tie.After-clear-tallies
+cleared c = c .before .before .before .before .before .before .before
+
 abbrev started : tie.After-clear-tallies → tie.After-start
 started c = c .before .before .before .before .before .before .before .before
 
-abbrev entry : tie.After-start → tie.Start
-entry c = c .before .before .before .before .before .before .before .before .before .before .before .before .before
+abbrev entry : tie.After-start-arg → tie.Start
+entry c = c .before .before .before .before .before .before .before .before .before .before
 
 -- a schedule is no longer than a word can say
 short : (c : tie.Start) → length (c .args .schedule .now) < 2 ^ 64
 short c = omega (arith, c .good)
 
--- src/lib.rt:173:9
-sub-start : tie.Need-sub-start
-sub-start c = search needs
-
--- src/lib.rt:173:9
-part-start-start : tie.Need-part-start-start
-part-start-start c = search needs
-
--- src/lib.rt:173:9
 part-start-end : tie.Need-part-start-end
-part-start-end c = omega (arith, first-stretch (c .before .before .before .before .before .before .before .before .before .before .pre .collectable))
+part-start-end c = omega (arith, first-stretch (entry c .pre .collectable))
 
--- src/lib.rt:167:9
 start-requires : tie.Need-start-requires
-start-requires c κs = start-ready (c .before .before .before .before .before .before .before .before .before .before .before .before .pre .collectable)
+start-requires c κs = start-ready (entry (c .before .before) .pre .collectable)
 
--- src/lib.rt:176:5
-clear-tallies-requires : tie.Need-clear-tallies-requires
-clear-tallies-requires c κs = search needs
-
--- src/lib.rt:177:5
 finish-requires : tie.Need-finish-requires
 finish-requires c κs =
-    let cleared = c .before .before .before .before .before .before .before in
-    let begun = started cleared in
-    begin-ready (entry begun .pre) (begun .start .ensures) (begun .start .kept .1 .1 .1 .1 .1 .0) (cleared .clear-tallies .ensures)
-    (short (entry begun))
+    let blank = cleared c in
+    let begun = started blank in
+    let e = entry (begun .before .before .before) in
+    begin-ready (e .pre) (begun .start .ensures) (begun .start .kept .1 .1 .1 .1 .1 .0) (blank .clear-tallies .ensures) (short e)
 
--- src/lib.rt:149:1
-same-length : tie.Need-same-length
-same-length c = search needs
-
--- src/lib.rt:149:1
-same-length-2 : tie.Need-same-length-2
-same-length-2 c = search needs
-
--- src/lib.rt:149:1
-same-length-3 : tie.Need-same-length-3
-same-length-3 c = search needs
-
--- src/lib.rt:149:1
-same-length-4 : tie.Need-same-length-4
-same-length-4 c = search needs
-
--- src/lib.rt:149:1
-same-length-5 : tie.Need-same-length-5
-same-length-5 c = search needs
-
--- src/lib.rt:149:1
 returns : tie.Need-returns
 returns c =
     let done = c .before .before .before .before .before .before .before .before .before .before in
-    let cleared = done .before .before .before .before .before .before .before .before in
-    let begun = started cleared in
-    begin-collects (entry begun .pre) (begun .start .ensures) (begun .start .kept .1 .1 .1 .1 .1 .0) (cleared .clear-tallies .ensures)
-    (short (entry begun)) (done .finish .ensures)
+    let blank = cleared (done .before) in
+    let begun = started blank in
+    let e = entry (begun .before .before .before) in
+    begin-collects (e .pre) (begun .start .ensures) (begun .start .kept .1 .1 .1 .1 .1 .0) (blank .clear-tallies .ensures) (short e)
+    (done .finish .ensures)
 
 pub begin-held-spec : {M : Type 1} → statement M
 begin-held-spec =
     tie.close
-    (tie.spec
-    sub-start
-    part-start-start
-    part-start-end
-    start-requires
-    clear-tallies-requires
-    finish-requires
-    same-length
-    same-length-2
-    same-length-3
-    same-length-4
-    same-length-5
-    returns)
+    (tie.spec (λ c. search needs) (λ c. search needs) part-start-end start-requires (λ c κs. search needs) finish-requires
+    (λ c. search needs) (λ c. search needs) (λ c. search needs) (λ c. search needs) (λ c. search needs) returns)

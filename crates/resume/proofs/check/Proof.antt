@@ -6,20 +6,7 @@ use Rattle.resume.proofs.Checking.{chosen-none, chosen-all, checked-as}
 use borrow.Author.Needs.{needs}
 use Rattle.resume.proofs.check.Statement.{statement}
 use Rattle.resume.proofs.check.Tie as tie
-use Rattle.resume.proofs.check.Reads as reads
-use Rattle.resume.proofs.check.Lts as lts
-use Rattle.marker.proofs.check.Reads as check-reads
-use Rattle.resume.proofs.fits.Reads as fits-reads
 
--- src/lib.rt:95:9
-fits-requires : tie.Need-fits-requires
-fits-requires c κs = search needs
-
--- src/lib.rt:98:5
-check-requires : tie.Need-check-requires
-check-requires c κs = search needs
-
--- src/lib.rt:79:1
 returns : tie.Need-returns
 returns c =
     let joined = c .before in
@@ -34,4 +21,5 @@ returns c =
     checked-as call (a .marks) (a .work) (a .tallies) (a .saved) many (c .check .ensures .number-is)
 
 pub check-spec : {M : Type 1} → statement M
-check-spec = tie.close (tie.spec fits-requires check-requires returns)
+check-spec = tie.close
+    (tie.spec (λ c κs. search needs) (λ c κs. search needs) returns)

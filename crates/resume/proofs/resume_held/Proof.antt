@@ -6,10 +6,10 @@ use Rattle.resume.proofs.Finishing.{resume-ready, resume-collects}
 use borrow.Author.Needs.{needs}
 use Rattle.resume.proofs.resume_held.Statement.{statement}
 use Rattle.resume.proofs.resume_held.Tie as tie
-use Rattle.resume.proofs.resume_held.Reads as reads
-use Rattle.resume.proofs.resume_held.Lts as lts
-use Rattle.resume.proofs.finish.Reads as finish-reads
-use Rattle.resume.proofs.restore.restore.Reads as restore-reads
+
+-- back from the turns to the words taken up, and from there to the entry
+abbrev taken : tie.After-finish-arg5 → tie.After-restore
+taken c = c .before .before .before .before .before .before .before .before .before .before .before .before .before
 
 abbrev entry : tie.After-restore → tie.Start
 entry c = c .before .before .before .before .before .before .before .before .before .before .before .before .before .before
@@ -18,52 +18,20 @@ entry c = c .before .before .before .before .before .before .before .before .bef
 short : (c : tie.Start) → length (c .args .schedule .now) < 2 ^ 64
 short c = omega (arith, c .good)
 
--- src/lib.rt:207:9
-restore-requires : tie.Need-restore-requires
-restore-requires c κs = search needs
-
--- src/lib.rt:208:5
 finish-requires : tie.Need-finish-requires
 finish-requires c κs =
-    let taken = c .before .before .before .before .before .before .before .before .before .before .before .before .before in resume-ready (entry taken .pre) (short (entry taken)) (taken .restore .ensures)
+    let t = taken c in
+    resume-ready (entry t .pre) (short (entry t)) (t .restore .ensures)
 
--- src/lib.rt:192:1
-same-length : tie.Need-same-length
-same-length c = search needs
-
--- src/lib.rt:192:1
-same-length-2 : tie.Need-same-length-2
-same-length-2 c = search needs
-
--- src/lib.rt:192:1
-same-length-3 : tie.Need-same-length-3
-same-length-3 c = search needs
-
--- src/lib.rt:192:1
-same-length-4 : tie.Need-same-length-4
-same-length-4 c = search needs
-
--- src/lib.rt:192:1
-same-length-5 : tie.Need-same-length-5
-same-length-5 c = search needs
-
--- src/lib.rt:192:1
 returns : tie.Need-returns
 returns c =
     λ y.
     let done = c .before .before .before .before .before .before .before .before .before .before in
-    let taken = done .before .before .before .before .before .before .before .before .before .before .before .before .before .before in
-    resume-collects y (short (entry taken)) (taken .restore .ensures) (done .finish .ensures)
+    let t = taken (done .before) in
+    resume-collects y (short (entry t)) (t .restore .ensures) (done .finish .ensures)
 
 pub resume-held-spec : {M : Type 1} → statement M
 resume-held-spec =
     tie.close
-    (tie.spec
-    restore-requires
-    finish-requires
-    same-length
-    same-length-2
-    same-length-3
-    same-length-4
-    same-length-5
-    returns)
+    (tie.spec (λ c κs. search needs) finish-requires (λ c. search needs) (λ c. search needs) (λ c. search needs) (λ c. search needs)
+    (λ c. search needs) returns)

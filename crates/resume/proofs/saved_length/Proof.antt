@@ -3,33 +3,21 @@ use mathlib.Core.Path.{refl}
 use borrow.Author.Needs.{needs}
 use Rattle.resume.proofs.saved_length.Statement.{statement}
 use Rattle.resume.proofs.saved_length.Tie as tie
-use Rattle.resume.proofs.saved_length.Reads as reads
-use Rattle.resume.proofs.saved_length.Lts as lts
-use Rattle.resume.proofs.words_for.Reads as words-for-reads
 
--- src/lib.rt:46:9
 returns : tie.Need-returns
 returns c = rw (lt-ltb _ _ (c .if1 .taken)) refl
 
--- src/lib.rt:49:9
 returns-2 : tie.Need-returns-2
 returns-2 c = rw (le-ltb _ _ (c .before .if1 .left), lt-ltb _ _ (c .if2 .taken)) refl
 
--- src/lib.rt:52:9
 returns-3 : tie.Need-returns-3
 returns-3 c = rw (le-ltb _ _ (c .before .before .if1 .left), le-ltb _ _ (c .before .if2 .left), lt-ltb _ _ (c .if3 .taken)) refl
 
--- src/lib.rt:55:9
 returns-4 : tie.Need-returns-4
 returns-4 c =
     let l = c .before in
     rw (le-ltb _ _ (l .before .before .if1 .left), le-ltb _ _ (l .before .if2 .left), le-ltb _ _ (l .if3 .left), lt-ltb _ _ (c .if4 .taken)) refl
 
--- src/lib.rt:57:19
-words-for-requires : tie.Need-words-for-requires
-words-for-requires c κs = search needs
-
--- src/lib.rt:42:1
 returns-5 : tie.Need-returns-5
 returns-5 c =
     let l = c .before in
@@ -38,4 +26,5 @@ returns-5 c =
 
 pub saved-length-spec : {M : Type 1} → statement M
 saved-length-spec =
-    tie.close (tie.spec returns returns-2 returns-3 returns-4 words-for-requires returns-5)
+    tie.close
+    (tie.spec returns returns-2 returns-3 returns-4 (λ c κs. search needs) returns-5)

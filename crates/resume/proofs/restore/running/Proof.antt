@@ -6,9 +6,6 @@ use Rattle.resume.specs.Restoring.{runningIn}
 use Rattle.resume.proofs.Running.{Counting, counting-none, counting-next}
 use Rattle.resume.proofs.restore.running.Statement.{statement}
 use Rattle.resume.proofs.restore.running.Tie as tie
-use Rattle.resume.proofs.restore.running.Reads as reads
-use Rattle.resume.proofs.restore.running.Lts as lts
-use Rattle.resume.proofs.restore.runs.Reads as runs-reads
 
 abbrev Inv-loop : tie.InvT-loop
 Inv-loop words workers count₀ b₀ count b = Counting words b count × (b ≤ workers)
@@ -16,49 +13,26 @@ Inv-loop words workers count₀ b₀ count b = Counting words b count × (b ≤ 
 abbrev μ-loop : tie.MeasureT-loop
 μ-loop words workers count₀ b₀ count b = workers - b
 
--- src/restore.rt:31:5
 loop-holds : tie.Need-loop-holds Inv-loop μ-loop
 loop-holds c = (counting-none _, omega arith)
 
--- src/restore.rt:32:33
-cast-runs : tie.Need-cast-runs Inv-loop μ-loop
-cast-runs c = omega arith
-
--- src/restore.rt:32:29
 mul-runs : tie.Need-mul-runs Inv-loop μ-loop
 mul-runs c = omega (arith, c .before .before .before .pre .1)
 
--- src/restore.rt:32:23
 mul-runs-2 : tie.Need-mul-runs-2 Inv-loop μ-loop
 mul-runs-2 c = omega (arith, c .before .before .before .pre .1)
 
--- src/restore.rt:32:23
 shared-slice-read-runs : tie.Need-shared-slice-read-runs Inv-loop μ-loop
 shared-slice-read-runs c = omega (arith, c .before .before .before .before .pre .0)
 
--- src/restore.rt:32:18
-runs-requires : tie.Need-runs-requires Inv-loop μ-loop
-runs-requires c κs = omega arith
-
--- src/restore.rt:32:9
 add-count : tie.Need-add-count Inv-loop μ-loop
 add-count c =
     let l = c .before .before .before in omega (arith, l .loop .inv .0 .few, c .runs .ensures .1, l .before .before .pre .1)
 
--- src/restore.rt:31:9
-add-b : tie.Need-add-b Inv-loop μ-loop
-add-b c = omega arith
-
--- src/restore.rt:31:5
-loop-less : tie.Need-loop-less Inv-loop μ-loop
-loop-less c = omega arith
-
--- src/restore.rt:31:5
 loop-again : tie.Need-loop-again Inv-loop μ-loop
 loop-again c =
     let l = c .before .before .before in (counting-next (l .loop .inv .0) (c .runs .ensures), omega arith)
 
--- src/restore.rt:26:1
 returns : tie.Need-returns Inv-loop μ-loop
 returns c =
     let l = c .before .loop in
@@ -68,17 +42,5 @@ returns c =
 pub running-spec : {M : Type 1} → statement M
 running-spec =
     tie.close
-    (tie.spec
-    Inv-loop
-    μ-loop
-    loop-holds
-    cast-runs
-    mul-runs
-    mul-runs-2
-    shared-slice-read-runs
-    runs-requires
-    add-count
-    add-b
-    loop-less
-    loop-again
-    returns)
+    (tie.spec Inv-loop μ-loop loop-holds (λ c. omega arith) mul-runs mul-runs-2 shared-slice-read-runs (λ c κs. omega arith) add-count
+    (λ c. omega arith) (λ c. omega arith) loop-again returns)

@@ -3,16 +3,13 @@ use native.Mathlib.Omega.{arith}
 use borrow.Author.Tests.{eq-eqb, ne-eqb}
 use Rattle.resume.proofs.restore.runs.Statement.{statement}
 use Rattle.resume.proofs.restore.runs.Tie as tie
-use Rattle.resume.proofs.restore.runs.Reads as reads
-use Rattle.resume.proofs.restore.runs.Lts as lts
 
--- src/restore.rt:20:9
 returns : tie.Need-returns
 returns c = (rw (eq-eqb _ _ (c .if1 .taken)) refl, omega arith)
 
--- src/restore.rt:16:1
 returns-2 : tie.Need-returns-2
 returns-2 c = (rw (ne-eqb _ _ (c .if1 .left)) refl, omega arith)
 
 pub runs-spec : {M : Type 1} → statement M
-runs-spec = tie.close (tie.spec returns returns-2)
+runs-spec = tie.close
+    (tie.spec returns returns-2)

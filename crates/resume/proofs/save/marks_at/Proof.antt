@@ -6,39 +6,7 @@ use Rattle.resume.proofs.Saving.{lent-back}
 use borrow.Author.Needs.{needs}
 use Rattle.resume.proofs.save.marks_at.Statement.{statement}
 use Rattle.resume.proofs.save.marks_at.Tie as tie
-use Rattle.resume.proofs.save.marks_at.Reads as reads
-use Rattle.resume.proofs.save.marks_at.Lts as lts
-use Rattle.resume.proofs.words.put_bytes.Reads as put-bytes-reads
 
--- src/save.rt:36:15
-add-end : tie.Need-add-end
-add-end c = search needs
-
--- src/save.rt:37:29
-mul-put-bytes : tie.Need-mul-put-bytes
-mul-put-bytes c = search needs
-
--- src/save.rt:37:29
-sub-put-bytes : tie.Need-sub-put-bytes
-sub-put-bytes c = search needs
-
--- src/save.rt:37:29
-part-put-bytes-start : tie.Need-part-put-bytes-start
-part-put-bytes-start c = search needs
-
--- src/save.rt:37:29
-part-put-bytes-end : tie.Need-part-put-bytes-end
-part-put-bytes-end c = search needs
-
--- src/save.rt:37:5
-put-bytes-requires : tie.Need-put-bytes-requires
-put-bytes-requires c κs = search needs
-
--- src/save.rt:32:1
-same-length : tie.Need-same-length
-same-length c = search needs
-
--- src/save.rt:32:1
 returns : tie.Need-returns
 returns c =
     let start = c .before .before .before .before .before .before in
@@ -48,12 +16,5 @@ returns c =
 pub marks-at-spec : {M : Type 1} → statement M
 marks-at-spec =
     tie.close
-    (tie.spec
-    add-end
-    mul-put-bytes
-    sub-put-bytes
-    part-put-bytes-start
-    part-put-bytes-end
-    put-bytes-requires
-    same-length
-    returns)
+    (tie.spec (λ c. search needs) (λ c. search needs) (λ c. search needs) (λ c. search needs) (λ c. search needs) (λ c κs. search needs)
+    (λ c. search needs) returns)

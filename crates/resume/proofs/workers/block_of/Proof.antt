@@ -5,19 +5,13 @@ use native.Mathlib.Omega.{arith}
 use Rattle.resume.proofs.Restoring.{light, measurable, loaded, words-are, top-fits, first-low, batch-low, sum-fits, heavy}
 use Rattle.resume.proofs.workers.block_of.Statement.{statement}
 use Rattle.resume.proofs.workers.block_of.Tie as tie
-use Rattle.resume.proofs.workers.block_of.Reads as reads
-use Rattle.resume.proofs.workers.block_of.Lts as lts
-use Rattle.resume.proofs.workers.measure.Reads as measure-reads
 
--- src/workers.rt:96:9
 returns : tie.Need-returns
 returns c = λ G u n x. light x (c .if1 .taken) _ refl refl
 
--- src/workers.rt:108:9
 measure-requires : tie.Need-measure-requires
 measure-requires c κs = measurable (c .before .before .before .pre .is)
 
--- src/workers.rt:109:16
 sub-used : tie.Need-sub-used
 sub-used c =
     let m = c .before in
@@ -25,15 +19,6 @@ sub-used c =
     let l = loaded x (m .before .if1 .left) in
     omega (arith, words-are x l (m .measure .ensures))
 
--- src/workers.rt:110:14
-cast-at : tie.Need-cast-at
-cast-at c = search needs
-
--- src/workers.rt:111:17
-mul-first : tie.Need-mul-first
-mul-first c = search needs
-
--- src/workers.rt:111:17
 shared-slice-read-first : tie.Need-shared-slice-read-first
 shared-slice-read-first c =
     let m = c .before .before in
@@ -41,7 +26,6 @@ shared-slice-read-first c =
     let l = loaded x (m .before .if1 .left) in
     omega (arith, words-are x l (m .measure .ensures), top-fits x l (m .measure .ensures))
 
--- src/workers.rt:116:16
 add-t12 : tie.Need-add-t12
 add-t12 c =
     let m = c .before .before .before in
@@ -49,7 +33,6 @@ add-t12 c =
     let l = loaded x (m .before .if1 .left) in
     record { fits = sum-fits x l (m .measure .ensures) (omega arith) }
 
--- src/workers.rt:117:18
 sub-t13 : tie.Need-sub-t13
 sub-t13 c =
     let m = c .before .before .before .before .before in
@@ -57,15 +40,6 @@ sub-t13 c =
     let l = loaded x (m .before .if1 .left) in
     batch-low x l (m .measure .ensures)
 
--- src/workers.rt:120:16
-add-t10 : tie.Need-add-t10
-add-t10 c = search needs
-
--- src/workers.rt:120:14
-mul-t14 : tie.Need-mul-t14
-mul-t14 c = search needs
-
--- src/workers.rt:120:14
 shared-slice-read-t16 : tie.Need-shared-slice-read-t16
 shared-slice-read-t16 c =
     let m = c .before .before .before .before .before .before in
@@ -73,7 +47,6 @@ shared-slice-read-t16 c =
     let l = loaded x (m .before .if1 .left) in
     omega (arith, words-are x l (m .measure .ensures), top-fits x l (m .measure .ensures))
 
--- src/workers.rt:121:25
 cast-t17 : tie.Need-cast-t17
 cast-t17 c =
     let m = c .before .before .before .before .before .before in
@@ -81,7 +54,6 @@ cast-t17 c =
     let l = loaded x (m .before .if1 .left) in
     omega (arith, first-low x l (m .measure .ensures))
 
--- src/workers.rt:121:17
 mul-t18 : tie.Need-mul-t18
 mul-t18 c =
     let m = c .before .before .before .before .before .before in
@@ -89,7 +61,6 @@ mul-t18 c =
     let l = loaded x (m .before .if1 .left) in
     omega (arith, first-low x l (m .measure .ensures))
 
--- src/workers.rt:121:17
 shared-slice-read-t20 : tie.Need-shared-slice-read-t20
 shared-slice-read-t20 c =
     let m = c .before .before .before .before .before .before .before in
@@ -97,7 +68,6 @@ shared-slice-read-t20 c =
     let l = loaded x (m .before .if1 .left) in
     first-low x l (m .measure .ensures)
 
--- src/workers.rt:90:1
 returns-2 : tie.Need-returns-2
 returns-2 c =
     λ G u n x.
@@ -106,19 +76,5 @@ returns-2 c =
 pub block-of-spec : {M : Type 1} → statement M
 block-of-spec =
     tie.close
-    (tie.spec
-    returns
-    measure-requires
-    sub-used
-    cast-at
-    mul-first
-    shared-slice-read-first
-    add-t12
-    sub-t13
-    add-t10
-    mul-t14
-    shared-slice-read-t16
-    cast-t17
-    mul-t18
-    shared-slice-read-t20
-    returns-2)
+    (tie.spec returns measure-requires sub-used (λ c. search needs) (λ c. search needs) shared-slice-read-first add-t12 sub-t13
+    (λ c. search needs) (λ c. search needs) shared-slice-read-t16 cast-t17 mul-t18 shared-slice-read-t20 returns-2)

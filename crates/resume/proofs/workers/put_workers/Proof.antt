@@ -8,10 +8,6 @@ use Rattle.resume.specs.Workers.{wordsOf, Recorded}
 use Rattle.resume.proofs.Records.{Putting, putting-none, putting-next, putting-all}
 use Rattle.resume.proofs.workers.put_workers.Statement.{statement}
 use Rattle.resume.proofs.workers.put_workers.Tie as tie
-use Rattle.resume.proofs.workers.put_workers.Reads as reads
-use Rattle.resume.proofs.workers.put_workers.Lts as lts
-use Rattle.resume.proofs.workers.saved_of.Reads as saved-of-reads
-use Rattle.worker.proofs.registers.load.Reads as load-reads
 
 abbrev Inv-loop : tie.InvT-loop
 Inv-loop regs workers out₀ b₀ out b = ((x : Recorded regs workers) → Putting x b out) × (length out ≡ 4 * workers)
@@ -19,83 +15,58 @@ Inv-loop regs workers out₀ b₀ out b = ((x : Recorded regs workers) → Putti
 abbrev μ-loop : tie.MeasureT-loop
 μ-loop regs workers out₀ b₀ out b = workers - b
 
--- src/workers.rt:48:5
 loop-holds : tie.Need-loop-holds Inv-loop μ-loop
 loop-holds c = let a = c .before .before in ((λ x. putting-none x (a .pre .1)), a .pre .1)
 
--- src/workers.rt:49:26
 load-requires : tie.Need-load-requires Inv-loop μ-loop
 load-requires c κs =
     let a = c .before .before .before .before in
     record { low = omega (arith, a .pre .0 .few); long = omega (arith, a .pre .0 .regs-long) }
 
--- src/workers.rt:49:13
 saved-of-requires : tie.Need-saved-of-requires Inv-loop μ-loop
 saved-of-requires c κs =
     let a = c .before .before .before .before .before in
     rw (c .load .ensures) (a .pre .0 .order (c .before .before .loop .b) (omega arith))
 
--- src/workers.rt:50:22
 cast-at : tie.Need-cast-at Inv-loop μ-loop
 cast-at c = omega (arith, c .before .before .before .before .before .before .pre .0 .few)
 
--- src/workers.rt:50:18
 mul-at : tie.Need-mul-at Inv-loop μ-loop
 mul-at c = omega (arith, c .before .before .before .before .before .before .pre .0 .few)
 
--- src/workers.rt:51:9
 mul-out : tie.Need-mul-out Inv-loop μ-loop
 mul-out c = omega (arith, c .before .before .before .before .before .before .pre .0 .few)
 
--- src/workers.rt:51:9
-slice-write-out : tie.Need-slice-write-out Inv-loop μ-loop
-slice-write-out c = omega arith
-
--- src/workers.rt:52:13
 add-out : tie.Need-add-out Inv-loop μ-loop
 add-out c = omega (arith, c .before .before .before .before .before .before .pre .0 .few)
 
--- src/workers.rt:52:9
 mul-out-2 : tie.Need-mul-out-2 Inv-loop μ-loop
 mul-out-2 c = omega (arith, c .before .before .before .before .before .before .pre .0 .few)
 
--- src/workers.rt:52:9
 slice-write-out-2 : tie.Need-slice-write-out-2 Inv-loop μ-loop
 slice-write-out-2 c = simp length-set (omega arith)
 
--- src/workers.rt:53:13
 add-out-2 : tie.Need-add-out-2 Inv-loop μ-loop
 add-out-2 c = omega (arith, c .before .before .before .before .before .before .pre .0 .few)
 
--- src/workers.rt:53:9
 mul-out-3 : tie.Need-mul-out-3 Inv-loop μ-loop
 mul-out-3 c = omega (arith, c .before .before .before .before .before .before .pre .0 .few)
 
--- src/workers.rt:53:9
 slice-write-out-3 : tie.Need-slice-write-out-3 Inv-loop μ-loop
 slice-write-out-3 c = simp length-set (omega arith)
 
--- src/workers.rt:54:13
 add-out-3 : tie.Need-add-out-3 Inv-loop μ-loop
 add-out-3 c = omega (arith, c .before .before .before .before .before .before .pre .0 .few)
 
--- src/workers.rt:54:9
 mul-out-4 : tie.Need-mul-out-4 Inv-loop μ-loop
 mul-out-4 c = omega (arith, c .before .before .before .before .before .before .pre .0 .few)
 
--- src/workers.rt:54:9
 slice-write-out-4 : tie.Need-slice-write-out-4 Inv-loop μ-loop
 slice-write-out-4 c = simp length-set (omega arith)
 
--- src/workers.rt:48:9
 add-b : tie.Need-add-b Inv-loop μ-loop
 add-b c = omega (arith, c .before .before .before .before .before .before .pre .0 .few)
 
--- src/workers.rt:48:5
-loop-less : tie.Need-loop-less Inv-loop μ-loop
-loop-less c = omega arith
-
--- src/workers.rt:48:5
 loop-again : tie.Need-loop-again Inv-loop μ-loop
 loop-again c =
     let l = c .before .before .before in (
@@ -103,38 +74,15 @@ loop-again c =
       simp length-set (l .loop .inv .1),
     )
 
--- src/workers.rt:44:1
 same-length : tie.Need-same-length Inv-loop μ-loop
 same-length c = omega (arith, c .before .loop .inv .1, c .before .before .before .before .pre .1)
 
--- src/workers.rt:44:1
 returns : tie.Need-returns Inv-loop μ-loop
 returns c = λ x. putting-all x (c .before .loop .inv .0 x) (omega arith)
 
 pub put-workers-spec : {M : Type 1} → statement M
 put-workers-spec =
     tie.close
-    (tie.spec
-    Inv-loop
-    μ-loop
-    loop-holds
-    load-requires
-    saved-of-requires
-    cast-at
-    mul-at
-    mul-out
-    slice-write-out
-    add-out
-    mul-out-2
-    slice-write-out-2
-    add-out-2
-    mul-out-3
-    slice-write-out-3
-    add-out-3
-    mul-out-4
-    slice-write-out-4
-    add-b
-    loop-less
-    loop-again
-    same-length
-    returns)
+    (tie.spec Inv-loop μ-loop loop-holds load-requires saved-of-requires cast-at mul-at mul-out (λ c. omega arith) add-out mul-out-2
+    slice-write-out-2 add-out-2 mul-out-3 slice-write-out-3 add-out-3 mul-out-4 slice-write-out-4 add-b (λ c. omega arith) loop-again
+    same-length returns)

@@ -3,20 +3,16 @@ use native.Mathlib.Omega.{arith}
 use borrow.Author.Tests.{lt-ltb, le-ltb}
 use Rattle.resume.proofs.workers.saved_of.Statement.{statement}
 use Rattle.resume.proofs.workers.saved_of.Tie as tie
-use Rattle.resume.proofs.workers.saved_of.Reads as reads
-use Rattle.resume.proofs.workers.saved_of.Lts as lts
 
--- src/workers.rt:28:9
 returns : tie.Need-returns
 returns c = simp (lt-ltb _ _ (c .if1 .taken))
 
--- src/workers.rt:38:16
 sub-t4 : tie.Need-sub-t4
 sub-t4 c = omega (arith, c .before .before .pre (c .before .if1 .left))
 
--- src/workers.rt:22:1
 returns-2 : tie.Need-returns-2
 returns-2 c = simp (le-ltb _ _ (c .before .if1 .left))
 
 pub saved-of-spec : {M : Type 1} → statement M
-saved-of-spec = tie.close (tie.spec returns sub-t4 returns-2)
+saved-of-spec = tie.close
+    (tie.spec returns sub-t4 returns-2)

@@ -7,11 +7,6 @@ use Rattle.resume.specs.Workers.{AllRestorable}
 use Rattle.resume.proofs.Restoring.{Taking, part-room, part-small, taking-none, one-restorable, one-restored, taking-all}
 use Rattle.resume.proofs.workers.take_workers.Statement.{statement}
 use Rattle.resume.proofs.workers.take_workers.Tie as tie
-use Rattle.resume.proofs.workers.take_workers.Reads as reads
-use Rattle.resume.proofs.workers.take_workers.Lts as lts
-use Rattle.resume.proofs.workers.block_of.Reads as block-of-reads
-use Rattle.resume.proofs.workers.saved_at.Reads as saved-at-reads
-use Rattle.worker.proofs.registers.store.Reads as store-reads
 
 abbrev Inv-loop : tie.InvT-loop
 Inv-loop targets words stretches workers len regs₀ b₀ regs b = (b ≤ workers) × ((x : AllRestorable targets words stretches regs₀ workers len) → Taking x b regs) × (length regs ≡ length regs₀)
@@ -19,83 +14,57 @@ Inv-loop targets words stretches workers len regs₀ b₀ regs b = (b ≤ worker
 abbrev μ-loop : tie.MeasureT-loop
 μ-loop targets words stretches workers len regs₀ b₀ regs b = workers - b
 
--- src/workers.rt:152:5
 loop-holds : tie.Need-loop-holds Inv-loop μ-loop
 loop-holds c = (omega arith, (λ x. taking-none x), refl)
 
--- src/workers.rt:153:13
 saved-at-requires : tie.Need-saved-at-requires Inv-loop μ-loop
 saved-at-requires c κs =
     let l = c .before in
     let x = l .before .before .before .before .before .pre in
     (omega (arith, x .words-long), omega (arith, x .few))
 
--- src/workers.rt:154:20
-cast-from : tie.Need-cast-from Inv-loop μ-loop
-cast-from c = omega arith
-
--- src/workers.rt:154:20
 mul-from : tie.Need-mul-from Inv-loop μ-loop
 mul-from c =
     let l = c .before .before in
     let x = l .before .before .before .before .before .pre in
     omega (arith, part-small x {k = l .loop .b} (omega arith))
 
--- src/workers.rt:155:52
 add-block-of : tie.Need-add-block-of Inv-loop μ-loop
 add-block-of c =
     let l = c .before .before in
     let x = l .before .before .before .before .before .pre in
     omega (arith, part-small x {k = l .loop .b} (omega arith))
 
--- src/workers.rt:155:35
 mul-block-of : tie.Need-mul-block-of Inv-loop μ-loop
 mul-block-of c =
     let l = c .before .before in
     let x = l .before .before .before .before .before .pre in
     omega (arith, part-small x {k = l .loop .b} (omega arith))
 
--- src/workers.rt:155:35
-sub-block-of : tie.Need-sub-block-of Inv-loop μ-loop
-sub-block-of c = omega arith
-
--- src/workers.rt:155:35
-part-block-of-start : tie.Need-part-block-of-start Inv-loop μ-loop
-part-block-of-start c = omega arith
-
--- src/workers.rt:155:35
 part-block-of-end : tie.Need-part-block-of-end Inv-loop μ-loop
 part-block-of-end c =
     let l = c .before .before in
     let x = l .before .before .before .before .before .pre in
     omega (arith, part-room x {k = l .loop .b} (omega arith))
 
--- src/workers.rt:155:13
 block-of-requires : tie.Need-block-of-requires Inv-loop μ-loop
 block-of-requires c κs =
     let l = c .before .before .before in
     let x = l .before .before .before .before .before .pre in
     one-restorable x (omega arith) refl (c .before .saved-at .ensures)
 
--- src/workers.rt:156:9
 store-requires : tie.Need-store-requires Inv-loop μ-loop
 store-requires c κs =
     let l = c .before .before .before .before .before in
     let x = l .before .before .before .before .before .pre in
     record { low = omega (arith, x .few); long = omega (arith, x .regs-long, l .loop .inv .2) }
 
--- src/workers.rt:152:9
 add-b : tie.Need-add-b Inv-loop μ-loop
 add-b c =
     let l = c .before .before .before .before .before .before .before .before in
     let x = l .before .before .before .before .before .pre in
     omega (arith, x .few)
 
--- src/workers.rt:152:5
-loop-less : tie.Need-loop-less Inv-loop μ-loop
-loop-less c = omega arith
-
--- src/workers.rt:152:5
 loop-again : tie.Need-loop-again Inv-loop μ-loop
 loop-again c =
     let stored = c .before .before in
@@ -111,33 +80,14 @@ loop-again c =
       one-restored x (omega arith) refl told (made .block-of .result) (made .block-of .ensures) (l .inv .1 x) put .long,
     )
 
--- src/workers.rt:141:1
 same-length : tie.Need-same-length Inv-loop μ-loop
 same-length c = c .before .loop .inv .2
 
--- src/workers.rt:141:1
 returns : tie.Need-returns Inv-loop μ-loop
 returns c = record { long = c .before .loop .inv .2; done = λ x. taking-all x (c .before .loop .inv .1 x) (omega arith) }
 
 pub take-workers-spec : {M : Type 1} → statement M
 take-workers-spec =
     tie.close
-    (tie.spec
-    Inv-loop
-    μ-loop
-    loop-holds
-    saved-at-requires
-    cast-from
-    mul-from
-    add-block-of
-    mul-block-of
-    sub-block-of
-    part-block-of-start
-    part-block-of-end
-    block-of-requires
-    store-requires
-    add-b
-    loop-less
-    loop-again
-    same-length
-    returns)
+    (tie.spec Inv-loop μ-loop loop-holds saved-at-requires (λ c. omega arith) mul-from add-block-of mul-block-of (λ c. omega arith)
+    (λ c. omega arith) part-block-of-end block-of-requires store-requires add-b (λ c. omega arith) loop-again same-length returns)
