@@ -1,24 +1,22 @@
 -- From what the checks find to the promises of the two calls.
 use mathlib.Core.Path.{_≡_, refl, ap, sym, _∙_, subst}
-use mathlib.Core.Bool.{Bool, true, false, not}
+use mathlib.Core.Bool.{Bool, true, false}
 use mathlib.Core.List.{List, _++_}
-use mathlib.Core.Logic.{_⊎_, inl, inr, ⊎-elim, _↔_}
-use Prim.Native.Nat.{ℕ, zero, suc, _*_, _≤_, _<_}
+use mathlib.Core.Logic.{_⊎_, ⊎-elim}
+use Prim.Native.Nat.{ℕ, zero, suc, _*_, _<_}
 use native.Mathlib.Omega.{arith}
 use lib.ListN.{length, take, replicate}
 use borrow.Author.Tests.{not-false}
 use Rattle.laws.specs.Decides.{Decides}
 use Rattle.laws.proofs.Test.{tested}
 use Rattle.refusal.specs.declared.Refusal.{Refusal}
-use Rattle.refusal.specs.declared.Refusal.the-variants.{Saved}
 use Rattle.refusal.specs.declared.Verdict.{Verdict}
 use Rattle.refusal.specs.declared.Verdict.the-variants.{Fine, Faulty}
 use Rattle.refusal.specs.Number.{number, numberOf}
-use Rattle.refusal.specs.Order.{raise, first}
+use Rattle.refusal.specs.Order.{first}
 use Rattle.refusal.proofs.None.{raise-none}
 use Rattle.refusal.proofs.Numbers.{numbered, when-fine, when-faulty}
 use Rattle.graph.specs.Graph.{objects}
-use Rattle.graph.specs.Chain.{Reach}
 use Rattle.machine.specs.Row.{Row, refusedRow}
 use Rattle.machine.specs.Machine.{State, Entry, entries}
 use Rattle.machine.specs.Sound as state
@@ -28,17 +26,15 @@ use Rattle.machine.specs.Call.{Call, graphOf, settingOf, final}
 use Rattle.machine.proofs.Accept.{Checked, checked}
 use Rattle.marker.specs.declared.Marked.{Marked}
 use Rattle.marker.specs.declared.Marked.the-variants.{Refused}
-use Rattle.marker.specs.Answer.{row}
 use Rattle.marker.specs.Stages.{setupOf, Faultless}
 use Rattle.marker.proofs.Stages.{collectable, registers-long}
-use Rattle.saved.specs.Layout.{savedWords, savedLength, stateOf}
+use Rattle.saved.specs.Layout.{savedLength, stateOf}
 use Rattle.saved.specs.Sound.{SavedRun}
 use Rattle.saved.specs.Test.{saved?}
-use Rattle.saved.specs.Calls.{beginFault, savedFault, resumeFault, resumed, rowFor, bufferFor, Afresh}
-use Rattle.saved.proofs.Kept.{from-saved, to-saved, run-told, fresh-run}
+use Rattle.saved.specs.Calls.{beginFault, savedFault, resumeFault, resumed}
+use Rattle.saved.proofs.Kept.{from-saved, to-saved, fresh-run}
 use Rattle.saved.proofs.Joined.{afresh, resumed-afresh, sound-finished}
 use Rattle.validate.specs.Checked as validated
-use Rattle.resume.specs.Restoring.{Resumable}
 use Rattle.resume.specs.Answer.{Collects, Beginning, Resuming, BeginFaultless, ResumeFaultless, Answers, Begun, Continued}
 use Rattle.resume.proofs.Checking.{begin-none, starts-few}
 

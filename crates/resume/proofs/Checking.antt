@@ -2,14 +2,13 @@
 -- marks; and what they establish.
 use mathlib.Core.Path.{_≡_, refl, ap, sym, _∙_}
 use mathlib.Core.Bool.{Bool, true, false, not, _||_}
-use mathlib.Core.List.{List}
-use Prim.Native.Nat.{ℕ, zero, suc, _+_, _-_, _*_, _≤_, _<_, _^_}
+use Prim.Native.Nat.{ℕ, zero, suc, _-_, _*_, _≤_}
 use native.Mathlib.Omega.{arith}
 use lib.ListN.{length}
 use lib.Dec.{ltb, eqb}
 use borrow.Author.Tests.{ltb-false, eqb-true, not-false, ne-eqb}
 use Rattle.laws.specs.Choice.{pick}
-use Rattle.refusal.specs.Order.{raise, first}
+use Rattle.refusal.specs.Order.{first}
 use Rattle.refusal.proofs.None.{raise-none, first-none, or-none}
 use Rattle.graph.specs.Graph.{objects}
 use Rattle.graph.specs.Limits.{most-objects, most-references, most-starts}

@@ -1,18 +1,17 @@
 -- From a state that the memories hold to the saved words of the state after the turns.
-use mathlib.Core.Path.{_≡_, refl, ap, sym, _∙_}
+use mathlib.Core.Path.{_≡_, refl, ap, _∙_}
 use mathlib.Core.List.{List, [], _∷_, _++_}
-use Prim.Native.Nat.{ℕ, zero, suc, _+_, _-_, _*_, _≤_, _<_, _^_}
+use Prim.Native.Nat.{ℕ, suc, _+_, _-_, _*_, _≤_, _<_, _^_}
 use native.Mathlib.Nat.{mul-le-mul-left, mul-one}
 use native.Mathlib.Omega.{arith}
 use lib.ListN.{length, getD, take, drop, replicate}
 use lib.Dec.{eqb}
-use borrow.Author.Tests.{lt-ltb, le-ltb}
 use Rattle.graph.specs.Graph.{Graph, graph, objects}
 use Rattle.graph.specs.Limits.{most-references}
 use Rattle.machine.specs.declared.Counts.{Counts}
-use Rattle.machine.specs.Machine.{State, Worker, idle, asking, denied, ended, given, busy, Phase, poll, look, claim, entries, allEnded}
+use Rattle.machine.specs.Machine.{State, Worker, idle, asking, denied, ended, given, busy, poll, look, claim, entries, allEnded}
 use Rattle.machine.specs.Call.{final}
-use Rattle.machine.specs.Sound.{batchOf, Sound}
+use Rattle.machine.specs.Sound.{Sound}
 use Rattle.machine.proofs.Facts.{runs-room}
 use Rattle.machine.proofs.Start.{sound-turns}
 use Rattle.worker.specs.declared.registers.Block.{Block}

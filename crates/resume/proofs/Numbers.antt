@@ -1,11 +1,10 @@
 -- Numbers as two words each, written and read one after the other.
-use mathlib.Core.Path.{_≡_, refl, ap, sym, _∙_}
+use mathlib.Core.Path.{_≡_, refl, sym}
 use mathlib.Core.List.{List}
 use Prim.Native.Nat.{ℕ, _+_, _*_, _/_, _%_, _^_, _≤_, _<_}
 use native.Mathlib.Omega.{arith}
 use lib.ListN.{length, getD, set, length-set}
 use Rattle.laws.specs.Blocks.{laid}
-use Rattle.laws.specs.Span.{listing}
 use Rattle.laws.proofs.Blocks.{length-laid, laid-at}
 use Rattle.laws.proofs.Filling.{Filled, filled-none, filled-next, filled-all}
 use Rattle.laws.proofs.Span.{listing-length, listing-at, listing-is}

@@ -1,20 +1,17 @@
 -- Laws of the workers' words: four words written for each worker, and the pairs of a stretch gone over.
 use mathlib.Core.Path.{_≡_, refl, ap, sym, _∙_}
-use mathlib.Core.Bool.{true, false}
 use mathlib.Core.List.{List, [], _∷_, _++_}
-use Prim.Native.Nat.{ℕ, zero, suc, _+_, _-_, _*_, _≤_, _<_}
+use Prim.Native.Nat.{ℕ, suc, _+_, _-_, _*_, _≤_, _<_}
 use native.Mathlib.Omega.{arith}
 use lib.ListN.{length, getD, set, drop, length-set, length-append, length-drop}
-use lib.Seq.{drop-cons, drop-length}
-use lib.Dec.{ltb}
+use lib.Seq.{drop-cons}
 use borrow.Author.Tests.{lt-ltb, le-ltb}
 use Rattle.laws.specs.Sum.{sum}
 use Rattle.laws.proofs.Sum.{sum-append}
 use Rattle.laws.proofs.Filling.{Filled, filled-none, filled-next, filled-all}
-use Rattle.machine.specs.Run.{Run, run, size, carried}
-use Rattle.machine.specs.Machine.{Worker, ended}
+use Rattle.machine.specs.Run.{run, size, carried}
 use Rattle.worker.specs.Registers.{blockAt}
-use Rattle.saved.specs.Layout.{workerWords, workersWords, runsIn}
+use Rattle.saved.specs.Layout.{workersWords, runsIn}
 use Rattle.saved.proofs.RoundTrip.{workers-word, workers-length}
 use Rattle.resume.specs.Workers.{wordsOf, listed, Recorded, Measured}
 

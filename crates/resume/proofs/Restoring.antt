@@ -1,22 +1,19 @@
 -- A worker's block from its saved words: the uppermost pair of the stretch is the run to be followed first.
 use mathlib.Core.Path.{_≡_, refl, ap, sym, _∙_}
 use mathlib.Core.List.{List, [], _∷_, _++_, append-assoc}
-use Prim.Native.Nat.{ℕ, zero, suc, _+_, _-_, _*_, _≤_, _<_, _^_}
+use Prim.Native.Nat.{ℕ, suc, _+_, _-_, _*_, _≤_, _<_, _^_}
 use mathlib.Core.Logic.{by-cases}
 use native.Mathlib.Decide.{decLt}
 use native.Mathlib.Nat.{mul-le-mul, mul-le-mul-right, suc-mul}
 use native.Mathlib.Omega.{arith}
-use lib.ListN.{length, getD, take, drop, replicate, length-append, length-replicate, List·getD-append}
+use lib.ListN.{length, getD, take, drop, replicate}
 use lib.Seq.{getD-append-add, getD-at, take-at}
-use Rattle.laws.specs.Every.{Every}
 use Rattle.graph.specs.Graph.{Graph, objects, references, target}
-use Rattle.graph.specs.Limits.{most-objects, most-references}
 use Rattle.machine.specs.Run.{Run, run, carried, pairs}
-use Rattle.machine.specs.Machine.{Worker, idle, asking, denied, ended, given, busy, Cell, Phase, poll, look, claim, runsOf, carriedBy, stretchLength, stretch}
-use Rattle.machine.specs.Sound.{batchOf, sinceOf}
-use Rattle.machine.proofs.Facts.{InTargets}
+use Rattle.machine.specs.Machine.{Worker, idle, asking, denied, ended, given, busy, poll, look, claim, runsOf, carriedBy, stretchLength, stretch}
+use Rattle.machine.specs.Sound.{sinceOf}
 use Rattle.worker.specs.declared.registers.Block.{Block}
-use Rattle.worker.specs.Registers.{blockAt, status-given, storeAt}
+use Rattle.worker.specs.Registers.{status-given, storeAt}
 use Rattle.worker.specs.Stretch.{topWith, Told}
 use Rattle.worker.proofs.Blocks.{store-stored}
 use Rattle.worker.proofs.Pairs.{length-pairs}

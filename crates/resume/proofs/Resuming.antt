@@ -1,41 +1,34 @@
 -- A saved collection taken up: part by part the memories are those of the state that the words hold.
 use mathlib.Core.Path.{_≡_, refl, ap, sym, _∙_}
-use mathlib.Core.Bool.{true, false}
 use mathlib.Core.List.{List, [], _∷_}
-use Prim.Native.Nat.{ℕ, zero, suc, _+_, _-_, _*_, _≤_, _<_, _^_}
+use Prim.Native.Nat.{ℕ, suc, _+_, _-_, _*_, _≤_, _<_}
 use native.Mathlib.Nat.{zero-add}
 use native.Mathlib.Omega.{arith}
 use lib.ListN.{length, getD, take, drop}
-use lib.Seq.{getD-take, getD-drop}
 use Rattle.laws.specs.Blocks.{laid}
-use Rattle.laws.specs.Every.{Every}
 use Rattle.laws.specs.Span.{span}
 use Rattle.laws.specs.Sum.{sum}
 use Rattle.laws.proofs.Blocks.{laid-part}
 use Rattle.laws.proofs.Sum.{sum-share}
-use Rattle.graph.specs.Graph.{Graph, objects, references}
-use Rattle.graph.specs.Limits.{most-references}
+use Rattle.graph.specs.Graph.{objects}
 use Rattle.machine.specs.declared.Counts.{Counts}
 use Rattle.machine.specs.Row.{countWords}
-use Rattle.machine.specs.Run.{Run}
 use Rattle.machine.specs.Tally.{Tally, talliesWords}
-use Rattle.machine.specs.Machine.{State, Worker, idle, asking, denied, ended, given, busy, Phase, poll, look, claim, worker, runsOf, carriedBy, stretchLength, stretch, memory as laidMemory}
+use Rattle.machine.specs.Machine.{State, Worker, idle, asking, denied, ended, given, busy, poll, look, claim, worker, stretchLength, stretch, memory as laidMemory}
 use Rattle.machine.specs.Sound.{sinceOf, Sound}
 use Rattle.machine.proofs.Facts.{runs-room, runs-limit, carried-limit, followed-limit, live-below}
-use Rattle.worker.specs.Registers.{status-ended}
 use Rattle.turns.specs.declared.Setup.{Setup}
 use Rattle.turns.specs.declared.Progress.{Progress}
 use Rattle.turns.specs.declared.ring.Ring.{Ring}
 use Rattle.turns.specs.Ringing.{ringOf}
 use Rattle.turns.specs.Counting.{running?, countsOf}
 use Rattle.turns.specs.Held.{memory, stretchAt, settingOf, Holds}
-use Rattle.saved.specs.Layout.{twoWords, workerWords, workersWords, savedWords, savedLength}
-use Rattle.saved.specs.Sound.{batchIn, Supplied}
+use Rattle.saved.specs.Layout.{workerWords, workersWords, savedWords, savedLength}
 use Rattle.saved.proofs.Kept.{run-sound, shaped}
 use Rattle.saved.proofs.RoundTrip.{Shaped, saved-length, records-told, tallies-told, tallies-count, counts-told, marks-told, stretches-told, stretches-long, workers-word, workers-long, stretch-length}
 use Rattle.resume.specs.Copies.{numbersOf, Bytes}
 use Rattle.resume.specs.Restoring.{runs?, runningIn, ringFrom, Telling, progressFrom, partOf, Resumable}
-use Rattle.resume.specs.Workers.{listed, savedAt, Restorable, AllRestorable, Restored, AllRestored}
+use Rattle.resume.specs.Workers.{listed, savedAt, Restorable, AllRestorable, AllRestored}
 use Rattle.resume.proofs.Numbers.{numbers-back}
 use Rattle.resume.proofs.Parts.{part-lent}
 

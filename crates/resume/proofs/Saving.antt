@@ -1,17 +1,17 @@
 -- The saved words are written part by part, from their beginning.
 use mathlib.Core.Path.{_≡_, refl, ap, sym, subst, _∙_}
 use mathlib.Core.List.{List, [], _∷_, _++_, append-assoc}
-use Prim.Native.Nat.{ℕ, zero, suc, _+_, _-_, _*_, _≤_, _<_}
+use Prim.Native.Nat.{ℕ, suc, _+_, _-_, _*_, _≤_, _<_}
 use native.Mathlib.Omega.{arith}
-use lib.ListN.{length, getD, set, take, drop, length-append, length-set, length-take, length-drop}
-use lib.Seq.{take-at, take-all, length-take-le, take-append-add, take-suc-set}
+use lib.ListN.{length, set, take, drop, length-append, length-set, length-drop}
+use lib.Seq.{take-at, take-all, take-suc-set}
 use Rattle.laws.specs.Blocks.{laid}
 use Rattle.machine.specs.declared.Counts.{Counts}
 use Rattle.machine.specs.Row.{countWords}
 use Rattle.machine.specs.Tally.{talliesWords}
 use Rattle.machine.specs.Machine.{State, Worker, memory, stretchLength}
-use Rattle.saved.specs.Layout.{saved-form, twoWords, workersWords, savedWords, savedLength, workers-place, tallies-place, marks-place, stretches-place}
-use Rattle.saved.proofs.RoundTrip.{Shaped, saved-length, workers-long, tallies-count, tallies-long, stretches-long}
+use Rattle.saved.specs.Layout.{saved-form, twoWords, workersWords, savedWords, savedLength}
+use Rattle.saved.proofs.RoundTrip.{saved-length, workers-long, tallies-count, tallies-long, stretches-long}
 use Rattle.machine.proofs.Colours.{shade-limit, set-limit}
 use Rattle.turns.specs.declared.ring.Ring.{Ring}
 use Rattle.turns.specs.Ringing.{ringOf}

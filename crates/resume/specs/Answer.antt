@@ -1,15 +1,15 @@
 -- SPECIFICATION 8.3: how many words a saved collection takes; what the two calls answer and leave.
 use Prim.Native.Nat.{ℕ, zero, suc, _-_}
 use mathlib.Core.Path.{_≡_}
-use mathlib.Core.Bool.{Bool, true, false, not, _||_}
-use mathlib.Core.List.{List, [], _++_}
+use mathlib.Core.Bool.{Bool, true, not}
+use mathlib.Core.List.{List, _++_}
 use mathlib.Core.Logic.{_↔_}
 use lib.ListN.{length}
 use lib.Dec.{ltb, eqb}
-use Rattle.laws.specs.Choice.{pick, either}
+use Rattle.laws.specs.Choice.{either}
 use Rattle.refusal.specs.Number.{number}
 use Rattle.refusal.specs.Order.{raise, first}
-use Rattle.graph.specs.Graph.{Graph, graph, objects}
+use Rattle.graph.specs.Graph.{graph, objects}
 use Rattle.graph.specs.Chain.{Reach}
 use Rattle.graph.specs.Limits.{most-objects}
 use Rattle.machine.specs.Limits.{most-workers}

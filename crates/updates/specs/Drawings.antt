@@ -1,15 +1,15 @@
 -- Both calls computed on store S: what they leave, and the numbers of calls at both edges of each check and with two faults.
 use mathlib.Core.Path.{_≡_, refl}
-use mathlib.Core.List.{List, [], _∷_, _++_, map}
+use mathlib.Core.List.{List, [], _∷_, map}
 use Prim.Native.Nat.{ℕ}
 use lib.ListN.{replicate}
 use Rattle.laws.specs.Sum.{sum, hit}
 use Rattle.laws.specs.Span.{span, listing}
 use Rattle.laws.specs.Grouping.{part, grouped, under, below, starts}
 use Rattle.laws.specs.Test.{all, allUpTo}
-use Rattle.graph.specs.Graph.{Graph, graph, objects, references, referencesOf, rising, allBelow, wellFormed}
+use Rattle.graph.specs.Graph.{Graph, graph, referencesOf, rising, allBelow, wellFormed}
 use Rattle.graph.specs.Chain.{closure, rounds, spread, spreadRun}
-use Rattle.hops.specs.Call.{LengthRow, lengthWith}
+use Rattle.hops.specs.Call.{lengthWith}
 use Rattle.updates.specs.Pairs.{pairsBelow, pairsOf, paired}
 use Rattle.updates.specs.Stores.{storeOf, added, completed, chosen, removed, startMarks, marksAfresh}
 use Rattle.updates.specs.Call.{Lengths, lengthsOf, addFault, removeFault, lengthFor}

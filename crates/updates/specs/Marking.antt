@@ -1,7 +1,6 @@
 -- Marking along references with a list of objects whose references are still to be followed: what the functions ask and leave.
 use mathlib.Core.Path.{_≡_}
 use mathlib.Core.List.{List}
-use mathlib.Core.Logic.{_⊎_}
 use Prim.Native.Nat.{ℕ, _+_, _≤_, _<_}
 use lib.ListN.{length, getD, take}
 use Rattle.laws.specs.Sum.{sum, hit}

@@ -5,7 +5,7 @@ use mathlib.Core.Logic.{_↔_}
 use Prim.Native.Nat.{ℕ, _<_}
 use lib.ListN.{length, getD}
 use Rattle.laws.specs.Sum.{sum, hit}
-use Rattle.graph.specs.Graph.{Graph, objects}
+use Rattle.graph.specs.Graph.{Graph}
 use Rattle.graph.specs.Chain.{Closed, Reach}
 use Rattle.machine.specs.Demand2.{FinishedMarks}
 use Rattle.machine.specs.Sound.{Marked}

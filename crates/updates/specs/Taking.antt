@@ -3,7 +3,6 @@ use mathlib.Core.Path.{_≡_}
 use mathlib.Core.List.{List}
 use Prim.Native.Nat.{ℕ, suc, _*_, _≤_, _<_}
 use lib.ListN.{length, getD}
-use Rattle.laws.specs.Span.{span}
 use Rattle.laws.specs.Sum.{sum, hit}
 use Rattle.graph.specs.Chain.{set?}
 use Rattle.graph.specs.Leaving.{unset?}

@@ -7,7 +7,6 @@ pub mod remove;
 use hops::Length;
 use refusal::Refusal;
 ghost use mathlib.Core.Path.{_≡_};
-ghost use mathlib.Core.Bool.{not, _||_};
 ghost use Prim.Native.Nat.{_≤_};
 ghost use Rattle.graph.specs.Limits.{most-objects};
 ghost use Rattle.hops.specs.Call.{lengthRow};

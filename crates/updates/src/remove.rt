@@ -9,7 +9,7 @@ ghost use mathlib.Core.List.{map};
 ghost use Prim.Native.Nat.{ℕ, _+_, _-_, _≤_, _<_};
 ghost use lib.ListN.{length, replicate};
 ghost use Rattle.laws.specs.Span.{span};
-ghost use Rattle.graph.specs.Graph.{graph, objects, allBelow};
+ghost use Rattle.graph.specs.Graph.{graph, allBelow};
 ghost use Rattle.graph.specs.Formed.{Formed};
 ghost use Rattle.graph.specs.Limits.{most-references};
 ghost use Rattle.updates.specs.Stores.{chosen, marksAfresh};

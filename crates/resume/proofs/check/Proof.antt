@@ -21,5 +21,4 @@ returns c =
     checked-as call (a .marks) (a .work) (a .tallies) (a .saved) many (c .check .ensures .number-is)
 
 pub check-spec : {M : Type 1} → statement M
-check-spec = tie.close
-    (tie.spec (λ c κs. search needs) (λ c κs. search needs) returns)
+check-spec = tie.close (tie.spec (λ c κs. search needs) (λ c κs. search needs) returns)

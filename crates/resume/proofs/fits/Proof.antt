@@ -1,3 +1,4 @@
+-- At each exit the tests before it and its own tell the answer.
 use borrow.Author.Tests.{lt-ltb, le-ltb}
 use mathlib.Core.Path.{refl}
 use borrow.Author.Needs.{needs}

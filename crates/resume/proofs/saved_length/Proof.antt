@@ -1,3 +1,4 @@
+-- At each exit the tests before it and its own tell the fault.
 use borrow.Author.Tests.{lt-ltb, le-ltb}
 use mathlib.Core.Path.{refl}
 use borrow.Author.Needs.{needs}
@@ -25,6 +26,4 @@ returns-5 c =
     rw (le-ltb _ _ (k .before .before .if1 .left), le-ltb _ _ (k .before .if2 .left), le-ltb _ _ (k .if3 .left), le-ltb _ _ (l .if4 .left), c .words-for .ensures) refl
 
 pub saved-length-spec : {M : Type 1} → statement M
-saved-length-spec =
-    tie.close
-    (tie.spec returns returns-2 returns-3 returns-4 (λ c κs. search needs) returns-5)
+saved-length-spec = tie.close (tie.spec returns returns-2 returns-3 returns-4 (λ c κs. search needs) returns-5)

@@ -1,3 +1,4 @@
+-- A product of two bounded numbers is bounded, so no step leaves the range.
 use Prim.Native.Nat.{_+_, _*_, _≤_}
 use native.Mathlib.Nat.{mul-le-mul}
 use native.Mathlib.Omega.{arith}

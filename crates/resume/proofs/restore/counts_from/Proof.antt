@@ -1,7 +1,7 @@
+-- The part that is lent is that of the saved words, and there are as many numbers as the call has.
 use mathlib.Core.Path.{ap, _∙_}
 use Rattle.resume.specs.Copies.{numbersOf}
 use Rattle.resume.specs.Restoring.{partOf}
-use native.Mathlib.Omega.{arith}
 use borrow.Author.Needs.{needs}
 use Rattle.resume.proofs.restore.counts_from.Statement.{statement}
 use Rattle.resume.proofs.restore.counts_from.Tie as tie

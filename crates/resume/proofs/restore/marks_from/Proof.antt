@@ -1,3 +1,4 @@
+-- The part that is lent is that of the saved words (`part-lent`).
 use mathlib.Core.Path.{_∙_, sym}
 use lib.ListN.{length, drop, length-drop}
 use lib.Seq.{length-take-le}

@@ -1,7 +1,6 @@
-use Rattle.resume.proofs.Running.{same-starts}
 -- What the tallies' claims won leave of the marks are the starts.
+use Rattle.resume.proofs.Running.{same-starts, won-sums}
 use native.Mathlib.Omega.{arith}
-use Rattle.resume.proofs.Running.{won-sums}
 use borrow.Author.Needs.{needs}
 use Rattle.resume.proofs.restore.progress.Statement.{statement}
 use Rattle.resume.proofs.restore.progress.Tie as tie

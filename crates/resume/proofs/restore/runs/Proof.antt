@@ -1,3 +1,4 @@
+-- By whether the status is that of an ended worker.
 use mathlib.Core.Path.{refl}
 use native.Mathlib.Omega.{arith}
 use borrow.Author.Tests.{eq-eqb, ne-eqb}
@@ -11,5 +12,4 @@ returns-2 : tie.Need-returns-2
 returns-2 c = (rw (ne-eqb _ _ (c .if1 .left)) refl, omega arith)
 
 pub runs-spec : {M : Type 1} → statement M
-runs-spec = tie.close
-    (tie.spec returns returns-2)
+runs-spec = tie.close (tie.spec returns returns-2)

@@ -1,10 +1,10 @@
+-- The part that is lent is that of the saved words (`part-lent`).
 use mathlib.Core.Path.{ap, _∙_}
 use mathlib.Core.List.{List}
 use Prim.Native.Nat.{ℕ, _*_}
 use lib.ListN.{length}
 use Rattle.resume.specs.Copies.{numbersOf}
 use Rattle.resume.proofs.Parts.{part-lent}
-use native.Mathlib.Omega.{arith}
 use borrow.Author.Needs.{needs}
 use Rattle.resume.proofs.restore.tallies_from.Statement.{statement}
 use Rattle.resume.proofs.restore.tallies_from.Tie as tie

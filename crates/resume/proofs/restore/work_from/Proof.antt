@@ -1,6 +1,6 @@
+-- The rest that is lent is that of the saved words (`rest-lent`).
 use mathlib.Core.Path.{_∙_}
 use Rattle.resume.proofs.Parts.{rest-lent}
-use native.Mathlib.Omega.{arith}
 use borrow.Author.Needs.{needs}
 use Rattle.resume.proofs.restore.work_from.Statement.{statement}
 use Rattle.resume.proofs.restore.work_from.Tie as tie

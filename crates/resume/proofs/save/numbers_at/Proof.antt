@@ -1,4 +1,4 @@
-use mathlib.Core.Path.{refl}
+-- What is lent comes back with the part written (`lent-back`).
 use Prim.Native.Nat.{_+_, _*_}
 use native.Mathlib.Omega.{arith}
 use lib.ListN.{length}

@@ -1,7 +1,6 @@
-use mathlib.Core.Path.{refl}
+-- What is lent comes back with the part written (`lent-back`).
 use Prim.Native.Nat.{_+_, _*_}
 use native.Mathlib.Omega.{arith}
-use lib.ListN.{length}
 use Rattle.resume.proofs.Saving.{lent-back}
 use Rattle.saved.specs.Layout.{workersWords}
 use Rattle.saved.proofs.RoundTrip.{workers-length}

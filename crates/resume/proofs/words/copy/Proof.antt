@@ -1,7 +1,6 @@
+-- The words before i are filled (`Filled`).
 use borrow.Author.Needs.{needs}
-use native.Mathlib.Omega.{arith}
 use Prim.Native.Nat.{_-_}
-use lib.ListN.{length}
 use Rattle.laws.proofs.Filling.{Filled, filled-none, filled-copy, filled-all}
 use Rattle.resume.proofs.words.copy.Statement.{statement}
 use Rattle.resume.proofs.words.copy.Tie as tie

@@ -1,7 +1,8 @@
+-- The numbers before i are put (`Putting`).
 use borrow.Author.Needs.{needs}
 use native.Mathlib.Omega.{arith}
 use Prim.Native.Nat.{_-_}
-use lib.ListN.{length, length-set}
+use lib.ListN.{length-set}
 use Rattle.resume.proofs.Numbers.{Putting, putting-none, putting-next, putting-all}
 use Rattle.resume.proofs.words.put_numbers.Statement.{statement}
 use Rattle.resume.proofs.words.put_numbers.Tie as tie

@@ -1,7 +1,7 @@
+-- The numbers before i are taken (`Taking`).
 use borrow.Author.Needs.{needs}
 use native.Mathlib.Omega.{arith}
 use Prim.Native.Nat.{_-_, _+_, _*_}
-use lib.ListN.{length, length-set}
 use Rattle.resume.proofs.Numbers.{Taking, taking-none, taking-next, taking-all}
 use Rattle.resume.proofs.words.take_numbers.Statement.{statement}
 use Rattle.resume.proofs.words.take_numbers.Tie as tie

@@ -1,7 +1,8 @@
+-- The pairs passed are counted, and their references (`Going`).
 use borrow.Author.Needs.{needs}
 use native.Mathlib.Omega.{arith}
 use Prim.Native.Nat.{_-_, _≤_}
-use lib.ListN.{length, getD}
+use lib.ListN.{length}
 use Rattle.resume.proofs.Records.{Going, going-none, going-next, going-stop, going-end}
 use Rattle.resume.proofs.workers.measure.Statement.{statement}
 use Rattle.resume.proofs.workers.measure.Tie as tie

@@ -1,9 +1,8 @@
-use borrow.Author.Needs.{needs}
+-- The words of the workers passed are there (`Putting`).
 use native.Mathlib.Omega.{arith}
 use mathlib.Core.Path.{_≡_, ap, _∙_}
 use Prim.Native.Nat.{_-_, _*_}
 use lib.ListN.{length, length-set}
-use Rattle.worker.specs.Registers.{Room}
 use Rattle.resume.specs.Workers.{wordsOf, Recorded}
 use Rattle.resume.proofs.Records.{Putting, putting-none, putting-next, putting-all}
 use Rattle.resume.proofs.workers.put_workers.Statement.{statement}
@@ -14,6 +13,10 @@ Inv-loop regs workers out₀ b₀ out b = ((x : Recorded regs workers) → Putti
 
 abbrev μ-loop : tie.MeasureT-loop
 μ-loop regs workers out₀ b₀ out b = workers - b
+
+-- back from a worker's words to the entry
+abbrev entry : tie.After-saved-of Inv-loop μ-loop → tie.Start Inv-loop μ-loop
+entry c = c .before .before .before .before .before .before
 
 loop-holds : tie.Need-loop-holds Inv-loop μ-loop
 loop-holds c = let a = c .before .before in ((λ x. putting-none x (a .pre .1)), a .pre .1)
@@ -27,45 +30,6 @@ saved-of-requires : tie.Need-saved-of-requires Inv-loop μ-loop
 saved-of-requires c κs =
     let a = c .before .before .before .before .before in
     rw (c .load .ensures) (a .pre .0 .order (c .before .before .loop .b) (omega arith))
-
-cast-at : tie.Need-cast-at Inv-loop μ-loop
-cast-at c = omega (arith, c .before .before .before .before .before .before .pre .0 .few)
-
-mul-at : tie.Need-mul-at Inv-loop μ-loop
-mul-at c = omega (arith, c .before .before .before .before .before .before .pre .0 .few)
-
-mul-out : tie.Need-mul-out Inv-loop μ-loop
-mul-out c = omega (arith, c .before .before .before .before .before .before .pre .0 .few)
-
-add-out : tie.Need-add-out Inv-loop μ-loop
-add-out c = omega (arith, c .before .before .before .before .before .before .pre .0 .few)
-
-mul-out-2 : tie.Need-mul-out-2 Inv-loop μ-loop
-mul-out-2 c = omega (arith, c .before .before .before .before .before .before .pre .0 .few)
-
-slice-write-out-2 : tie.Need-slice-write-out-2 Inv-loop μ-loop
-slice-write-out-2 c = simp length-set (omega arith)
-
-add-out-2 : tie.Need-add-out-2 Inv-loop μ-loop
-add-out-2 c = omega (arith, c .before .before .before .before .before .before .pre .0 .few)
-
-mul-out-3 : tie.Need-mul-out-3 Inv-loop μ-loop
-mul-out-3 c = omega (arith, c .before .before .before .before .before .before .pre .0 .few)
-
-slice-write-out-3 : tie.Need-slice-write-out-3 Inv-loop μ-loop
-slice-write-out-3 c = simp length-set (omega arith)
-
-add-out-3 : tie.Need-add-out-3 Inv-loop μ-loop
-add-out-3 c = omega (arith, c .before .before .before .before .before .before .pre .0 .few)
-
-mul-out-4 : tie.Need-mul-out-4 Inv-loop μ-loop
-mul-out-4 c = omega (arith, c .before .before .before .before .before .before .pre .0 .few)
-
-slice-write-out-4 : tie.Need-slice-write-out-4 Inv-loop μ-loop
-slice-write-out-4 c = simp length-set (omega arith)
-
-add-b : tie.Need-add-b Inv-loop μ-loop
-add-b c = omega (arith, c .before .before .before .before .before .before .pre .0 .few)
 
 loop-again : tie.Need-loop-again Inv-loop μ-loop
 loop-again c =
@@ -83,6 +47,9 @@ returns c = λ x. putting-all x (c .before .loop .inv .0 x) (omega arith)
 pub put-workers-spec : {M : Type 1} → statement M
 put-workers-spec =
     tie.close
-    (tie.spec Inv-loop μ-loop loop-holds load-requires saved-of-requires cast-at mul-at mul-out (λ c. omega arith) add-out mul-out-2
-    slice-write-out-2 add-out-2 mul-out-3 slice-write-out-3 add-out-3 mul-out-4 slice-write-out-4 add-b (λ c. omega arith) loop-again
-    same-length returns)
+    (tie.spec Inv-loop μ-loop loop-holds load-requires saved-of-requires (λ c. omega (arith, entry c .pre .0 .few)) (λ c. omega (arith, entry c .pre .0 .few))
+    (λ c. omega (arith, entry c .pre .0 .few)) (λ c. omega arith) (λ c. omega (arith, entry c .pre .0 .few))
+    (λ c. omega (arith, entry c .pre .0 .few)) (λ c. simp length-set (omega arith)) (λ c. omega (arith, entry c .pre .0 .few))
+    (λ c. omega (arith, entry c .pre .0 .few)) (λ c. simp length-set (omega arith)) (λ c. omega (arith, entry c .pre .0 .few))
+    (λ c. omega (arith, entry c .pre .0 .few)) (λ c. simp length-set (omega arith)) (λ c. omega (arith, entry c .pre .0 .few))
+    (λ c. omega arith) loop-again same-length returns)

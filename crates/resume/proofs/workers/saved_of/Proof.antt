@@ -1,4 +1,4 @@
-use borrow.Author.Needs.{needs}
+-- By whether the worker is busy.
 use native.Mathlib.Omega.{arith}
 use borrow.Author.Tests.{lt-ltb, le-ltb}
 use Rattle.resume.proofs.workers.saved_of.Statement.{statement}
@@ -14,5 +14,4 @@ returns-2 : tie.Need-returns-2
 returns-2 c = simp (le-ltb _ _ (c .before .if1 .left))
 
 pub saved-of-spec : {M : Type 1} → statement M
-saved-of-spec = tie.close
-    (tie.spec returns sub-t4 returns-2)
+saved-of-spec = tie.close (tie.spec returns sub-t4 returns-2)

@@ -14,65 +14,63 @@ Inv-loop targets words stretches workers len regs₀ b₀ regs b = (b ≤ worker
 abbrev μ-loop : tie.MeasureT-loop
 μ-loop targets words stretches workers len regs₀ b₀ regs b = workers - b
 
+-- back from the loop to the entry
+abbrev start : tie.At-loop Inv-loop μ-loop → tie.Start Inv-loop μ-loop
+start c = c .before .before .before .before .before
+
 loop-holds : tie.Need-loop-holds Inv-loop μ-loop
 loop-holds c = (omega arith, (λ x. taking-none x), refl)
 
 saved-at-requires : tie.Need-saved-at-requires Inv-loop μ-loop
 saved-at-requires c κs =
     let l = c .before in
-    let x = l .before .before .before .before .before .pre in
+    let x = start l .pre in
     (omega (arith, x .words-long), omega (arith, x .few))
 
 mul-from : tie.Need-mul-from Inv-loop μ-loop
 mul-from c =
     let l = c .before .before in
-    let x = l .before .before .before .before .before .pre in
-    omega (arith, part-small x {k = l .loop .b} (omega arith))
+    omega (arith, part-small (start l .pre) {k = l .loop .b} (omega arith))
 
 add-block-of : tie.Need-add-block-of Inv-loop μ-loop
 add-block-of c =
     let l = c .before .before in
-    let x = l .before .before .before .before .before .pre in
-    omega (arith, part-small x {k = l .loop .b} (omega arith))
+    omega (arith, part-small (start l .pre) {k = l .loop .b} (omega arith))
 
 mul-block-of : tie.Need-mul-block-of Inv-loop μ-loop
 mul-block-of c =
     let l = c .before .before in
-    let x = l .before .before .before .before .before .pre in
-    omega (arith, part-small x {k = l .loop .b} (omega arith))
+    omega (arith, part-small (start l .pre) {k = l .loop .b} (omega arith))
 
 part-block-of-end : tie.Need-part-block-of-end Inv-loop μ-loop
 part-block-of-end c =
     let l = c .before .before in
-    let x = l .before .before .before .before .before .pre in
-    omega (arith, part-room x {k = l .loop .b} (omega arith))
+    omega (arith, part-room (start l .pre) {k = l .loop .b} (omega arith))
 
 block-of-requires : tie.Need-block-of-requires Inv-loop μ-loop
 block-of-requires c κs =
     let l = c .before .before .before in
-    let x = l .before .before .before .before .before .pre in
-    one-restorable x (omega arith) refl (c .before .saved-at .ensures)
+    one-restorable (start l .pre) (omega arith) refl (c .before .saved-at .ensures)
 
 store-requires : tie.Need-store-requires Inv-loop μ-loop
 store-requires c κs =
     let l = c .before .before .before .before .before in
-    let x = l .before .before .before .before .before .pre in
+    let x = start l .pre in
     record { low = omega (arith, x .few); long = omega (arith, x .regs-long, l .loop .inv .2) }
 
 add-b : tie.Need-add-b Inv-loop μ-loop
 add-b c =
     let l = c .before .before .before .before .before .before .before .before in
-    let x = l .before .before .before .before .before .pre in
-    omega (arith, x .few)
+    omega (arith, start l .pre .few)
 
 loop-again : tie.Need-loop-again Inv-loop μ-loop
 loop-again c =
     let stored = c .before .before in
     let made = stored .before .before in
     let read = made .before .before in
-    let l = read .before .before .loop in
-    let start = read .before .before .before .before .before .before .before in
-    let x = start .pre in
+    let at = read .before .before in
+    let l = at .loop in
+    let x = start at .pre in
     let told = read .saved-at .ensures in
     let put = stored .store .ensures in (
       omega arith,
