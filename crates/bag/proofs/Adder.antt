@@ -1,12 +1,12 @@
 -- The full adder: what it answers in each case of its table, and that nothing is lost: the slot and the carry hold the objects of all three.
-use mathlib.Core.Path.{_≡_, refl, sym, ap, _∙_}
-use mathlib.Core.List.{List, []}
+use mathlib.Core.Path.{_≡_, refl, ap}
+use mathlib.Core.List.{List}
 use mathlib.Core.Logic.{_≢_}
-use Prim.Native.Nat.{ℕ, zero, suc, _+_, _-_, _*_, _^_, _≤_, _<_}
+use Prim.Native.Nat.{ℕ, zero, suc, _+_, _-_, _≤_}
 use native.Mathlib.Omega.{arith}
 use lib.ListN.{length, length-set}
-use Rattle.laws.specs.Sum.{sum, hit}
-use Rattle.bag.specs.Bag.{times, leftOf, pennantOf, slotOf, HasLinks, Same, united}
+use Rattle.laws.specs.Sum.{sum}
+use Rattle.bag.specs.Bag.{times, pennantOf, slotOf, HasLinks, Same, united}
 use Rattle.bag.specs.Adder.{Rooted, Unitable, sumOf, carryOf, linksOf, Sums}
 use Rattle.bag.proofs.Trees.{pennant-length, pennant-frame, united-holds, united-same}
 

@@ -1,19 +1,19 @@
 -- Adding an object. What carries the argument: before turn k of the loop the slots below k are empty, and the pennant in hand, of size 2^k, and
 -- the slots from k on hold together what was in the bag and the new object. So 2^k is at most the new size, and there is a slot k.
 use mathlib.Core.Path.{_≡_, refl, sym, ap, _∙_}
-use mathlib.Core.List.{List, [], _∷_, _++_, map}
+use mathlib.Core.List.{List, _∷_, _++_}
 use mathlib.Core.Logic.{_≢_, by-cases}
-use Prim.Native.Nat.{ℕ, zero, suc, _+_, _-_, _*_, _^_, _≤_, _<_}
+use Prim.Native.Nat.{ℕ, suc, _+_, _-_, _^_, _≤_, _<_}
 use native.Mathlib.Omega.{arith}
 use native.Mathlib.Decide.{decLe}
 use native.Mathlib.Nat.{pow-le-pow-right}
 use native.Mathlib.Numerals.{add-one}
-use lib.ListN.{length, getD, set, take, drop, replicate, length-append, length-set, length-replicate, replicate-append-replicate}
+use lib.ListN.{length, getD, set, take, drop, replicate, length-set, length-replicate, replicate-append-replicate}
 use lib.Seq.{take-suc-set, drop-set-lt, set-split, length-take-le, getD-take, take-set-lt, take-set-le, getD-set-same, getD-set-other}
 use Rattle.laws.specs.Sum.{sum, hit}
-use Rattle.laws.proofs.Sum.{hit-same, hit-equal, sum-append, hit-at-most-one}
-use Rattle.bag.specs.Bag.{slot-count, bag-words, slotsOf, sizeOf, bag-limit, most-links, times, leftOf, pennantOf, slotOf, contentsFrom, contents, filled, digits, HasLinks, Bag, Same, united, Addable, Becomes, Adds}
-use Rattle.bag.proofs.Trees.{root-there, times-pennant, pennant-length, united-holds, united-same, same-then}
+use Rattle.laws.proofs.Sum.{hit-equal, hit-at-most-one}
+use Rattle.bag.specs.Bag.{slot-count, bag-words, slotsOf, sizeOf, bag-limit, most-links, times, pennantOf, slotOf, contentsFrom, contents, HasLinks, Same, united, Addable, Becomes, Adds}
+use Rattle.bag.proofs.Trees.{root-there, pennant-length, united-holds, united-same, same-then}
 use Rattle.bag.proofs.Contents.{times-slots, length-slots, times-at, length-at, contents-append, contents-none, contents-frame, binary-slots}
 use Rattle.bag.proofs.Adder.{filled-is, united-sized}
 

@@ -4,11 +4,11 @@ use mathlib.Core.Path.{_≡_, refl, sym, ap, _∙_}
 use mathlib.Core.List.{List, [], _∷_, _++_, map, append-assoc, append-nil}
 use Prim.Native.Nat.{ℕ, zero, suc, _+_, _*_, _^_, _/_, _%_, _≤_, _<_}
 use native.Mathlib.Omega.{arith}
-use lib.ListN.{length, getD, take, drop, take-append-drop, replicate, drop-of-length-le, length-append, length-replicate}
+use lib.ListN.{length, getD, take, drop, take-append-drop, replicate, drop-of-length-le, length-append}
 use lib.Seq.{drop-cons, take-suc, length-take-le}
-use Rattle.laws.specs.Sum.{sum, hit}
+use Rattle.laws.specs.Sum.{hit}
 use Rattle.laws.proofs.Sum.{sum-append}
-use Rattle.bag.specs.Bag.{times, treeOf, pennantOf, slotOf, contentsFrom, filled, digits, Same}
+use Rattle.bag.specs.Bag.{times, slotOf, contentsFrom, filled, digits, Same}
 use Rattle.bag.proofs.Trees.{pennant-length, pennant-frame}
 
 -- ---- how often an object stands there
@@ -62,10 +62,6 @@ pub contents-none : (k j : ℕ) (L : List ℕ) → contentsFrom k L (replicate j
 unfolding contentsFrom
 contents-none k zero L = refl
 contents-none k (suc j) L = contents-none (suc k) j L
-
-pub contents-end : (k : ℕ) (L S : List ℕ) → length S ≤ k → contentsFrom k L (drop k S) ≡ []
-unfolding contentsFrom
-contents-end k L S h = rw (drop-of-length-le S h)
 
 -- ---- links written elsewhere
 

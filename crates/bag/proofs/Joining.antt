@@ -12,8 +12,8 @@ use lib.ListN.{length, getD, set, take, drop, replicate, length-append, length-s
 use lib.Seq.{take-suc-set, drop-set-lt, take-suc, take-all, length-take-le}
 use Rattle.laws.specs.Sum.{sum, hit}
 use Rattle.laws.proofs.Sum.{either-positive, sum-append}
-use Rattle.bag.specs.Bag.{slot-count, bag-words, slotsOf, sizeOf, bag-limit, most-links, times, pennantOf, slotOf, contentsFrom, contents, filled, HasLinks, Bag, Same, Joinable, Becomes, Joins, empty}
-use Rattle.bag.specs.Adder.{Rooted, Unitable, sumOf, carryOf, linksOf, Sums}
+use Rattle.bag.specs.Bag.{slot-count, bag-words, slotsOf, sizeOf, most-links, times, slotOf, contentsFrom, contents, filled, HasLinks, Same, Joinable, Joins, empty}
+use Rattle.bag.specs.Adder.{Rooted, Unitable, Sums}
 use Rattle.bag.proofs.Trees.{root-there, pennant-length, same-then}
 use Rattle.bag.proofs.Contents.{times-at, length-at, times-slots, length-slots, contents-append, contents-split, contents-length, contents-frame, value, value-at, value-end, value-none, none-left, filled-low}
 use Rattle.bag.proofs.Adder.{Keeps, keeps}

@@ -1,15 +1,15 @@
 -- Trees and pennants. What carries the argument: a tree reads the links of its own objects only, so links that are written elsewhere
 -- leave it as it is; and two pennants that share no object, united, are one pennant of the objects of both.
 use mathlib.Core.Path.{_≡_, refl, sym, ap, _∙_}
-use mathlib.Core.List.{List, [], _∷_, _++_}
+use mathlib.Core.List.{List}
 use mathlib.Core.Logic.{_≢_}
-use Prim.Native.Nat.{ℕ, zero, suc, _+_, _-_, _*_, _^_, _≤_, _<_}
+use Prim.Native.Nat.{ℕ, zero, suc, _+_, _*_, _^_, _≤_, _<_}
 use native.Mathlib.Omega.{arith}
-use lib.ListN.{length, getD, set, length-append, length-set}
+use lib.ListN.{length, set, length-append, length-set}
 use lib.Seq.{getD-set-same, getD-set-other}
 use Rattle.laws.specs.Sum.{sum, hit}
-use Rattle.laws.proofs.Sum.{hit-same, hit-other, sum-append}
-use Rattle.bag.specs.Bag.{times, leftOf, rightOf, treeOf, pennantOf, slotOf, Same, HasLinks, united}
+use Rattle.laws.proofs.Sum.{hit-same, sum-append}
+use Rattle.bag.specs.Bag.{times, leftOf, rightOf, treeOf, pennantOf, Same, HasLinks, united}
 
 -- ---- how often an object stands there
 

@@ -15,8 +15,8 @@ use Rattle.laws.specs.Choice.{pick}
 use Rattle.laws.specs.Grouping.{below, count, itself}
 use Rattle.laws.specs.Sum.{sum}
 use Rattle.laws.proofs.Grouping.{under-one, below-suc, below-zero}
-use Rattle.text.specs.Text.{Put}
-use Rattle.text.proofs.Written.{nothing, same-long, front, behind, then}
+use Rattle.slices.specs.Put.{Put}
+use Rattle.slices.proofs.Written.{nothing, same-long, front, behind, then}
 use Rattle.cards.specs.Deck.{card-workers, Order}
 use Rattle.cards.specs.Hand.{dealt, asking, circle}
 use Rattle.cards.specs.Rounding.{Seats, Seated}

@@ -1,24 +1,23 @@
 -- The rounds of a hand, one behind the other; and the checks of the call in their order.
 use mathlib.Core.Path.{_≡_, ap, sym, _∙_}
-use mathlib.Core.Bool.{Bool, true, false}
+use mathlib.Core.Bool.{true, false}
 use mathlib.Core.List.{List, append-nil}
 use Prim.Native.Nat.{ℕ, suc, _+_, _*_, _^_, _≤_, _<_}
 use native.Mathlib.Nat.{suc-mul, zero-mul, mul-le-mul-right}
 use native.Mathlib.Numerals.{add-one}
 use native.Mathlib.Omega.{arith}
-use lib.Dec.{ltb, eqb}
+use lib.Dec.{eqb}
 use lib.ListN.{length, getD, take}
 use lib.Seq.{take-length, drop-length}
-use borrow.Author.Tests.{lt-ltb, le-ltb, lt-leb, le-leb, ltb-false}
+use borrow.Author.Tests.{lt-ltb, le-ltb, lt-leb, le-leb}
 use Rattle.laws.specs.Blocks.{laid}
 use Rattle.refusal.specs.declared.Verdict.{Verdict}
 use Rattle.refusal.specs.Number.{numberOf}
-use Rattle.refusal.proofs.None.{or-none}
 use Rattle.graph.specs.Graph.{allBelow}
-use Rattle.machine.specs.Limits.{most-workers}
-use Rattle.machine.specs.Call.{outside}
-use Rattle.text.specs.Text.{Put}
-use Rattle.text.proofs.Written.{nothing, same-long}
+use Rattle.desk.specs.Limits.{most-workers}
+use Rattle.desk.specs.Checks.{outside}
+use Rattle.slices.specs.Put.{Put}
+use Rattle.slices.proofs.Written.{nothing, same-long}
 use Rattle.cards.specs.Deck.{card-workers, deck-size}
 use Rattle.cards.specs.Hand.{roundOf, turnsOf, bytesOf, fault, lengthFault, lengthOf, Deals}
 use Rattle.cards.specs.Rounding.{Roomy, Rounded, Dealing}
@@ -69,14 +68,6 @@ module _ {W : ℕ} {cards before : List ℕ} where
 
 -- ---- the checks
 
--- what a test answered, of what it is promised to be
-pub so : {r x t : Bool} → r ≡ x → r ≡ t → x ≡ t
-so e h = sym e ∙ h
-
--- W is at least 1 where check 8 finds nothing
-pub some-worker : (W : ℕ) → outside most-workers W ≡ false → 1 ≤ W
-some-worker W e = ltb-false W 1 (or-none (ltb W 1) (ltb most-workers W) e .0)
-
 module _ (W : ℕ) (cards : List ℕ) (n : ℕ) where
   pub finds-8 : outside most-workers W ≡ true → fault W cards n ≡ 8
   unfolding fault
@@ -113,18 +104,18 @@ dealt-all W cards before n e some few known w =
 -- ---- the length
 
 module _ (W k : ℕ) where
-  pub length-8 : outside most-workers W ≡ true → lengthOf W k ≡ record { number = 8; bytes = 0 }
+  pub length-8 : outside most-workers W ≡ true → lengthOf W k ≡ record { number = 8; long = 0 }
   unfolding lengthFault
   length-8 h = rw h
 
-  pub length-15 : outside most-workers W ≡ false → card-workers < W → lengthOf W k ≡ record { number = 15; bytes = 0 }
+  pub length-15 : outside most-workers W ≡ false → card-workers < W → lengthOf W k ≡ record { number = 15; long = 0 }
   unfolding lengthFault
   length-15 h g = rw (h, lt-ltb card-workers W g)
 
-  pub length-7 : outside most-workers W ≡ false → W ≤ card-workers → 2 ^ 64 ≤ bytesOf W k → lengthOf W k ≡ record { number = 7; bytes = 0 }
+  pub length-7 : outside most-workers W ≡ false → W ≤ card-workers → 2 ^ 64 ≤ bytesOf W k → lengthOf W k ≡ record { number = 7; long = 0 }
   unfolding lengthFault
   length-7 h g b = rw (h, le-ltb card-workers W g, le-leb (2 ^ 64) (bytesOf W k) b)
 
-  pub length-is : outside most-workers W ≡ false → W ≤ card-workers → bytesOf W k < 2 ^ 64 → lengthOf W k ≡ record { number = 0; bytes = bytesOf W k }
+  pub length-is : outside most-workers W ≡ false → W ≤ card-workers → bytesOf W k < 2 ^ 64 → lengthOf W k ≡ record { number = 0; long = bytesOf W k }
   unfolding lengthFault
   length-is h g b = rw (h, le-ltb card-workers W g, lt-leb (2 ^ 64) (bytesOf W k) b)

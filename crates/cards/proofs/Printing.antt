@@ -9,8 +9,8 @@ use native.Mathlib.Omega.{arith}
 use lib.ListN.{length, getD, take}
 use lib.Seq.{take-length}
 use Rattle.laws.specs.Blocks.{laid}
-use Rattle.text.specs.Text.{Put}
-use Rattle.text.proofs.Written.{nothing, same-long}
+use Rattle.slices.specs.Put.{Put}
+use Rattle.slices.proofs.Written.{nothing, same-long}
 use Rattle.cards.specs.Deck.{deck-size, deck, card}
 use Rattle.cards.specs.Text.{cardLine, deckText, deck-bytes}
 use Rattle.cards.proofs.Deck.{deck-long, all-orders}

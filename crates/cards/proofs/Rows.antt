@@ -5,8 +5,8 @@ use Prim.Native.Nat.{ℕ, suc, _+_, _≤_, _<_}
 use lib.ListN.{length, getD, take, drop}
 use lib.Seq.{sets, sets-eq, take-suc}
 use Rattle.laws.specs.Blocks.{laid}
-use Rattle.text.specs.Text.{Put}
-use Rattle.text.proofs.Written.{then}
+use Rattle.slices.specs.Put.{Put}
+use Rattle.slices.proofs.Written.{then}
 
 -- stores one behind the other are a text written there
 pub stored : (l : List ℕ) (i : ℕ) (vs : List ℕ) → i + length vs ≤ length l → Put l i vs (sets l i vs) (i + length vs)

@@ -1,10 +1,10 @@
 -- Each card is a stretch with an entry for every worker, so a hand's schedule is a cut; and enough stretches finish.
 use mathlib.Core.Path.{_≡_, refl, ap, sym, _∙_}
 use mathlib.Core.Bool.{true}
-use mathlib.Core.List.{List, [], _∷_, _++_, map, append-assoc}
+use mathlib.Core.List.{List, [], _∷_, _++_, map}
 use mathlib.Core.Logic.{by-cases}
-use Prim.Native.Nat.{ℕ, zero, suc, _≤_, _<_}
-use native.Mathlib.Decide.{decLt, decLe}
+use Prim.Native.Nat.{ℕ, _≤_, _<_}
+use native.Mathlib.Decide.{decLt}
 use native.Mathlib.Omega.{arith}
 use lib.Dec.{ltb}
 use lib.ListN.{length, take, drop, length-map}
@@ -12,14 +12,13 @@ use borrow.Author.Tests.{lt-ltb, le-ltb, ltb-true}
 use Rattle.laws.specs.Blocks.{laid}
 use Rattle.laws.specs.Sum.{sum, hit}
 use Rattle.laws.proofs.Grouping.{under-one}
-use Rattle.laws.proofs.Sum.{sum-append, hit-other}
-use Rattle.graph.specs.Chain.{leavingReached}
+use Rattle.laws.proofs.Sum.{hit-other}
 use Rattle.graph.specs.Graph.{allBelow}
 use Rattle.graph.proofs.Formed.{both-true}
 use Rattle.machine.specs.Machine.{Entry, entries}
-use Rattle.machine.specs.Call.{Call, graphOf, scheduledBy, scheduleFits, fault}
-use Rattle.machine.specs.Demand3.{stretchBound, entriesOf, AllHave, joined, Cut}
-use Rattle.machine.proofs.Accept.{fault-scheduled}
+use Rattle.machine.specs.Call.{scheduleFits}
+use Rattle.machine.specs.Demand3.{entriesOf, AllHave, joined, Cut}
+use Rattle.machine.proofs.Finishing.{cut-finishes}
 use Rattle.cards.specs.Deck.{card-workers, deck-size, card, digits}
 use Rattle.cards.specs.Hand.{dealt, asking, circle, roundOf, turnsOf, Rounds}
 use Rattle.cards.proofs.Circle.{turned-long}
@@ -115,34 +114,6 @@ module _ (W : ℕ) (few : W ≤ card-workers) where
       let ws = dealt W (digits (card c)) in
       asking-fit W ws (drop 1 ws ++ take 1 ws) (turnsOf W cards) (turned-long ws) (dealt-low W (digits (card c))) (turns-fit cards)
 
--- ---- a cut into fewer stretches: the first two become one
-
-joined-two : (xs ys : List Entry) (xss : List (List Entry)) → joined ((xs ++ ys) ∷ xss) ≡ joined (xs ∷ ys ∷ xss)
-unfolding joined laid
-joined-two xs ys xss = append-assoc xs ys (joined xss)
-
-fewer : (W k : ℕ) (xs : List Entry) → Cut W (suc (suc k)) xs → Cut W (suc k) xs
-fewer W k xs c = shorter (c .stretches) (c .number) (c .whole) (c .each)
-  where
-    shorter : (xss : List (List Entry)) → length xss ≡ suc (suc k) → joined xss ≡ xs → AllHave W xss → Cut W (suc k) xs
-    shorter [] n w h = absurd (omega arith)
-    shorter (x ∷ []) n w h = absurd (omega arith)
-    shorter (x ∷ y ∷ xss) n w h =
-        record {
-          stretches = (x ++ y) ∷ xss;
-          number = omega arith;
-          whole = joined-two x y xss ∙ w;
-          each = (λ b g. omega (arith, sum-append (λ (e : Entry). hit b (e .worker)) x y, h .0 b g), h .1 .1);
-        }
-
-at-least : (W k j : ℕ) (xs : List Entry) → Cut W k xs → 1 ≤ j → j ≤ k → Cut W j xs
-at-least W zero j xs c h g = absurd (omega arith)
-at-least W (suc zero) j xs c h g = let e : j ≡ 1 = omega arith in rw e c
-at-least W (suc (suc k)) j xs c h g =
-    by-cases (decLe j (suc k))
-    (λ (p : j ≤ suc k). at-least W (suc k) j xs (fewer W k xs c) h p)
-    (λ (p : ¬ (j ≤ suc k)). let e : j ≡ suc (suc k) = omega arith in rw e c)
-
 -- ---- what a schedule of rounds brings about
 
 pub rounds-of : (W : ℕ) (cards : List ℕ) → 1 ≤ W → W ≤ card-workers → allBelow deck-size cards ≡ true → Rounds W (length cards) (turnsOf W cards)
@@ -154,13 +125,4 @@ rounds-of W cards some few known =
       whole = stretches-whole W few cards;
       each = all-have W few cards known;
     } in
-    let none : (c : Call) (marks work tallies : ℕ) → c .workers ≡ W → fault c marks work tallies ≡ 0
-    → fault (scheduledBy (turnsOf W cards) c) marks work tallies ≡ 0 =
-    λ c marks work tallies e f. fault-scheduled c marks work tallies f (turnsOf W cards) (rw e (turns-fit W few cards)) in
-    record {
-      cut = cut;
-      faultless = none;
-      finishes = λ c marks work tallies r marks′ work′ tallies′ e f a g.
-          let enough = at-least W (length cards) (stretchBound (leavingReached (graphOf c) (c .starts)) W) (entries (turnsOf W cards)) cut (omega arith) g in
-          a .demand3 (none c (length marks) (length work) (length tallies) e f) .finishes (rw e enough);
-    }
+    record { cut = cut; brings = cut-finishes cut (turns-fit W few cards) }

@@ -60,10 +60,10 @@ unfolding fault allBelow
 refusals-hold = refl
 
 -- the length of so many cards' turns, where it fits 64 bits and where not
-pub length-most : lengthOf 6 1537228672809129301 ≡ record { number = 0; bytes = 18446744073709551612 }
+pub length-most : lengthOf 6 1537228672809129301 ≡ record { number = 0; long = 18446744073709551612 }
 unfolding lengthFault
 length-most = refl
 
-pub length-more : lengthOf 6 1537228672809129302 ≡ record { number = 7; bytes = 0 }
+pub length-more : lengthOf 6 1537228672809129302 ≡ record { number = 7; long = 0 }
 unfolding lengthFault
 length-more = refl

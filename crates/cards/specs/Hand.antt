@@ -1,26 +1,23 @@
 -- SPECIFICATION 9: the schedule of a hand of cards, its checks (8, 15, 7), and what such a schedule brings about.
 use mathlib.Core.Path.{_≡_}
-use mathlib.Core.Bool.{true, not}
+use mathlib.Core.Bool.{not}
 use mathlib.Core.List.{List, [], _∷_, _++_}
-use Prim.Native.Nat.{ℕ, zero, suc, _*_, _^_, _≤_}
+use Prim.Native.Nat.{ℕ, _*_, _^_}
 use lib.ListN.{length, take, drop}
 use lib.Dec.{ltb, leb, eqb}
 use Rattle.laws.specs.Blocks.{laid}
 use Rattle.laws.specs.Choice.{pick}
 use Rattle.refusal.specs.declared.Verdict.{Verdict}
-use Rattle.refusal.specs.Number.{number, numberOf}
+use Rattle.refusal.specs.Number.{numberOf}
 use Rattle.refusal.specs.Order.{raise, first}
-use Rattle.graph.specs.Chain.{leavingReached}
 use Rattle.graph.specs.Graph.{allBelow}
-use Rattle.machine.specs.Limits.{most-workers}
+use Rattle.desk.specs.Checks.{workersFault}
+use Rattle.desk.specs.Kept.{unlessRefused}
+use Rattle.desk.specs.Length.{LengthRow, lengthBy}
 use Rattle.machine.specs.Machine.{entries}
-use Rattle.machine.specs.Call.{Call, graphOf, scheduledBy, outside, fault as markFault}
-use Rattle.machine.specs.Demand3.{stretchBound, Cut}
-use Rattle.marker.specs.declared.Marked.{Marked}
-use Rattle.marker.specs.Answer.{row as markRow, Answered}
+use Rattle.machine.specs.Demand3.{Cut}
+use Rattle.machine.specs.Finishing.{Finishes}
 use Rattle.cards.specs.Deck.{card-workers, deck-size, card, digits}
-use Rattle.cards.specs.declared.Length.{Length}
-use Rattle.cards.specs.declared.Length.the-variants.{Bytes, Refused}
 
 -- ---- the turns of a hand
 
@@ -56,10 +53,6 @@ bytesOf W k = k * (2 * W)
 
 -- ---- the checks
 
--- 8: W is outside its range. The hand has no D and no K.
-abbrev pub workersFault : ℕ → ℕ
-workersFault W = raise (outside most-workers W) 8 0
-
 -- 15: more workers than a card has
 abbrev pub widthFault : ℕ → ℕ
 widthFault W = raise (ltb card-workers W) 15 0
@@ -72,58 +65,34 @@ cardsFault cards = raise (not (allBelow deck-size cards)) 15 0
 abbrev pub scheduleFault : ℕ → ℕ → ℕ → ℕ
 scheduleFault W k length = raise (not (eqb length (bytesOf W k))) 7 0
 
--- the number of the first fault of a hand for W workers and a schedule of so many bytes, or 0
+-- the number of the first fault of a hand, which has no D and no K, for W workers and a schedule of so many bytes, or 0
 unfoldable pub fault : ℕ → List ℕ → ℕ → ℕ
 fault W cards long =
     first (workersFault W)
     (first (widthFault W)
     (first (cardsFault cards) (scheduleFault W (length cards) long)))
 
--- the schedule afterwards, by the number of the fault; unchanged beside a refusal
-abbrev pub scheduleFor : ℕ → List ℕ → List ℕ → List ℕ
-scheduleFor zero turns before = turns
-scheduleFor (suc k) turns before = before
-
 -- ---- how long the schedule of k cards is
-
--- the number returned (0 for none), and the bytes
-pub record LengthRow : Type 0 where
-  pub number : ℕ
-  pub bytes : ℕ
-
-abbrev pub lengthRow : Length → LengthRow
-lengthRow (Bytes n) = record { number = 0; bytes = n }
-lengthRow (Refused r) = record { number = number r; bytes = 0 }
 
 -- the first fault: 8, 15, and 7 where no buffer is so long
 unfoldable pub lengthFault : ℕ → ℕ → ℕ
 lengthFault W k = first (workersFault W) (first (widthFault W) (raise (leb (2 ^ 64) (bytesOf W k)) 7 0))
 
-abbrev pub lengthFor : ℕ → ℕ → LengthRow
-lengthFor zero n = record { number = 0; bytes = n }
-lengthFor (suc k) n = record { number = suc k; bytes = 0 }
-
 -- what the call for the length answers
 abbrev pub lengthOf : ℕ → ℕ → LengthRow
-lengthOf W k = lengthFor (lengthFault W k) (bytesOf W k)
+lengthOf W k = lengthBy (lengthFault W k) (bytesOf W k)
 
 -- ---- what a schedule of k rounds brings about
 
 pub record Rounds (W k : ℕ) (schedule : List ℕ) : Type 0 where
   -- each round is a stretch: it has an entry for every worker below W
   pub cut : Cut W k (entries schedule)
-  -- a marker's call without a fault has none with this schedule either
-  pub faultless : (c : Call) (marks work tallies : ℕ) → c .workers ≡ W → markFault c marks work tallies ≡ 0
-      → markFault (scheduledBy schedule c) marks work tallies ≡ 0
-  -- and is finished, where there are as many rounds as finish, or more
-  pub finishes : (c : Call) (marks work tallies : List ℕ) (r : Marked) (marks′ work′ tallies′ : List ℕ) → c .workers ≡ W
-      → markFault c (length marks) (length work) (length tallies) ≡ 0
-      → Answered (scheduledBy schedule c) marks work tallies r marks′ work′ tallies′
-      → stretchBound (leavingReached (graphOf c) (c .starts)) W ≤ k → markRow r .finished ≡ true
+  -- so enough rounds finish
+  pub brings : Finishes W k schedule
 
 -- ---- the promise of the call, for all inputs
 
 pub record Deals (W : ℕ) (cards before : List ℕ) (v : Verdict) (after : List ℕ) : Type 0 where
   pub number-is : numberOf v ≡ fault W cards (length before)
-  pub schedule-is : after ≡ scheduleFor (fault W cards (length before)) (turnsOf W cards) before
+  pub schedule-is : after ≡ unlessRefused (fault W cards (length before)) (turnsOf W cards) before
   pub brings : fault W cards (length before) ≡ 0 → Rounds W (length cards) after

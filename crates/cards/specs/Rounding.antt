@@ -4,7 +4,7 @@ use mathlib.Core.Bool.{true}
 use mathlib.Core.List.{List, [], _∷_, _++_}
 use Prim.Native.Nat.{ℕ, _+_, _*_, _≤_, _<_}
 use lib.ListN.{length}
-use Rattle.text.specs.Text.{Put}
+use Rattle.slices.specs.Put.{Put}
 use Rattle.cards.specs.Deck.{card-workers, deck-size, deck}
 use Rattle.graph.specs.Graph.{allBelow}
 use Rattle.cards.specs.Hand.{dealt, circle, roundOf, bytesOf}

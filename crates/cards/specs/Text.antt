@@ -4,7 +4,8 @@ use mathlib.Core.List.{List, map}
 use Prim.Native.Nat.{ℕ, _+_, _≤_, _<_}
 use lib.ListN.{length}
 use Rattle.laws.specs.Blocks.{laid}
-use Rattle.text.specs.Text.{line, Put}
+use Rattle.slices.specs.Put.{Put}
+use Rattle.text.specs.Text.{line}
 use Rattle.cards.specs.Deck.{deck, digits}
 
 -- a card's line

@@ -4,18 +4,9 @@ ghost use mathlib.Core.Path.{_≡_};
 ghost use Prim.Native.Nat.{_≤_};
 ghost use lib.ListN.{length};
 ghost use lib.Dec.{eqb};
-ghost use Rattle.machine.specs.Limits.{most-workers};
-ghost use Rattle.machine.specs.Call.{outside};
 ghost use Rattle.cards.specs.Deck.{card-workers, digits};
 ghost use Rattle.cards.specs.Hand.{turnsOf, bytesOf};
 ghost use Rattle.cards.specs.Rounding.{Seats, Seated, Roomy, Rounded, Dealing};
-
-// Check 8 of W alone: it is not 1 to 16.
-pub fn workers_outside(workers: u32) -> bool
-    ensures { λ r. ⌜ r ≡ outside most-workers workers ⌝ }
-{
-    marker::out_of_range(workers as usize, machine::MOST_WORKERS as usize)
-}
 
 // Check 7: whether so many bytes are the schedule of so many cards.
 pub fn is_schedule_of(bytes: usize, cards: usize, workers: u32) -> bool

@@ -3,24 +3,20 @@ pub mod hand;
 pub mod print;
 pub mod table;
 
+use desk::Length;
 use refusal::Refusal;
 use refusal::Verdict;
 use table::CARD_WORKERS;
 use table::DECK_SIZE;
 ghost use mathlib.Core.Path.{_≡_};
-ghost use Rattle.cards.specs.Hand.{lengthRow, lengthOf, Deals};
-
-// How long the schedule of a hand is, or the refusal.
-pub enum Length {
-    Bytes(usize),
-    Refused(Refusal),
-}
+ghost use Rattle.desk.specs.Length.{lengthRow};
+ghost use Rattle.cards.specs.Hand.{lengthOf, Deals};
 
 // How many bytes the schedule of so many cards has.
 pub fn schedule_length(cards: usize, workers: u32) -> Length
     ensures { λ r. ⌜ lengthRow r ≡ lengthOf workers cards ⌝ }
 {
-    if hand::workers_outside(workers) {
+    if desk::workers_outside(workers) {
         return Length::Refused(Refusal::Setting);
     }
     if CARD_WORKERS < workers {
@@ -30,14 +26,14 @@ pub fn schedule_length(cards: usize, workers: u32) -> Length
     if usize::MAX / round < cards {
         return Length::Refused(Refusal::Buffer);
     }
-    Length::Bytes(cards * round)
+    Length::Is((cards * round) as u64)
 }
 
 // The schedule of a hand for W workers, in a lent schedule of exactly its length.
 pub fn deal(cards: &[u32], workers: u32, schedule: &mut [u8]) -> Verdict
     ensures { λ v. ⌜ Deals workers (now (cards .entry)) (now (schedule .entry)) v (now (schedule .exit)) ⌝ }
 {
-    if hand::workers_outside(workers) {
+    if desk::workers_outside(workers) {
         return Verdict::Faulty(Refusal::Setting);
     }
     if CARD_WORKERS < workers {

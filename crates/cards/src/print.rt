@@ -3,7 +3,7 @@ use crate::table;
 use crate::table::DECK_SIZE;
 ghost use Prim.Native.Nat.{_+_, _≤_, _<_};
 ghost use lib.ListN.{length};
-ghost use Rattle.text.specs.Text.{Put};
+ghost use Rattle.slices.specs.Put.{Put};
 ghost use Rattle.cards.specs.Text.{cardLine, Prints};
 
 // How many bytes the text has.

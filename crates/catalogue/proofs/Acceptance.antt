@@ -8,10 +8,10 @@ use lib.Seq.{take-all, drop-drop}
 use Rattle.laws.specs.Every.{Every}
 use Rattle.laws.specs.Words.{le, word, Bytes}
 use Rattle.laws.proofs.Words.{word-le, le-field, take-join, bytes-drop}
-use Rattle.catalogue.specs.Store.{Store, Link, Ends, InRange, stored, objects, references, most-leases}
-use Rattle.catalogue.specs.Layout.{reference, headerRecord, objectRecord, linkRecord, leaseRecord, layout}
-use Rattle.catalogue.specs.Reading.{accepted, reading, faults, dues, catalogueFault, records, leases-at, lease-count, leasesFrom, storeOf}
-use Rattle.catalogue.specs.Reading.{n-field, m-field, index-field, size-field, link-field}
+use Rattle.records.specs.Store.{Store, Link, Ends, InRange, stored, objects, references, most-leases}
+use Rattle.records.specs.Layout.{reference, headerRecord, objectRecord, linkRecord, leaseRecord, layout}
+use Rattle.records.specs.Reading.{accepted, reading, faults, dues, catalogueFault, records, leases-at, lease-count, leasesFrom, storeOf}
+use Rattle.records.specs.Reading.{n-field, m-field, index-field, size-field, link-field}
 use Rattle.catalogue.proofs.Faults.{GoodHeader, clear-header}
 use Rattle.catalogue.proofs.Forms.{object-form, link-form, lease-form, form-bytes, record-bytes, written-faults, written-records, written-behind, written-length}
 use Rattle.catalogue.proofs.Leases.{written-leases}

@@ -8,14 +8,14 @@ use lib.Seq.{drop-drop}
 use Rattle.laws.specs.Every.{Every}
 use Rattle.laws.proofs.Every.{every-map}
 use Rattle.refusal.proofs.None.{first-none}
-use Rattle.catalogue.specs.Layout.{header, reference}
-use Rattle.catalogue.specs.Store.{Pair, Link, Ends, InRange, stored, most-leases}
-use Rattle.catalogue.specs.Reading.{n-field, m-field, size-field, link-field, lease-field, recordFault, faults, dues, catalogueFault, records, leases-at, lease-count, storeOf}
-use Rattle.catalogue.specs.Fill.{Fillable, pairsOf}
+use Rattle.records.specs.Layout.{header, reference}
+use Rattle.records.specs.Store.{Pair, Link, Ends, InRange, stored, most-leases}
+use Rattle.records.specs.Reading.{n-field, m-field, size-field, link-field, lease-field, recordFault, faults, dues, catalogueFault, records, leases-at, lease-count, storeOf}
+use Rattle.records.specs.Fill.{Fillable, pairsOf}
 use Rattle.catalogue.proofs.Faults.{GoodHeader, GoodObject, GoodLink, GoodLease, good-header-record}
 use Rattle.catalogue.proofs.Forms.{EachRecord, object-form, link-form, lease-form, form-good, form-long, form-legal}
 use Rattle.catalogue.proofs.Leases.{Leased, leased}
-use Rattle.catalogue.proofs.Filling.{length-records, map-records}
+use Rattle.records.proofs.Filling.{length-records, map-records}
 
 -- bytes without a fault
 pub record Whole (b : List ℕ) : Type 0 where

@@ -8,15 +8,15 @@ use native.Mathlib.Omega.{arith}
 use lib.ListN.{length, drop}
 use Rattle.laws.specs.Words.{Bytes}
 use Rattle.refusal.specs.Order.{raise, first}
-use Rattle.catalogue.specs.Store.{Store, most-leases}
-use Rattle.catalogue.specs.Layout.{lease}
-use Rattle.catalogue.specs.Reading.{Kind, kindOf, lengthOf, kind-field, short, misfit, misplaced, overfull, miscounted, misnamed, oversized, nothing}
-use Rattle.catalogue.specs.Reading.{Reading, refused, accepted, reading, judged, storeOf, contentsFault, recordFault, surplusFault, leaseFaults, faults, catalogueFault}
+use Rattle.records.specs.Store.{Store, most-leases}
+use Rattle.records.specs.Layout.{lease}
+use Rattle.records.specs.Reading.{Kind, kindOf, lengthOf, kind-field, short, misfit, misplaced, overfull, miscounted, misnamed, oversized, nothing}
+use Rattle.records.specs.Reading.{Reading, refused, accepted, reading, judged, storeOf, contentsFault, recordFault, surplusFault, leaseFaults, faults, catalogueFault}
 use Rattle.catalogue.specs.Answer.{ReadRow, lentTo, misfitting, taken, readRow, offsetsAfter, targetsAfter, sizesAfter, startsAfter, Reads}
 use Rattle.catalogue.specs.Acceptance.{Faultless, Lays, Returned, Acceptance}
 use Rattle.catalogue.proofs.Accepted.{whole-bytes, whole-range}
 use Rattle.catalogue.proofs.Acceptance.{whole-layout, layout-accepted}
-use Rattle.catalogue.proofs.ReadGraph.{read-graph}
+use Rattle.records.proofs.ReadGraph.{read-graph}
 
 -- ---- no fault of the catalogue has the number 7
 

@@ -11,10 +11,10 @@ use mathlib.Core.Bool.{true, false, not, _||_}
 use Rattle.refusal.specs.Order.{raise}
 use Rattle.graph.specs.Limits.{most-objects, most-references, largest-size}
 use Rattle.catalogue.specs.Answer.{Heads}
-use Rattle.catalogue.specs.Layout.{header, object, reference, lease, subject}
-use Rattle.catalogue.specs.Reading.{Kind, header-kind, object-kind, reference-kind, lease-kind, subject-kind, unknown, kindOf, lengthOf}
-use Rattle.catalogue.specs.Reading.{length-field, kind-field, size-field, pair-field, lease-field}
-use Rattle.catalogue.specs.Reading.{misfit, misplaced, overfull, miscounted, misnamed, oversized, contentsFault, recordFault}
+use Rattle.records.specs.Layout.{header, object, reference, lease, subject}
+use Rattle.records.specs.Reading.{Kind, header-kind, object-kind, reference-kind, lease-kind, subject-kind, unknown, kindOf, lengthOf}
+use Rattle.records.specs.Reading.{length-field, kind-field, size-field, pair-field, lease-field}
+use Rattle.records.specs.Reading.{misfit, misplaced, overfull, miscounted, misnamed, oversized, contentsFault, recordFault}
 
 -- the faults 4 to 6 of a record
 abbrev pub contents : Kind → ℕ → List ℕ → ℕ

@@ -16,12 +16,12 @@ use Rattle.refusal.specs.Number.{number}
 use Rattle.refusal.specs.Order.{raise, first}
 use Rattle.refusal.proofs.Numbers.{numbered, first-found}
 use Rattle.graph.specs.Limits.{largest-size}
-use Rattle.catalogue.specs.Layout.{header, object, reference, subject}
-use Rattle.catalogue.specs.Reading.{Kind, header-kind, object-kind, reference-kind, lease-kind, subject-kind, unknown, kindOf, lengthOf, dues, dueAt, leases-at}
-use Rattle.catalogue.specs.Reading.{kind-field, n-field, m-field, short, contentsFault, recordFault, leaseFaults, faults, Clear, catalogueFault}
-use Rattle.catalogue.specs.Store.{most-leases}
+use Rattle.records.specs.Layout.{header, object, reference, subject}
+use Rattle.records.specs.Reading.{Kind, header-kind, object-kind, reference-kind, lease-kind, subject-kind, unknown, kindOf, lengthOf, dues, dueAt, leases-at}
+use Rattle.records.specs.Reading.{kind-field, n-field, m-field, short, contentsFault, recordFault, leaseFaults, faults, Clear, catalogueFault}
+use Rattle.records.specs.Store.{most-leases}
 use Rattle.catalogue.specs.Answer.{refusal-row, header-values}
-use Rattle.catalogue.specs.Fill.{Listed}
+use Rattle.records.specs.Fill.{Listed}
 use Rattle.catalogue.proofs.Faults.{Framed, good-object-record, good-link-record, link-long, clear-object, clear-link}
 
 -- the fault of a header does not depend on n

@@ -11,12 +11,12 @@ use lib.Dec.{eqb, ltb}
 use Rattle.refusal.specs.Order.{raise}
 use Rattle.refusal.proofs.None.{raise-none, or-none}
 use Rattle.catalogue.proofs.Cases.{Known, as-header, as-object, as-reference, as-lease, as-subject, numberFor, kind-number, contents, placed, right-frame, whole}
-use Rattle.catalogue.specs.Layout.{header, object, reference, lease, subject}
+use Rattle.records.specs.Layout.{header, object, reference, lease, subject}
 use Rattle.graph.specs.Limits.{most-objects, most-references, largest-size}
-use Rattle.catalogue.specs.Store.{Ends}
-use Rattle.catalogue.specs.Reading.{Kind, header-kind, object-kind, reference-kind, lease-kind, subject-kind, unknown, kindOf, lengthOf, nothing}
-use Rattle.catalogue.specs.Reading.{length-field, kind-field, n-field, m-field, index-field, size-field, pair-field, lease-field}
-use Rattle.catalogue.specs.Reading.{short, misfit, misplaced, overfull, miscounted, misnamed, oversized, contentsFault, recordFault}
+use Rattle.records.specs.Store.{Ends}
+use Rattle.records.specs.Reading.{Kind, header-kind, object-kind, reference-kind, lease-kind, subject-kind, unknown, kindOf, lengthOf, nothing}
+use Rattle.records.specs.Reading.{length-field, kind-field, n-field, m-field, index-field, size-field, pair-field, lease-field}
+use Rattle.records.specs.Reading.{short, misfit, misplaced, overfull, miscounted, misnamed, oversized, contentsFault, recordFault}
 
 -- a record of a kind where one is due, without a fault
 record Faultless (k : Kind) (due n : ℕ) (b : List ℕ) : Type 0 where

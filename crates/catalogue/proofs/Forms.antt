@@ -12,9 +12,9 @@ use Rattle.laws.specs.Words.{le, word, Bytes}
 use Rattle.laws.proofs.Words.{word-le, le-field, take-join, bytes-drop}
 use Rattle.refusal.proofs.None.{first-none}
 use Rattle.graph.specs.Limits.{most-objects, largest-size}
-use Rattle.catalogue.specs.Store.{Pair, Link, refers, names, stored, Ends}
-use Rattle.catalogue.specs.Layout.{object, reference, lease, subject, recordOf, objectRecord, pairRecord, linkRecord, leaseRecord}
-use Rattle.catalogue.specs.Reading.{kindOf, lengthOf, length-field, kind-field, size-field, pair-field, link-field, lease-field, recordFault, faults, records}
+use Rattle.records.specs.Store.{Pair, Link, refers, names, stored, Ends}
+use Rattle.records.specs.Layout.{object, reference, lease, subject, recordOf, objectRecord, pairRecord, linkRecord, leaseRecord}
+use Rattle.records.specs.Reading.{kindOf, lengthOf, length-field, kind-field, size-field, pair-field, link-field, lease-field, recordFault, faults, records}
 use Rattle.catalogue.proofs.Faults.{GoodObject, GoodLink, GoodLease, link-long, good-object-record, good-link-record, good-lease-record}
 use Rattle.catalogue.proofs.Faults.{clear-object, clear-link, clear-lease}
 

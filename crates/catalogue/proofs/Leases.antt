@@ -13,9 +13,9 @@ use Rattle.refusal.specs.Order.{first}
 use Rattle.refusal.proofs.Numbers.{first-found}
 use Rattle.refusal.proofs.None.{first-none}
 use Rattle.graph.specs.Limits.{most-objects}
-use Rattle.catalogue.specs.Store.{most-leases}
-use Rattle.catalogue.specs.Layout.{lease, leaseRecord}
-use Rattle.catalogue.specs.Reading.{nothing, recordFault, surplusFault, leaseFaults}
+use Rattle.records.specs.Store.{most-leases}
+use Rattle.records.specs.Layout.{lease, leaseRecord}
+use Rattle.records.specs.Reading.{nothing, recordFault, surplusFault, leaseFaults}
 use Rattle.catalogue.proofs.Faults.{GoodLease, good-lease-record, never-good}
 use Rattle.catalogue.proofs.Forms.{EachRecord, lease-form}
 

@@ -3,11 +3,7 @@ pub mod Faults
 pub mod Forms
 pub mod Leases
 pub mod Checking
-pub mod Filling
 pub mod Accepted
 pub mod Reader
 pub mod Acceptance
-pub mod ReadGraph
 pub mod Accepting
-pub mod Chain
-pub mod Subject

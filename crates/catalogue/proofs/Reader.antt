@@ -12,11 +12,11 @@ use Rattle.refusal.specs.declared.Refusal.{Refusal}
 use Rattle.refusal.specs.Number.{number}
 use Rattle.refusal.proofs.Numbers.{numbered}
 use Rattle.refusal.proofs.None.{or-none}
-use Rattle.catalogue.specs.Store.{Store, stored, start-words, padded}
-use Rattle.catalogue.specs.Reading.{refused, accepted, judged, reading, catalogueFault, storeOf, records, size-field, link-field, lease-field, n-field, m-field, leases-at, lease-count, leasesFrom}
+use Rattle.records.specs.Store.{Store, stored, start-words, padded}
+use Rattle.records.specs.Reading.{refused, accepted, judged, reading, catalogueFault, storeOf, records, size-field, link-field, lease-field, n-field, m-field, leases-at, lease-count, leasesFrom}
 use Rattle.catalogue.specs.Answer.{unread, misfits, taken, Reads, Heads}
-use Rattle.catalogue.specs.Fill.{pairsOf, fromOf, toOf}
-use Rattle.catalogue.proofs.Filling.{length-records, map-records}
+use Rattle.records.specs.Fill.{pairsOf, fromOf, toOf}
+use Rattle.records.proofs.Filling.{length-records, map-records}
 
 judged-fault : (f : Refusal) (k : ℕ) (s : Store) → number f ≡ k → judged k s ≡ refused (number f)
 judged-fault f zero s h = absurd (omega (arith, h, numbered f))

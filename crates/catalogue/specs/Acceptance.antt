@@ -6,10 +6,10 @@ use mathlib.Core.Logic.{_⊎_, _↔_}
 use Prim.Native.Nat.{ℕ}
 use Rattle.graph.specs.Graph.{graph}
 use lib.ListN.{length}
-use Rattle.catalogue.specs.Store.{Store, InRange, objects, references, offsetsOf, targetsOf, startsOf, padded}
-use Rattle.catalogue.specs.Layout.{layout}
+use Rattle.records.specs.Store.{Store, InRange, objects, references, offsetsOf, targetsOf, startsOf, padded}
+use Rattle.records.specs.Layout.{layout}
 use Rattle.catalogue.specs.Answer.{ReadRow}
-use Rattle.catalogue.specs.ReadGraph.{ReadGraph}
+use Rattle.records.specs.ReadGraph.{ReadGraph}
 
 -- the number of a call that finds no fault in the catalogue: 0, or 7 where only a lent length is wrong
 abbrev pub Faultless : ℕ → Type 0

@@ -10,9 +10,9 @@ use Rattle.catalogue.specs.declared.Answer.{Answer}
 use Rattle.catalogue.specs.declared.Answer.the-variants.{Read, Refused}
 use Rattle.catalogue.specs.declared.Found.{Found}
 use Rattle.catalogue.specs.declared.Found.the-variants.{Read as found-read, Refused as found-refused}
-use Rattle.catalogue.specs.Store.{Store, objects, references, offsetsOf, targetsOf, startsOf, start-words, padded}
-use Rattle.catalogue.specs.Layout.{header}
-use Rattle.catalogue.specs.Reading.{Reading, refused, accepted, reading, recordFault, n-field, m-field, index-field}
+use Rattle.records.specs.Store.{Store, objects, references, offsetsOf, targetsOf, startsOf, start-words, padded}
+use Rattle.records.specs.Layout.{header}
+use Rattle.records.specs.Reading.{Reading, refused, accepted, reading, recordFault, n-field, m-field, index-field}
 
 -- what the header call returns: a number, n, m and the index
 pub record Row : Type 0 where

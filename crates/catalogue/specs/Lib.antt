@@ -1,11 +1,2 @@
 pub mod Acceptance
 pub mod Answer
-pub mod Chain
-pub mod Examples
-pub mod Fill
-pub mod Layout
-pub mod ReadGraph
-pub mod Reading
-pub mod Signed
-pub mod Store
-pub mod Subject

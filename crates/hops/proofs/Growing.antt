@@ -4,7 +4,7 @@ use mathlib.Core.Path.{_≡_, refl, sym, ap, _∙_}
 use mathlib.Core.Bool.{true}
 use mathlib.Core.List.{List}
 use mathlib.Core.Logic.{_≢_, _⊎_, inl, inr, ⊎-elim, by-cases}
-use Prim.Native.Nat.{ℕ, zero, suc, _+_, _*_, _≤_, _<_}
+use Prim.Native.Nat.{ℕ, suc, _+_, _≤_, _<_}
 use native.Mathlib.Omega.{arith}
 use native.Mathlib.Numerals.{add-one}
 use native.Mathlib.Decide.{decLe}
@@ -14,10 +14,10 @@ use Rattle.laws.specs.Sum.{sum, hit}
 use Rattle.laws.proofs.Sum.{hit-same, hit-other, hit-equal, hit-swap, either-positive, hit-at-most-one, sum-share, sum-snoc, sum-set, at-set, inside}
 use Rattle.graph.specs.Graph.{allBelow}
 use Rattle.graph.proofs.Formed.{below-all}
-use Rattle.bag.specs.Bag.{Bag, Same, Addable, Adds, HasLinks, times, contents}
+use Rattle.bag.specs.Bag.{Addable, Adds, times, contents}
 use Rattle.bag.proofs.Trees.{same-then}
 use Rattle.hops.specs.Hops.{none, hopOf}
-use Rattle.hops.specs.Search.{unknown, Growable, Grown}
+use Rattle.hops.specs.Search.{Growable, Grown}
 
 -- two numbers are the same or not
 pub alike : (v w : ℕ) → (v ≡ w) ⊎ (v ≢ w)
@@ -32,10 +32,6 @@ none-hit x e = rw e (hit-same none)
 
 pub some-hit : (x : ℕ) → x ≢ none → hit none x ≡ 0
 some-hit x h = hit-other none x (λ e. h (sym e))
-
--- an object without a count is in the list
-pub unknown-inside : (H : List ℕ) (v : ℕ) → 0 < hit none (hopOf H v) → v < length H
-unknown-inside H v h = inside H v 0 (hit none) (hit-other none 0 (λ e. omega arith)) h
 
 module _ {hop : ℕ} {H L S : List ℕ} (ok : Growable hop H L S) where
   pub grown-none : Grown hop (λ (v : ℕ). 0) H L S H L S

@@ -3,9 +3,9 @@
 -- empty takes at least one object, so there are no more layers than objects.
 use mathlib.Core.Path.{_≡_, refl, sym, ap, _∙_}
 use mathlib.Core.Bool.{true}
-use mathlib.Core.List.{List, [], _∷_, _++_}
-use mathlib.Core.Logic.{_≢_, _⊎_, ⊎-elim, by-cases}
-use Prim.Native.Nat.{ℕ, zero, suc, _+_, _-_, _*_, _≤_, _<_}
+use mathlib.Core.List.{List, [], _∷_}
+use mathlib.Core.Logic.{_≢_, ⊎-elim, by-cases}
+use Prim.Native.Nat.{ℕ, zero, suc, _+_, _≤_, _<_}
 use native.Mathlib.Omega.{arith}
 use native.Mathlib.Decide.{decLe}
 use native.Mathlib.Numerals.{add-one}
@@ -13,19 +13,17 @@ use lib.ListN.{length, getD, replicate, length-replicate, getD-replicate, List·
 use Rattle.laws.specs.Sum.{sum, hit}
 use Rattle.laws.specs.Span.{span}
 use Rattle.laws.proofs.Sum.{hit-same, hit-other, hit-equal, hit-at-most-one, either-positive, sum-at, sum-positive, sum-one, sum-below}
-use Rattle.graph.specs.Graph.{Graph, Leaves, objects, references, first, after, degree, target, allBelow}
+use Rattle.graph.specs.Graph.{Graph, Leaves, objects, first, degree, target, allBelow}
 use Rattle.graph.specs.Chain.{Reach}
 use Rattle.graph.specs.Chain as graph
 use Rattle.graph.specs.Formed.{Formed}
 use Rattle.graph.specs.Limits.{most-objects}
 use Rattle.graph.proofs.Formed.{below-all}
-use Rattle.machine.specs.Demand2.{FinishedMarks}
-use Rattle.machine.specs.Sound.{Marked}
 use Rattle.machine.proofs.Demand2.{marked-is}
 use Rattle.bag.specs.Bag.{sizeOf, Bag, times, contents, empty}
 use Rattle.hops.specs.Hops.{none, Chain, here, on, hopOf, HopsOf}
 use Rattle.hops.specs.Search.{leadsTo, unknown, Growable, Grown, Walkable, Apart, Searchable, Layer}
-use Rattle.hops.proofs.Growing.{alike, none-hit, some-hit, unknown-inside}
+use Rattle.hops.proofs.Growing.{alike, none-hit, some-hit}
 use Rattle.hops.proofs.Spreading.{none-in, empty-length, empty-bag}
 
 -- ---- what leads where

@@ -1,24 +1,24 @@
 -- One pennant of a layer, and all of them. What carries the argument: a pennant's own bag holds only objects that had no count, so it shares
 -- nothing with the next layer so far, nor with the layer that is walked.
 use mathlib.Core.Path.{_≡_, refl, sym, ap, _∙_}
-use mathlib.Core.List.{List, [], _∷_, _++_, map, append-nil}
+use mathlib.Core.List.{List, map, append-nil}
 use mathlib.Core.Logic.{_≢_, by-cases}
-use Prim.Native.Nat.{ℕ, zero, suc, _+_, _-_, _*_, _/_, _≤_, _<_}
+use Prim.Native.Nat.{ℕ, suc, _+_, _-_, _*_, _/_, _≤_, _<_}
 use native.Mathlib.Decide.{decLe}
 use native.Mathlib.Omega.{arith}
 use native.Mathlib.Numerals.{add-one}
 use lib.ListN.{length, getD, take, drop}
 use Rattle.laws.specs.Sum.{sum, hit}
 use Rattle.laws.proofs.Sum.{hit-at-most-one, sum-append}
-use Rattle.graph.specs.Graph.{Graph, objects}
-use Rattle.bag.specs.Bag.{slot-count, slotsOf, sizeOf, Bag, Same, Joinable, Joins, times, leftOf, treeOf, pennantOf, slotOf, contentsFrom, contents, filled, empty}
+use Rattle.graph.specs.Graph.{Graph}
+use Rattle.bag.specs.Bag.{slot-count, slotsOf, sizeOf, Bag, Joinable, Joins, times, leftOf, treeOf, pennantOf, slotOf, contentsFrom, contents, filled, empty}
 use Rattle.bag.proofs.Trees.{times-pennant, root-there, tree-frame, pennant-frame, same-then}
 use Rattle.bag.proofs.Contents.{contents-none, contents-frame, contents-split, contents-take, contents-length, times-at, value, value-at, value-end, none-left, filled-low}
 use Rattle.bag.proofs.Adder.{filled-is}
 use Rattle.bag.proofs.Adding.{slots-long, slot-at}
 use Rattle.hops.specs.Hops.{none, hopOf}
-use Rattle.hops.specs.Search.{leadsTo, unknown, Growable, Grown, Walkable, Apart}
-use Rattle.hops.proofs.Growing.{none-hit, some-hit, grown-none, growable-after, grown-then, grown-as}
+use Rattle.hops.specs.Search.{leadsTo, Grown, Walkable, Apart}
+use Rattle.hops.proofs.Growing.{grown-none, grown-then, grown-as}
 use Rattle.hops.proofs.Visiting.{apart-same, apart-after, apart-part, walkable-after}
 
 -- ---- a bag of its own

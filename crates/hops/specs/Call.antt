@@ -2,18 +2,16 @@
 use mathlib.Core.Path.{_≡_}
 use mathlib.Core.Bool.{not, _||_}
 use mathlib.Core.List.{List}
-use Prim.Native.Nat.{ℕ, zero, suc, _*_}
+use Prim.Native.Nat.{ℕ, suc, _*_}
 use lib.Dec.{eqb}
 use lib.ListN.{length}
 use Rattle.refusal.specs.declared.Verdict.{Verdict}
-use Rattle.refusal.specs.Number.{number, numberOf}
+use Rattle.refusal.specs.Number.{numberOf}
 use Rattle.refusal.specs.Order.{raise, first}
 use Rattle.graph.specs.Graph.{graph, objects}
-use Rattle.graph.specs.Limits.{most-objects}
-use Rattle.machine.specs.Call.{outside, countFault, graphFault, startsFault, objectFault}
+use Rattle.desk.specs.Checks.{countFault, objectsFault, storeFault}
+use Rattle.desk.specs.Length.{LengthRow, lengthBy}
 use Rattle.hops.specs.Hops.{HopsOf}
-use Rattle.hops.specs.declared.Length.{Length}
-use Rattle.hops.specs.declared.Length.the-variants.{Words, Refused}
 
 -- how many work words n objects take
 abbrev pub workWords : ℕ → ℕ
@@ -28,9 +26,7 @@ unfoldable pub fault : List ℕ → List ℕ → List ℕ → ℕ → ℕ → �
 fault offsets targets starts hops work =
     first (countFault offsets targets)
     (first (bufferFault (objects (graph offsets targets)) hops work)
-    (first (graphFault (graph offsets targets))
-    (first (startsFault starts)
-    (objectFault (objects (graph offsets targets)) starts))))
+    (storeFault offsets targets starts))
 
 -- what the checks find is the first fault
 pub record Finds (v : Verdict) (offsets targets starts : List ℕ) (hops work : ℕ) : Type 0 where
@@ -46,22 +42,6 @@ pub record Answered (offsets targets starts hops work : List ℕ) (v : Verdict) 
 
 -- ---- the number of work words
 
--- an answer: the number returned (0 for none), and the words
-pub record LengthRow : Type 0 where
-  pub number : ℕ
-  pub words : ℕ
-
-abbrev pub lengthWith : ℕ → ℕ → LengthRow
-lengthWith number words = record { number = number; words = words }
-
-abbrev pub lengthRow : Length → LengthRow
-lengthRow (Words k) = lengthWith 0 k
-lengthRow (Refused r) = lengthWith (number r) 0
-
 -- 4: n outside its range
-abbrev pub lengthBy : ℕ → ℕ → LengthRow
-lengthBy zero words = lengthWith 0 words
-lengthBy (suc k) words = lengthWith (suc k) 0
-
 abbrev pub lengthFor : ℕ → LengthRow
-lengthFor n = lengthBy (raise (outside most-objects n) 4 0) (workWords n)
+lengthFor n = lengthBy (objectsFault n) (workWords n)

@@ -6,8 +6,9 @@ use native.Mathlib.Omega.{arith}
 use lib.ListN.{replicate}
 use Rattle.laws.specs.Sum.{sum, hit}
 use Rattle.graph.specs.Graph.{Graph, graph, rising, allBelow, wellFormed}
+use Rattle.desk.specs.Length.{lengthWith}
 use Rattle.hops.specs.Hops.{Chain, here, on}
-use Rattle.hops.specs.Call.{fault, lengthFor, lengthWith}
+use Rattle.hops.specs.Call.{fault, lengthFor}
 
 -- store S: 0→1, 0→2, 1→3, 2→3, 3→0, 5→4
 abbrev pub offsetsS : List ℕ

@@ -2,33 +2,25 @@
 // the marker does its own.
 pub mod search;
 
+use desk::Length;
 use refusal::Refusal;
 use refusal::Verdict;
 ghost use mathlib.Core.Path.{_≡_};
 ghost use mathlib.Core.Bool.{not, _||_};
 ghost use Prim.Native.Nat.{_≤_};
 ghost use lib.Dec.{eqb};
-ghost use lib.ListN.{length};
 ghost use Rattle.graph.specs.Limits.{most-objects};
-ghost use Rattle.hops.specs.Call.{workWords, lengthRow, lengthFor, Finds, Answered};
-
-// How many work words the call takes.
-pub enum Length {
-    Words(u64),
-    Refused(Refusal),
-}
+ghost use Rattle.desk.specs.Length.{lengthRow};
+ghost use Rattle.hops.specs.Call.{workWords, lengthFor, Finds, Answered};
 
 // The number of work words for n objects: two links for each.
-pub fn work_words(objects: u32) -> Length
+pub fn hop_words(objects: u32) -> Length
     ensures { λ r. ⌜ lengthRow r ≡ lengthFor objects ⌝ }
 {
-    if objects < 1 {
+    if desk::objects_outside(objects) {
         return Length::Refused(Refusal::Count);
     }
-    if graph::MOST_OBJECTS < objects as usize {
-        return Length::Refused(Refusal::Count);
-    }
-    Length::Words(2 * objects as u64)
+    Length::Is(2 * objects as u64)
 }
 
 // Check 7: the lent buffers' lengths.
@@ -46,27 +38,17 @@ fn buffers_wrong(n: usize, hops: usize, work: usize) -> bool
 fn check(offsets: &[u32], targets: &[u32], starts: &[u32], hops: usize, work: usize) -> Verdict
     ensures { λ v. ⌜ Finds v (now (offsets .entry)) (now (targets .entry)) (now (starts .entry)) hops work ⌝ }
 {
-    if marker::counts_outside(offsets.len(), targets.len()) {
+    if desk::graph_outside(offsets.len(), targets.len()) {
         return Verdict::Faulty(Refusal::Count);
     }
-    let n = offsets.len() - 1;
-    if buffers_wrong(n, hops, work) {
+    if buffers_wrong(offsets.len() - 1, hops, work) {
         return Verdict::Faulty(Refusal::Buffer);
     }
-    if !graph::well_formed(offsets, targets) {
-        return Verdict::Faulty(Refusal::Graph);
-    }
-    if marker::out_of_range(starts.len(), graph::MOST_STARTS) {
-        return Verdict::Faulty(Refusal::Starts);
-    }
-    if !graph::is_below(n, starts) {
-        return Verdict::Faulty(Refusal::Object);
-    }
-    Verdict::Fine
+    desk::check_store(offsets, targets, starts)
 }
 
 // The hop count of each object.
-pub fn count(
+pub fn hops(
     offsets: &[u32],
     targets: &[u32],
     starts: &[u32],

@@ -14,6 +14,12 @@ ghost use Rattle.hops.specs.Search.{leadsTo, Growable, Grown, Walkable, 
 // The hop count of an object to which no chain leads.
 pub const NONE: u32 = 4294967295;
 
+// A tree or a pennant of a bag: how high it is, and the object at its root.
+struct Tree {
+    pub height: usize,
+    pub root: u32,
+}
+
 // Gives an object its hop count and puts it into the bag, unless it has one.
 fn find(hops: &mut [u32], links: &mut [u32], slots: &mut [u32; 18], hop: u32, v: u32)
     requires { ⌜ Growable hop (now hops) (now links) (now slots) × (v < length (now hops)) ⌝ }
@@ -57,22 +63,22 @@ fn walk(
     links: &mut [u32],
     slots: &mut [u32; 18],
     hop: u32,
-    height: usize,
-    x: u32,
+    tree: Tree,
 )
     requires { ⌜ Walkable (graph (now offsets) (now targets)) hop (now hops) (now links) (now slots)
-        × Apart (now hops) (now links) (now slots) (treeOf height (now links) x) × (height < slot-count) ⌝ }
-    ensures { λ _. ⌜ Grown hop (λ (w : ℕ). sum (leadsTo (graph (now (offsets .entry)) (now (targets .entry))) w) (treeOf height (now (links .entry)) x))
+        × Apart (now hops) (now links) (now slots) (treeOf (tree .height) (now links) (tree .root)) × (tree .height < slot-count) ⌝ }
+    ensures { λ _. ⌜ Grown hop (λ (w : ℕ). sum (leadsTo (graph (now (offsets .entry)) (now (targets .entry))) w)
+        (treeOf (tree .height) (now (links .entry)) (tree .root)))
         (now (hops .entry)) (now (links .entry)) (now (slots .entry)) (now (hops .exit)) (now (links .exit)) (now (slots .exit)) ⌝ }
 {
-    if height == 0 {
+    if tree.height == 0 {
         return;
     }
     let mut rights = [0u32; 16];
     let mut heights = [0usize; 16];
     let mut depth: usize = 0;
-    let mut at = x;
-    let mut rest = height;
+    let mut at = tree.root;
+    let mut rest = tree.height;
     while rest != 0 {
         if rest != 1 {
             let left = links[2 * at as usize];
@@ -103,17 +109,21 @@ fn fill(
     links: &mut [u32],
     slots: &mut [u32; 18],
     hop: u32,
-    height: usize,
-    root: u32,
+    pennant: Tree,
 )
     requires { ⌜ Walkable (graph (now offsets) (now targets)) hop (now hops) (now links) (now slots)
-        × Apart (now hops) (now links) (now slots) (pennantOf height (now links) root) × (height < slot-count) ⌝ }
-    ensures { λ _. ⌜ Grown hop (λ (w : ℕ). sum (leadsTo (graph (now (offsets .entry)) (now (targets .entry))) w) (pennantOf height (now (links .entry)) root))
+        × Apart (now hops) (now links) (now slots) (pennantOf (pennant .height) (now links) (pennant .root)) × (pennant .height < slot-count) ⌝ }
+    ensures { λ _. ⌜ Grown hop (λ (w : ℕ). sum (leadsTo (graph (now (offsets .entry)) (now (targets .entry))) w)
+        (pennantOf (pennant .height) (now (links .entry)) (pennant .root)))
         (now (hops .entry)) (now (links .entry)) (now (slots .entry)) (now (hops .exit)) (now (links .exit)) (now (slots .exit)) ⌝ }
 {
-    let below = links[2 * root as usize];
-    visit(offsets, targets, hops, links, slots, hop, root);
-    walk(offsets, targets, hops, links, slots, hop, height, below);
+    let below = links[2 * pennant.root as usize];
+    visit(offsets, targets, hops, links, slots, hop, pennant.root);
+    let tree = Tree {
+        height: pennant.height,
+        root: below,
+    };
+    walk(offsets, targets, hops, links, slots, hop, tree);
 }
 
 // One pennant of a layer: the first bag that it fills is the next layer so far, and the bag of any
@@ -125,20 +135,20 @@ fn spread(
     links: &mut [u32],
     next: &mut [u32; 18],
     hop: u32,
-    height: usize,
-    root: u32,
+    pennant: Tree,
 )
     requires { ⌜ Walkable (graph (now offsets) (now targets)) hop (now hops) (now links) (now next)
-        × Apart (now hops) (now links) (now next) (pennantOf height (now links) root) × (height < slot-count) ⌝ }
-    ensures { λ _. ⌜ Grown hop (λ (w : ℕ). sum (leadsTo (graph (now (offsets .entry)) (now (targets .entry))) w) (pennantOf height (now (links .entry)) root))
+        × Apart (now hops) (now links) (now next) (pennantOf (pennant .height) (now links) (pennant .root)) × (pennant .height < slot-count) ⌝ }
+    ensures { λ _. ⌜ Grown hop (λ (w : ℕ). sum (leadsTo (graph (now (offsets .entry)) (now (targets .entry))) w)
+        (pennantOf (pennant .height) (now (links .entry)) (pennant .root)))
         (now (hops .entry)) (now (links .entry)) (now (next .entry)) (now (hops .exit)) (now (links .exit)) (now (next .exit)) ⌝ }
 {
     if next[SIZE] == 0 {
-        fill(offsets, targets, hops, links, next, hop, height, root);
+        fill(offsets, targets, hops, links, next, hop, pennant);
         return;
     }
     let mut own = [0u32; 18];
-    fill(offsets, targets, hops, links, &mut own, hop, height, root);
+    fill(offsets, targets, hops, links, &mut own, hop, pennant);
     bag::join(links, next, &mut own);
 }
 
@@ -162,7 +172,11 @@ fn pass(
     while rest != 0 {
         let slot = layer[k];
         if slot != 0 {
-            spread(offsets, targets, hops, links, next, hop, k, slot - 1);
+            let pennant = Tree {
+                height: k,
+                root: slot - 1,
+            };
+            spread(offsets, targets, hops, links, next, hop, pennant);
         }
         rest = rest / 2;
         k += 1;

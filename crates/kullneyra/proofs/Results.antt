@@ -1,15 +1,11 @@
 -- Result words: a first one and those behind it written, or none. All of them written one by one is `sets-all` of the laws.
-use mathlib.Core.Path.{_≡_, refl, ap}
+use mathlib.Core.Path.{_≡_, ap}
 use mathlib.Core.List.{List, [], _∷_, _++_, append-nil}
-use Prim.Native.Nat.{ℕ, zero, suc, _-_, _<_}
+use Prim.Native.Nat.{ℕ, suc, _-_, _<_}
 use native.Mathlib.Nat.{suc-sub-suc, sub-zero}
 use native.Mathlib.Omega.{arith}
 use lib.ListN.{length, set, take, drop}
 use lib.Seq.{take-length, drop-length}
-use Rattle.refusal.specs.declared.Refusal.{Refusal}
-use Rattle.refusal.specs.Number.{number}
-use Rattle.refusal.proofs.Numbers.{numbered}
-use Rattle.kullneyra.specs.Calls.{wordsFor}
 
 -- a first word is stored; the part behind it is lent, and comes back
 pub rest-long : (l : List ℕ) (a k : ℕ) → length l ≡ suc k
@@ -21,11 +17,3 @@ pub first-and-rest : (l q : List ℕ) (a : ℕ) → 0 < length l
     → take 1 (set l 0 a) ++ (q ++ drop (length (set l 0 a) - 1) (drop 1 (set l 0 a))) ≡ a ∷ q
 first-and-rest [] q a h = absurd (omega arith)
 first-and-rest (x ∷ l) q a h = ap (λ (r : List ℕ). a ∷ r) (rw (suc-sub-suc, sub-zero, drop-length l) (append-nil q))
-
--- beside a refusal nothing is written
-pub unwritten : (k : ℕ) (results before : List ℕ) → 0 < k → before ≡ wordsFor k results before
-unwritten zero results before h = absurd (omega arith)
-unwritten (suc k) results before h = refl
-
-pub kept : (r : Refusal) (results before : List ℕ) → before ≡ wordsFor (number r) results before
-kept r results before = unwritten (number r) results before (numbered r)

@@ -5,12 +5,13 @@ use mathlib.Core.List.{List}
 use Prim.Native.Nat.{ℕ}
 use lib.ListN.{length}
 use lib.Dec.{eqb}
+use Rattle.desk.specs.Kept.{unlessRefused}
 use Rattle.machine.specs.Machine.{State}
 use Rattle.machine.specs.Call.{Call}
 use Rattle.marker.specs.declared.Marked.{Marked}
 use Rattle.marker.specs.Answer.{row}
 use Rattle.resume.specs.Answer.{Answers}
-use Rattle.kullneyra.specs.Calls.{mark-words, markWords, wordsFor, SavesIn}
+use Rattle.kullneyra.specs.Calls.{mark-words, markWords, SavesIn}
 
 module _ {c : Call} {k : ℕ} {s : State} {marks work tallies w result : List ℕ} where
   pub not-made : eqb (length result) mark-words ≡ false
@@ -21,7 +22,7 @@ module _ {c : Call} {k : ℕ} {s : State} {marks work tallies w result : List �
   pub made : {r : Marked} {marks′ work′ tallies′ w′ result′ : List ℕ} {answer : ℕ}
       → eqb (length result) mark-words ≡ true
       → Answers c k s marks work tallies w r marks′ work′ tallies′ w′
-      → answer ≡ row r .number → result′ ≡ wordsFor (row r .number) (markWords (row r)) result
+      → answer ≡ row r .number → result′ ≡ unlessRefused (row r .number) (markWords (row r)) result
       → SavesIn c k s marks work tallies w result marks′ work′ tallies′ w′ result′ answer
   made f a number words =
       let h = a .row-is in

@@ -18,7 +18,7 @@ use Rattle.seed.specs.Draw.{next, drawnBy, drawn}
 use Rattle.seed.specs.Deal.{fault, Deals}
 use Rattle.seed.proofs.Words.{tells}
 use Rattle.kullneyra.specs.Calls.{seedOf, seedWords, DrawsIn, DealsIn}
-use Rattle.kullneyra.proofs.Results.{kept}
+use Rattle.desk.proofs.Kept.{kept}
 
 -- ---- the draw
 

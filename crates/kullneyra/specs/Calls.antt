@@ -1,46 +1,45 @@
 -- The calls as numbers and slices: the number that a call answers, and its result words. Nothing is decided here but
 -- the length of the result words, which is looked at first.
 use mathlib.Core.Path.{_≡_}
-use Prim.Native.Nat.{ℕ, zero, suc}
+use Prim.Native.Nat.{ℕ, suc}
 use mathlib.Core.Bool.{Bool, true, false}
 use mathlib.Core.List.{List, [], _∷_}
 use lib.ListN.{length, getD}
 use lib.Dec.{eqb}
 use Rattle.laws.specs.Choice.{pick}
 use Rattle.graph.specs.Graph.{graph, objects, partStart, partLength}
+use Rattle.desk.specs.declared.Settings.{Settings}
+use Rattle.desk.specs.Lengths.{counts-number}
+use Rattle.desk.specs.Kept.{unlessRefused}
+use Rattle.desk.specs.Length.{LengthRow}
 use Rattle.cards.specs.Hand.{turnsOf}
 use Rattle.catalogue.specs.Answer.{Row, ReadRow, headerRow, taken, readRow, offsetsAfter, targetsAfter, sizesAfter, startsAfter}
-use Rattle.catalogue.specs.Reading.{Reading, refused}
+use Rattle.records.specs.Reading.{Reading, refused}
 use Rattle.machine.specs.declared.Counts.{Counts}
-use Rattle.machine.specs.Row.{Row as MarkRow, counts-number, countWords}
+use Rattle.machine.specs.Row.{Row as MarkRow, countWords}
 use Rattle.machine.specs.Tally.{talliesWords}
 use Rattle.machine.specs.Machine.{State, memory}
 use Rattle.machine.specs.Call.{Call, graphOf, final, marking, marksAfter, workAfter, talliesAfter}
 use Rattle.sweep.specs.Sweep.{sweeping, listAfter}
 use Rattle.saved.specs.Layout.{savedWords}
-use Rattle.saved.specs.Calls.{beginFault, resumeFault, resumed, rowFor, bufferFor}
+use Rattle.saved.specs.Calls.{beginFault, resumeFault, resumed, rowFor}
 use Rattle.refusal.specs.Number.{number}
 use Rattle.seed.specs.declared.Seed.{Seed}
 use Rattle.seed.specs.declared.Drawn.{Drawn}
 use Rattle.seed.specs.declared.Drawn.the-variants.{Card, Refused}
 use Rattle.seed.specs.Draw.{next, drawn}
 use Rattle.seed.specs.Deal.{afterDraws, handOf, fault}
-use Rattle.market.specs.Import.{headRow, taken as importTaken, answerOf}
+use Rattle.matrix.specs.Import.{headRow, taken as importTaken, answerOf}
 use Rattle.hops.specs.Hops.{HopsOf}
 use Rattle.hops.specs.Call.{fault as hopFault}
-use Rattle.updates.specs.Pairs.{paired}
-use Rattle.updates.specs.Stores.{added, completed, removed, marksAfresh}
-use Rattle.updates.specs.Promise.{AddPromise, RemovePromise}
+use Rattle.changes.specs.Pairs.{paired}
+use Rattle.changes.specs.Stores.{added, completed, removed, marksAfresh}
+use Rattle.changes.specs.Promise.{AddPromise, RemovePromise}
 use Rattle.updates.specs.Call.{lengths, addFault, removeFault}
 
 -- 7 where the result words are not as many as the call has results, else what the call answers
 abbrev pub answerIn : ℕ → List ℕ → ℕ → ℕ
 answerIn k result number = pick (eqb (length result) k) number 7
-
--- the result words afterwards: the results where the number is 0, else unchanged
-abbrev pub wordsFor : ℕ → List ℕ → List ℕ → List ℕ
-wordsFor zero results before = results
-wordsFor (suc k) results before = before
 
 -- ---- header: n, m, index
 
@@ -69,7 +68,7 @@ pub record ReadsIn (bytes offsets targets sizes starts result offsets′ targets
   pub fills-starts : starts′ ≡ startsAfter (readIn bytes offsets targets sizes starts result) starts
   pub fills-result :
       result′
-      ≡ wordsFor (readRow (readIn bytes offsets targets sizes starts result) .refusal)
+      ≡ unlessRefused (readRow (readIn bytes offsets targets sizes starts result) .refusal)
       (readWords (readRow (readIn bytes offsets targets sizes starts result)))
       result
 
@@ -95,6 +94,10 @@ sweepList marks sizes list result = pick (eqb (length result) 2) (listAfter mark
 
 -- ---- mark: finished (1 or 0), then the counts in their order
 
+-- W, D and K as the calls below take them
+abbrev pub settings : ℕ → ℕ → ℕ → Settings
+settings W D K = record { workers = W; batch = D; cutoff = K }
+
 abbrev pub mark-words : ℕ
 mark-words = suc counts-number
 
@@ -114,25 +117,25 @@ pub record MarksIn (c : Call) (marks work tallies result marks′ work′ tallie
   pub fills-marks : marks′ ≡ pick (eqb (length result) mark-words) (marksAfter c marks work tallies) marks
   pub fills-work : work′ ≡ pick (eqb (length result) mark-words) (workAfter c marks work tallies) work
   pub fills-tallies : tallies′ ≡ pick (eqb (length result) mark-words) (talliesAfter c marks work tallies) tallies
-  pub fills-result : result′ ≡ wordsFor (answerIn mark-words result (marking c marks work tallies .number)) (markWords (marking c marks work tallies)) result
+  pub fills-result : result′ ≡ unlessRefused (answerIn mark-words result (marking c marks work tallies .number)) (markWords (marking c marks work tallies)) result
 
 -- ---- saved_words, schedule_length, hop_words, update_words, export_length: the length
 
--- the number answered and the result word afterwards, of a call that answers this number and this length
-pub record LengthIn (number long : ℕ) (result result′ : List ℕ) (answer : ℕ) : Type 0 where
-  pub answers : answer ≡ answerIn 1 result number
-  pub fills-result : result′ ≡ wordsFor (answerIn 1 result number) (long ∷ []) result
+-- the number answered and the result word afterwards, of a call that answers this row
+pub record LengthIn (r : LengthRow) (result result′ : List ℕ) (answer : ℕ) : Type 0 where
+  pub answers : answer ≡ answerIn 1 result (r .number)
+  pub fills-result : result′ ≡ unlessRefused (answerIn 1 result (r .number)) (r .long ∷ []) result
 
 -- ---- begin and resume: the words of mark, and the saved ones
 
 -- the number answered and every lent byte and word afterwards, where k is the number of the call's fault and s the state that it reaches
 pub record SavesIn (c : Call) (k : ℕ) (s : State) (marks work tallies w result marks′ work′ tallies′ w′ result′ : List ℕ) (answer : ℕ) : Type 0 where
   pub answers : answer ≡ answerIn mark-words result (rowFor k s .number)
-  pub fills-marks : marks′ ≡ pick (eqb (length result) mark-words) (bufferFor k (s .marks) marks) marks
-  pub fills-work : work′ ≡ pick (eqb (length result) mark-words) (bufferFor k (memory (objects (graphOf c)) (s .workers)) work) work
-  pub fills-tallies : tallies′ ≡ pick (eqb (length result) mark-words) (bufferFor k (talliesWords (s .tallies)) tallies) tallies
-  pub fills-saved : w′ ≡ pick (eqb (length result) mark-words) (bufferFor k (savedWords (objects (graphOf c)) s) w) w
-  pub fills-result : result′ ≡ wordsFor (answerIn mark-words result (rowFor k s .number)) (markWords (rowFor k s)) result
+  pub fills-marks : marks′ ≡ pick (eqb (length result) mark-words) (unlessRefused k (s .marks) marks) marks
+  pub fills-work : work′ ≡ pick (eqb (length result) mark-words) (unlessRefused k (memory (objects (graphOf c)) (s .workers)) work) work
+  pub fills-tallies : tallies′ ≡ pick (eqb (length result) mark-words) (unlessRefused k (talliesWords (s .tallies)) tallies) tallies
+  pub fills-saved : w′ ≡ pick (eqb (length result) mark-words) (unlessRefused k (savedWords (objects (graphOf c)) s) w) w
+  pub fills-result : result′ ≡ unlessRefused (answerIn mark-words result (rowFor k s .number)) (markWords (rowFor k s)) result
 
 -- a collection begun, and one taken up from its saved words
 abbrev pub BeginsIn : Call → List ℕ → List ℕ → List ℕ → List ℕ → List ℕ → List ℕ → List ℕ → List ℕ → List ℕ → List ℕ → ℕ → Type 0
@@ -166,16 +169,16 @@ drawAnswer seed result = pick (eqb (length seed) 2) (answerIn 1 result (drawNumb
 
 pub record DrawsIn (seed result seed′ result′ : List ℕ) (answer : ℕ) : Type 0 where
   pub answers : answer ≡ drawAnswer seed result
-  pub moves : seed′ ≡ wordsFor (drawAnswer seed result) (seedWords (next (seedOf seed))) seed
-  pub fills-result : result′ ≡ wordsFor (drawAnswer seed result) (drawCard (drawn (seedOf seed)) ∷ []) result
+  pub moves : seed′ ≡ unlessRefused (drawAnswer seed result) (seedWords (next (seedOf seed))) seed
+  pub fills-result : result′ ≡ unlessRefused (drawAnswer seed result) (drawCard (drawn (seedOf seed)) ∷ []) result
 
 abbrev pub dealAnswer : List ℕ → ℕ → ℕ → ℕ → ℕ
 dealAnswer seed k W long = pick (eqb (length seed) 2) (fault (seedOf seed) k W long) 7
 
 pub record DealsIn (seed : List ℕ) (k W : ℕ) (schedule seed′ schedule′ : List ℕ) (answer : ℕ) : Type 0 where
   pub answers : answer ≡ dealAnswer seed k W (length schedule)
-  pub moves : seed′ ≡ wordsFor (dealAnswer seed k W (length schedule)) (seedWords (afterDraws k (seedOf seed))) seed
-  pub fills-schedule : schedule′ ≡ wordsFor (dealAnswer seed k W (length schedule)) (turnsOf W (handOf k (seedOf seed))) schedule
+  pub moves : seed′ ≡ unlessRefused (dealAnswer seed k W (length schedule)) (seedWords (afterDraws k (seedOf seed))) seed
+  pub fills-schedule : schedule′ ≡ unlessRefused (dealAnswer seed k W (length schedule)) (turnsOf W (handOf k (seedOf seed))) schedule
 
 -- ---- hops: no results
 
@@ -219,5 +222,5 @@ pub record ImportsIn (text offsets targets sizes result offsets′ targets′ si
   pub fills-offsets : offsets′ ≡ offsetsAfter (importIn text offsets targets sizes result) offsets
   pub fills-targets : targets′ ≡ targetsAfter (importIn text offsets targets sizes result) targets
   pub fills-sizes : sizes′ ≡ sizesAfter (importIn text offsets targets sizes result) sizes
-  pub fills-result : result′ ≡ wordsFor (answerOf (importIn text offsets targets sizes result) .refusal)
+  pub fills-result : result′ ≡ unlessRefused (answerOf (importIn text offsets targets sizes result) .refusal)
       (headerWords (answerOf (importIn text offsets targets sizes result))) result

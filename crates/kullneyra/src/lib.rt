@@ -2,10 +2,11 @@
 // results to lent words; runtime/include/kullneyra.h says which word is which.
 use catalogue::Answer;
 use catalogue::Found;
-use machine::COUNTS;
+use desk::Length;
+use desk::Settings;
+use desk::places::COUNTS;
 use machine::Counts;
 use marker::Marked;
-use resume::Length;
 use seed::Dealt;
 use seed::Drawn;
 use seed::Seed;
@@ -15,16 +16,21 @@ ghost use mathlib.Core.List.{[], _∷_};
 ghost use Prim.Native.Nat.{_≤_};
 ghost use lib.ListN.{length};
 ghost use lib.Seq.{sets};
-ghost use Rattle.cards.specs.Hand.{fault, scheduleFor, turnsOf, lengthOf as scheduleLength};
+ghost use Rattle.desk.specs.Length.{lengthRow};
+ghost use Rattle.desk.specs.Kept.{unlessRefused};
+ghost use Rattle.cards.specs.Hand.{fault, turnsOf, lengthOf as scheduleLength};
 ghost use Rattle.catalogue.specs.Answer.{row, foundRow, headerRow};
 ghost use Rattle.marker.specs.Answer.{callOf, row as markRow};
-ghost use Rattle.kullneyra.specs.Calls.{wordsFor, headerAnswer, headerWords, readWords, ReadsIn, partAnswer, partWords, sweepAnswer, sweepWords, sweepList, marketAnswer, ImportsIn};
-ghost use Rattle.kullneyra.specs.Calls.{LengthIn, mark-words, resultWords, markWords, MarksIn, BeginsIn, ResumesIn, seedWords, DrawsIn, DealsIn, HopsIn, AddsIn, RemovesIn};
+ghost use Rattle.kullneyra.specs.Calls.{headerAnswer, headerWords, readWords, ReadsIn, partAnswer, partWords, sweepAnswer, sweepWords, sweepList, marketAnswer, ImportsIn};
+ghost use Rattle.kullneyra.specs.Calls.{LengthIn, settings, mark-words, resultWords, markWords, MarksIn, BeginsIn, ResumesIn, seedWords, DrawsIn, DealsIn, HopsIn, AddsIn, RemovesIn};
 ghost use Rattle.resume.specs.Answer.{lengthFor as savedLength};
-ghost use Rattle.hops.specs.Call.{lengthRow as workRow, lengthFor as hopLength};
+ghost use Rattle.hops.specs.Call.{lengthFor as hopLength};
 ghost use Rattle.updates.specs.Call.{lengthFor as updateLength};
-ghost use Rattle.market.specs.Import.{headRow};
-ghost use Rattle.market.specs.Export.{exportFault, bytesAfter, lengthFor as exportLength};
+ghost use Rattle.matrix.specs.Import.{headRow};
+ghost use Rattle.matrix.specs.Export.{exportFault, bytesAfter, lengthFor as exportLength};
+
+// The number of a buffer that is not as long as it must be.
+const BUFFER: u32 = 7;
 
 // Result words of the marker: finished, and the counts.
 const MARK_WORDS: usize = 1 + COUNTS;
@@ -43,7 +49,7 @@ fn give_head(n: u32, m: u32, index: u32, result: &mut [u32])
 fn give(answer: Answer, result: &mut [u32]) -> u32
     requires { ⌜ length (now result) ≡ 3 ⌝ }
     ensures { λ r. ⌜ r ≡ row answer .refusal ⌝ }
-    ensures { λ r. ⌜ now (result .exit) ≡ wordsFor (row answer .refusal) (headerWords (row answer)) (now (result .entry)) ⌝ }
+    ensures { λ r. ⌜ now (result .exit) ≡ unlessRefused (row answer .refusal) (headerWords (row answer)) (now (result .entry)) ⌝ }
 {
     match answer {
         Answer::Read { n, m, index } => {
@@ -58,7 +64,7 @@ fn give(answer: Answer, result: &mut [u32]) -> u32
 fn give_found(found: Found, result: &mut [u32]) -> u32
     requires { ⌜ length (now result) ≡ 4 ⌝ }
     ensures { λ r. ⌜ r ≡ foundRow found .refusal ⌝ }
-    ensures { λ r. ⌜ now (result .exit) ≡ wordsFor (foundRow found .refusal) (readWords (foundRow found)) (now (result .entry)) ⌝ }
+    ensures { λ r. ⌜ now (result .exit) ≡ unlessRefused (foundRow found .refusal) (readWords (foundRow found)) (now (result .entry)) ⌝ }
 {
     match found {
         Found::Read {
@@ -79,10 +85,10 @@ fn give_found(found: Found, result: &mut [u32]) -> u32
 #[no_mangle]
 pub extern "C" fn kullneyra_header(bytes: &[u8], result: &mut [u32]) -> u32
     ensures { λ r. ⌜ r ≡ headerAnswer (now (bytes .entry)) (now (result .entry)) ⌝ }
-    ensures { λ r. ⌜ now (result .exit) ≡ wordsFor (headerAnswer (now (bytes .entry)) (now (result .entry))) (headerWords (headerRow (now (bytes .entry)))) (now (result .entry)) ⌝ }
+    ensures { λ r. ⌜ now (result .exit) ≡ unlessRefused (headerAnswer (now (bytes .entry)) (now (result .entry))) (headerWords (headerRow (now (bytes .entry)))) (now (result .entry)) ⌝ }
 {
     if result.len() != 3 {
-        return 7;
+        return BUFFER;
     }
     give(catalogue::header(bytes), result)
 }
@@ -100,7 +106,7 @@ pub extern "C" fn kullneyra_read(
     ensures { λ r. ⌜ ReadsIn (now (bytes .entry)) (now (offsets .entry)) (now (targets .entry)) (now (sizes .entry)) (now (starts .entry)) (now (result .entry)) (now (offsets .exit)) (now (targets .exit)) (now (sizes .exit)) (now (starts .exit)) (now (result .exit)) r ⌝ }
 {
     if result.len() != 4 {
-        return 7;
+        return BUFFER;
     }
     give_found(
         catalogue::read(bytes, offsets, targets, sizes, starts),
@@ -117,10 +123,10 @@ pub extern "C" fn kullneyra_references(
     result: &mut [u64],
 ) -> u32
     ensures { λ r. ⌜ r ≡ partAnswer (now (result .entry)) ⌝ }
-    ensures { λ r. ⌜ now (result .exit) ≡ wordsFor (partAnswer (now (result .entry))) (partWords (now (offsets .entry)) (now (targets .entry)) object) (now (result .entry)) ⌝ }
+    ensures { λ r. ⌜ now (result .exit) ≡ unlessRefused (partAnswer (now (result .entry))) (partWords (now (offsets .entry)) (now (targets .entry)) object) (now (result .entry)) ⌝ }
 {
     if result.len() != 2 {
-        return 7;
+        return BUFFER;
     }
     let part = graph::part_of(offsets, targets.len(), object);
     result[0] = part.start as u64;
@@ -138,10 +144,10 @@ pub extern "C" fn kullneyra_sweep(
 ) -> u32
     ensures { λ r. ⌜ r ≡ sweepAnswer (now (marks .entry)) (now (sizes .entry)) (now (list .entry)) (now (result .entry)) ⌝ }
     ensures { λ r. ⌜ now (list .exit) ≡ sweepList (now (marks .entry)) (now (sizes .entry)) (now (list .entry)) (now (result .entry)) ⌝ }
-    ensures { λ r. ⌜ now (result .exit) ≡ wordsFor (sweepAnswer (now (marks .entry)) (now (sizes .entry)) (now (list .entry)) (now (result .entry))) (sweepWords (now (marks .entry)) (now (sizes .entry)) (now (list .entry))) (now (result .entry)) ⌝ }
+    ensures { λ r. ⌜ now (result .exit) ≡ unlessRefused (sweepAnswer (now (marks .entry)) (now (sizes .entry)) (now (list .entry)) (now (result .entry))) (sweepWords (now (marks .entry)) (now (sizes .entry)) (now (list .entry))) (now (result .entry)) ⌝ }
 {
     if result.len() != 2 {
-        return 7;
+        return BUFFER;
     }
     match sweep::sweep(marks, sizes, list) {
         Swept::Dead { count, freed } => {
@@ -166,7 +172,7 @@ fn give_counts(finished: u64, counts: Counts, result: &mut [u64])
 fn give_marked(answer: Marked, result: &mut [u64]) -> u32
     requires { ⌜ length (now result) ≡ mark-words ⌝ }
     ensures { λ r. ⌜ r ≡ markRow answer .number ⌝ }
-    ensures { λ r. ⌜ now (result .exit) ≡ wordsFor (markRow answer .number) (markWords (markRow answer)) (now (result .entry)) ⌝ }
+    ensures { λ r. ⌜ now (result .exit) ≡ unlessRefused (markRow answer .number) (markWords (markRow answer)) (now (result .entry)) ⌝ }
 {
     match answer {
         Marked::Finished(counts) => {
@@ -197,20 +203,22 @@ pub extern "C" fn kullneyra_mark(
     tallies: &mut [u64],
     result: &mut [u64],
 ) -> u32
-    ensures { λ r. ⌜ MarksIn (callOf (now (offsets .entry)) (now (targets .entry)) (now (starts .entry)) workers batch cutoff (now (schedule .entry)))
+    ensures { λ r. ⌜ MarksIn (callOf (now (offsets .entry)) (now (targets .entry)) (now (starts .entry)) (settings workers batch cutoff) (now (schedule .entry)))
         (now (marks .entry)) (now (work .entry)) (now (tallies .entry)) (now (result .entry))
         (now (marks .exit)) (now (work .exit)) (now (tallies .exit)) (now (result .exit)) r ⌝ }
 {
     if result.len() != MARK_WORDS {
-        return 7;
+        return BUFFER;
     }
     let answer = marker::mark(
         offsets,
         targets,
         starts,
-        workers,
-        batch,
-        cutoff,
+        Settings {
+            workers,
+            batch,
+            cutoff,
+        },
         schedule,
         marks,
         work,
@@ -219,28 +227,28 @@ pub extern "C" fn kullneyra_mark(
     give_marked(answer, result)
 }
 
-// A number as it is answered and, where it is no fault, a length in the result word.
-fn put_length(number: u32, long: u64, result: &mut [u64]) -> u32
-    ensures { λ r. ⌜ LengthIn number long (now (result .entry)) (now (result .exit)) r ⌝ }
+// The answer of a call for a length: its number, and the length in the result word.
+fn give_length(found: Length, result: &mut [u64]) -> u32
+    ensures { λ r. ⌜ LengthIn (lengthRow found) (now (result .entry)) (now (result .exit)) r ⌝ }
 {
     if result.len() != 1 {
-        return 7;
+        return BUFFER;
     }
-    if number == 0 {
-        result[0] = long;
+    match found {
+        Length::Is(long) => {
+            result[0] = long;
+            0
+        }
+        Length::Refused(refusal) => refusal::number_of(refusal) as u32,
     }
-    number
 }
 
 // How many words a saved collection takes; one result word.
 #[no_mangle]
 pub extern "C" fn kullneyra_saved_words(objects: u32, workers: u32, result: &mut [u64]) -> u32
-    ensures { λ r. ⌜ LengthIn (savedLength objects workers .number) (savedLength objects workers .words) (now (result .entry)) (now (result .exit)) r ⌝ }
+    ensures { λ r. ⌜ LengthIn (savedLength objects workers) (now (result .entry)) (now (result .exit)) r ⌝ }
 {
-    match resume::saved_length(objects, workers) {
-        Length::Words(words) => put_length(0, words, result),
-        Length::Refused(refusal) => put_length(refusal::number_of(refusal) as u32, 0, result),
-    }
+    give_length(resume::saved_words(objects, workers), result)
 }
 
 // As the marker, and saves the collection.
@@ -259,20 +267,22 @@ pub extern "C" fn kullneyra_begin(
     saved: &mut [u32],
     result: &mut [u64],
 ) -> u32
-    ensures { λ r. ⌜ BeginsIn (callOf (now (offsets .entry)) (now (targets .entry)) (now (starts .entry)) workers batch cutoff (now (schedule .entry)))
+    ensures { λ r. ⌜ BeginsIn (callOf (now (offsets .entry)) (now (targets .entry)) (now (starts .entry)) (settings workers batch cutoff) (now (schedule .entry)))
         (now (marks .entry)) (now (work .entry)) (now (tallies .entry)) (now (saved .entry)) (now (result .entry))
         (now (marks .exit)) (now (work .exit)) (now (tallies .exit)) (now (saved .exit)) (now (result .exit)) r ⌝ }
 {
     if result.len() != MARK_WORDS {
-        return 7;
+        return BUFFER;
     }
     let answer = resume::begin(
         offsets,
         targets,
         starts,
-        workers,
-        batch,
-        cutoff,
+        Settings {
+            workers,
+            batch,
+            cutoff,
+        },
         schedule,
         marks,
         work,
@@ -298,20 +308,22 @@ pub extern "C" fn kullneyra_resume(
     saved: &mut [u32],
     result: &mut [u64],
 ) -> u32
-    ensures { λ r. ⌜ ResumesIn (callOf (now (offsets .entry)) (now (targets .entry)) (now (starts .entry)) workers batch cutoff (now (schedule .entry)))
+    ensures { λ r. ⌜ ResumesIn (callOf (now (offsets .entry)) (now (targets .entry)) (now (starts .entry)) (settings workers batch cutoff) (now (schedule .entry)))
         (now (marks .entry)) (now (work .entry)) (now (tallies .entry)) (now (saved .entry)) (now (result .entry))
         (now (marks .exit)) (now (work .exit)) (now (tallies .exit)) (now (saved .exit)) (now (result .exit)) r ⌝ }
 {
     if result.len() != MARK_WORDS {
-        return 7;
+        return BUFFER;
     }
-    let answer = resume::go_on(
+    let answer = resume::resume(
         offsets,
         targets,
         starts,
-        workers,
-        batch,
-        cutoff,
+        Settings {
+            workers,
+            batch,
+            cutoff,
+        },
         schedule,
         marks,
         work,
@@ -324,21 +336,16 @@ pub extern "C" fn kullneyra_resume(
 // How many bytes the schedule of so many cards has; result words: bytes.
 #[no_mangle]
 pub extern "C" fn kullneyra_schedule_length(cards: usize, workers: u32, result: &mut [u64]) -> u32
-    ensures { λ r. ⌜ LengthIn (scheduleLength workers cards .number) (scheduleLength workers cards .bytes) (now (result .entry)) (now (result .exit)) r ⌝ }
+    ensures { λ r. ⌜ LengthIn (scheduleLength workers cards) (now (result .entry)) (now (result .exit)) r ⌝ }
 {
-    match cards::schedule_length(cards, workers) {
-        cards::Length::Bytes(bytes) => put_length(0, bytes as u64, result),
-        cards::Length::Refused(refusal) => {
-            put_length(refusal::number_of(refusal) as u32, 0, result)
-        }
-    }
+    give_length(cards::schedule_length(cards, workers), result)
 }
 
 // The schedule of a hand of cards; there are no result words.
 #[no_mangle]
 pub extern "C" fn kullneyra_deal(cards: &[u32], workers: u32, schedule: &mut [u8]) -> u32
     ensures { λ r. ⌜ r ≡ fault workers (now (cards .entry)) (length (now (schedule .entry))) ⌝ }
-    ensures { λ r. ⌜ now (schedule .exit) ≡ scheduleFor (fault workers (now (cards .entry)) (length (now (schedule .entry)))) (turnsOf workers (now (cards .entry))) (now (schedule .entry)) ⌝ }
+    ensures { λ r. ⌜ now (schedule .exit) ≡ unlessRefused (fault workers (now (cards .entry)) (length (now (schedule .entry)))) (turnsOf workers (now (cards .entry))) (now (schedule .entry)) ⌝ }
 {
     refusal::verdict_number(cards::deal(cards, workers, schedule)) as u32
 }
@@ -358,10 +365,10 @@ pub extern "C" fn kullneyra_draw(seed: &mut [u32], result: &mut [u32]) -> u32
     ensures { λ r. ⌜ DrawsIn (now (seed .entry)) (now (result .entry)) (now (seed .exit)) (now (result .exit)) r ⌝ }
 {
     if seed.len() != 2 {
-        return 7;
+        return BUFFER;
     }
     if result.len() != 1 {
-        return 7;
+        return BUFFER;
     }
     let moved = seed::step(Seed {
         first: seed[0],
@@ -388,13 +395,13 @@ pub extern "C" fn kullneyra_deal_seed(
     ensures { λ r. ⌜ DealsIn (now (seed .entry)) rounds workers (now (schedule .entry)) (now (seed .exit)) (now (schedule .exit)) r ⌝ }
 {
     if seed.len() != 2 {
-        return 7;
+        return BUFFER;
     }
     let words = Seed {
         first: seed[0],
         second: seed[1],
     };
-    match seed::deal(words, rounds, workers, schedule) {
+    match seed::deal_seed(words, rounds, workers, schedule) {
         Dealt::Moved(moved) => {
             put_seed(moved, seed);
             0
@@ -403,24 +410,12 @@ pub extern "C" fn kullneyra_deal_seed(
     }
 }
 
-// A number of work words, or why there is none.
-fn give_length(found: hops::Length, result: &mut [u64]) -> u32
-    ensures { λ r. ⌜ LengthIn (workRow found .number) (workRow found .words) (now (result .entry)) (now (result .exit)) r ⌝ }
-{
-    match found {
-        hops::Length::Words(words) => put_length(0, words, result),
-        hops::Length::Refused(refusal) => {
-            put_length(refusal::number_of(refusal) as u32, 0, result)
-        }
-    }
-}
-
 // How many work words the hop counts take; one result word.
 #[no_mangle]
 pub extern "C" fn kullneyra_hop_words(objects: u32, result: &mut [u64]) -> u32
-    ensures { λ r. ⌜ LengthIn (hopLength objects .number) (hopLength objects .words) (now (result .entry)) (now (result .exit)) r ⌝ }
+    ensures { λ r. ⌜ LengthIn (hopLength objects) (now (result .entry)) (now (result .exit)) r ⌝ }
 {
-    give_length(hops::work_words(objects), result)
+    give_length(hops::hop_words(objects), result)
 }
 
 // The hop count of each object; there are no result words.
@@ -434,15 +429,15 @@ pub extern "C" fn kullneyra_hops(
 ) -> u32
     ensures { λ r. ⌜ HopsIn (now (offsets .entry)) (now (targets .entry)) (now (starts .entry)) (now (hops .entry)) (now (work .entry)) (now (hops .exit)) (now (work .exit)) r ⌝ }
 {
-    refusal::verdict_number(hops::count(offsets, targets, starts, hops, work)) as u32
+    refusal::verdict_number(hops::hops(offsets, targets, starts, hops, work)) as u32
 }
 
 // How many work words adding and taking out references take; result word: words.
 #[no_mangle]
 pub extern "C" fn kullneyra_update_words(objects: u32, result: &mut [u64]) -> u32
-    ensures { λ r. ⌜ LengthIn (updateLength objects .number) (updateLength objects .words) (now (result .entry)) (now (result .exit)) r ⌝ }
+    ensures { λ r. ⌜ LengthIn (updateLength objects) (now (result .entry)) (now (result .exit)) r ⌝ }
 {
-    give_length(updates::work_words(objects), result)
+    give_length(updates::update_words(objects), result)
 }
 
 // References are added, and the marks brought up to date; there are no result words.
@@ -452,20 +447,20 @@ pub extern "C" fn kullneyra_add(
     targets: &[u32],
     from: &[u32],
     to: &[u32],
-    bounds: &mut [u32],
-    places: &mut [u32],
+    new_offsets: &mut [u32],
+    new_targets: &mut [u32],
     marks: &mut [u8],
     work: &mut [u32],
 ) -> u32
-    ensures { λ r. ⌜ AddsIn (now (offsets .entry)) (now (targets .entry)) (now (from .entry)) (now (to .entry)) (now (bounds .entry)) (now (places .entry)) (now (marks .entry)) (now (work .entry)) (now (bounds .exit)) (now (places .exit)) (now (marks .exit)) (now (work .exit)) r ⌝ }
+    ensures { λ r. ⌜ AddsIn (now (offsets .entry)) (now (targets .entry)) (now (from .entry)) (now (to .entry)) (now («new_offsets» .entry)) (now («new_targets» .entry)) (now (marks .entry)) (now (work .entry)) (now («new_offsets» .exit)) (now («new_targets» .exit)) (now (marks .exit)) (now (work .exit)) r ⌝ }
 {
     refusal::verdict_number(updates::add::add(
         offsets,
         targets,
         from,
         to,
-        bounds,
-        places,
+        new_offsets,
+        new_targets,
         marks,
         work,
     )) as u32
@@ -478,20 +473,20 @@ pub extern "C" fn kullneyra_remove(
     targets: &[u32],
     numbers: &[u32],
     starts: &[u32],
-    bounds: &mut [u32],
-    places: &mut [u32],
+    new_offsets: &mut [u32],
+    new_targets: &mut [u32],
     marks: &mut [u8],
     work: &mut [u32],
 ) -> u32
-    ensures { λ r. ⌜ RemovesIn (now (offsets .entry)) (now (targets .entry)) (now (numbers .entry)) (now (starts .entry)) (now (bounds .entry)) (now (places .entry)) (now (marks .entry)) (now (work .entry)) (now (bounds .exit)) (now (places .exit)) (now (marks .exit)) (now (work .exit)) r ⌝ }
+    ensures { λ r. ⌜ RemovesIn (now (offsets .entry)) (now (targets .entry)) (now (numbers .entry)) (now (starts .entry)) (now («new_offsets» .entry)) (now («new_targets» .entry)) (now (marks .entry)) (now (work .entry)) (now («new_offsets» .exit)) (now («new_targets» .exit)) (now (marks .exit)) (now (work .exit)) r ⌝ }
 {
     refusal::verdict_number(updates::remove::remove(
         offsets,
         targets,
         numbers,
         starts,
-        bounds,
-        places,
+        new_offsets,
+        new_targets,
         marks,
         work,
     )) as u32
@@ -501,12 +496,12 @@ pub extern "C" fn kullneyra_remove(
 #[no_mangle]
 pub extern "C" fn kullneyra_market_header(text: &[u8], result: &mut [u32]) -> u32
     ensures { λ r. ⌜ r ≡ marketAnswer (now (text .entry)) (now (result .entry)) ⌝ }
-    ensures { λ r. ⌜ now (result .exit) ≡ wordsFor (marketAnswer (now (text .entry)) (now (result .entry))) (headerWords (headRow (now (text .entry)))) (now (result .entry)) ⌝ }
+    ensures { λ r. ⌜ now (result .exit) ≡ unlessRefused (marketAnswer (now (text .entry)) (now (result .entry))) (headerWords (headRow (now (text .entry)))) (now (result .entry)) ⌝ }
 {
     if result.len() != 3 {
-        return 7;
+        return BUFFER;
     }
-    give(market::header(text), result)
+    give(market::market_header(text), result)
 }
 
 // A graph from a Matrix Market text; result words: n, m, index.
@@ -521,7 +516,7 @@ pub extern "C" fn kullneyra_import(
     ensures { λ r. ⌜ ImportsIn (now (text .entry)) (now (offsets .entry)) (now (targets .entry)) (now (sizes .entry)) (now (result .entry)) (now (offsets .exit)) (now (targets .exit)) (now (sizes .exit)) (now (result .exit)) r ⌝ }
 {
     if result.len() != 3 {
-        return 7;
+        return BUFFER;
     }
     give(market::import(text, offsets, targets, sizes), result)
 }
@@ -533,15 +528,9 @@ pub extern "C" fn kullneyra_export_length(
     targets: &[u32],
     result: &mut [u64],
 ) -> u32
-    ensures { λ r. ⌜ LengthIn (exportLength (now (offsets .entry)) (now (targets .entry)) .number) (exportLength (now (offsets .entry)) (now (targets .entry)) .bytes)
-        (now (result .entry)) (now (result .exit)) r ⌝ }
+    ensures { λ r. ⌜ LengthIn (exportLength (now (offsets .entry)) (now (targets .entry))) (now (result .entry)) (now (result .exit)) r ⌝ }
 {
-    match market::export_length(offsets, targets) {
-        market::Length::Bytes(bytes) => put_length(0, bytes, result),
-        market::Length::Refused(refusal) => {
-            put_length(refusal::number_of(refusal) as u32, 0, result)
-        }
-    }
+    give_length(market::export_length(offsets, targets), result)
 }
 
 // The Matrix Market text of a graph; there are no result words.

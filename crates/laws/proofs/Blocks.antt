@@ -7,7 +7,6 @@ use native.Mathlib.Omega.{arith}
 use lib.ListN.{length, getD, set, take, drop, replicate, length-append, length-drop, take-append-drop, replicate-append-replicate}
 use lib.Seq.{drop-drop, drop-at, take-at, getD-take, getD-drop}
 use Rattle.laws.specs.Blocks.{laid}
-use Rattle.laws.specs.Sum.{sum}
 
 -- what stands before block b and behind it
 pub record Around {A B : Type 0} (f : A → List B) (l : List A) (b w : ℕ) (d : A) : Type 0 where
@@ -62,20 +61,6 @@ laid-replicate f x zero w v e = rw zero-mul
 laid-replicate f x (suc n) w v e =
     rw (e, laid-replicate f x n w v e, replicate-append-replicate, suc-mul)
     (let e : w + n * w ≡ n * w + w = omega arith in ap (λ (k : ℕ). replicate k v) e)
-
--- a replacement that the blocks, or a weight, do not see
-pub laid-same : {A B : Type 0} (f : A → List B) (l : List A) (b : ℕ) (y d : A) → f y ≡ f (getD l b d)
-    → laid f (set l b y) ≡ laid f l
-unfolding laid
-laid-same f [] b y d e = refl
-laid-same {B = B} f (x ∷ l) zero y d e = ap (λ (t : List B). t ++ laid f l) e
-laid-same {B = B} f (x ∷ l) (suc b) y d e = ap (λ (t : List B). f x ++ t) (laid-same f l b y d e)
-
-pub sum-same : {A : Type 0} (f : A → ℕ) (l : List A) (b : ℕ) (y d : A) → f y ≡ f (getD l b d) → sum f (set l b y) ≡ sum f l
-unfolding sum
-sum-same f [] b y d e = refl
-sum-same f (x ∷ l) zero y d e = ap (λ (t : ℕ). t + sum f l) e
-sum-same f (x ∷ l) (suc b) y d e = ap (λ (t : ℕ). f x + t) (sum-same f l b y d e)
 
 -- block b is a part of them
 pub laid-part : {A B : Type 0} (f : A → List B) (w : ℕ) (d : A) (l : List A) (b : ℕ) → ((i : ℕ) → length (f (getD l i d)) ≡ w)

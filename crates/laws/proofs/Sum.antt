@@ -1,12 +1,11 @@
 -- Sums over lists when an element is replaced, and counting by `hit`. Everything is said with + alone, so that
 -- `omega` closes what uses it.
-use mathlib.Core.Path.{_≡_, refl, ap, _∙_}
+use mathlib.Core.Path.{_≡_, refl, ap}
 use mathlib.Core.List.{List, [], _∷_, _++_}
 use mathlib.Core.Logic.{_⊎_, inl, inr, _≢_}
 use Prim.Native.Nat.{ℕ, zero, suc, _+_, _*_, _≤_, _<_}
 use native.Mathlib.Omega.{arith}
-use lib.ListN.{length, getD, set, replicate, length-set}
-use lib.Seq.{getD-set-other}
+use lib.ListN.{length, getD, set, replicate}
 use Rattle.laws.specs.Sum.{sum, hit}
 
 -- ---- hit
@@ -127,15 +126,6 @@ module _ {A : Type 0} where
     sum-set (z ∷ l) zero x y e h = omega (arith, ap f e)
     sum-set (z ∷ l) (suc i) x y e h = omega (arith, sum-set l i x y e (omega arith))
 
-    pub sum-set2 : (l : List A) (i j : ℕ) (x y x′ y′ : A) → getD l i d ≡ x → i < length l → getD l j d ≡ x′ → j < length l
-        → j ≢ i → sum f (set (set l i y) j y′) + f x + f x′ ≡ sum f l + f y + f y′
-    sum-set2 l i j x y x′ y′ e h e′ h′ n =
-        omega (
-          arith,
-          sum-set l i x y e h,
-          sum-set (set l i y) j x′ y′ (getD-set-other l i j y d n ∙ e′) (rw length-set h′),
-        )
-
     -- a replacement seen at place j, with no decision whether j is the place
     pub at-set : (l : List A) (i : ℕ) (x y : A) (j : ℕ) → getD l i d ≡ x → i < length l
         → f (getD (set l i y) j d) + hit i j * f x ≡ f (getD l j d) + hit i j * f y
@@ -145,17 +135,6 @@ module _ {A : Type 0} where
     at-set (z ∷ l) zero x y (suc j) e h = omega arith
     at-set (z ∷ l) (suc i) x y zero e h = omega arith
     at-set (z ∷ l) (suc i) x y (suc j) e h = at-set l i x y j e (omega arith)
-
-    pub at-set2 : (l : List A) (i j : ℕ) (x y x′ y′ : A) (k : ℕ) → getD l i d ≡ x → i < length l → getD l j d ≡ x′
-        → j < length l → j ≢ i
-        → f (getD (set (set l i y) j y′) k d) + hit i k * f x + hit j k * f x′
-        ≡ f (getD l k d) + hit i k * f y + hit j k * f y′
-    at-set2 l i j x y x′ y′ k e h e′ h′ n =
-        omega (
-          arith,
-          at-set l i x y k e h,
-          at-set (set l i y) j x′ y′ k (getD-set-other l i j y d n ∙ e′) (rw length-set h′),
-        )
 
   -- an element other than the default stands in the list
   pub inside : (l : List A) (i : ℕ) (d : A) (f : A → ℕ) → f d ≡ 0 → 0 < f (getD l i d) → i < length l

@@ -1,11 +1,11 @@
 -- Colours as bits of one number: what is read at a bit, what a change of one colour does, and how large the number is.
-use mathlib.Core.Path.{_≡_, refl, ap, _∙_}
+use mathlib.Core.Path.{_≡_, refl}
 use mathlib.Core.List.{List, [], _∷_}
-use Prim.Native.Nat.{ℕ, zero, suc, _+_, _-_, _*_, _/_, _%_, _^_, _≤_, _<_}
+use Prim.Native.Nat.{ℕ, zero, suc, _+_, _*_, _/_, _%_, _^_, _≤_, _<_}
 use native.Mathlib.Omega.{arith}
 use native.Mathlib.Nat.{two-pow-succ, zero-div}
 use lib.ListN.{length, getD, set, replicate}
-use lib.Pow.{pow-pos, shr-shr}
+use lib.Pow.{shr-shr}
 use Rattle.machine.specs.Ring.{Colour, white, black, shade, blackSet}
 
 pub shade-limit : (c : Colour) → shade c ≤ 1

@@ -14,7 +14,7 @@ use Rattle.graph.proofs.OverMarked.{over-below, over-degree, over-total, over-o
 use Rattle.graph.proofs.Reached.{reached-chain, chain-reached}
 use Rattle.machine.specs.Machine.{Setting, State, Entry, Worker, idle, asking, denied, ended, given, busy, Cell, empty, from, worker, carriedBy, carriedAll, start, allEnded, result, stopped}
 use Rattle.machine.specs.Accepted.{Accepted}
-use Rattle.machine.specs.Sound.{Marked, WorkerSound, cellTurns, turnsOf, upTo, Sound, Fresh}
+use Rattle.machine.specs.Sound.{Marked, Supplied, cellTurns, turnsOf, upTo, Sound, Fresh}
 use Rattle.machine.specs.Demand2.{outcome}
 use Rattle.machine.specs.Demand3.{movedBound, stretchBound, fewestStretches, handedBound, AllHave, joined, Cut, Demand3}
 use Rattle.machine.proofs.Runs.{length-carried}
@@ -39,7 +39,7 @@ module _ {G : Graph} {starts : List ℕ} {W : ℕ} {g : Setting} {s : State} {l 
 
   -- followed counts the trail
   pub followed-trail : s .counts .followed ≡ length l
-  followed-trail = omega (arith, trail-carried, S .total, over-total G (A .formed) (s .marks) (S .marks-length))
+  followed-trail = omega (arith, trail-carried, S .total, over-total G (A .formed) (s .marks) (S .sized .marks-length))
 
   -- what is followed and carried leaves reachable objects
   within-reached : length l + carriedAll s ≤ leavingReached G starts
@@ -48,19 +48,19 @@ module _ {G : Graph} {starts : List ℕ} {W : ℕ} {g : Setting} {s : State} {l 
       omega (
         arith,
         trail-carried,
-        over-degree G (A .formed) (s .marks) (S .marks-length),
+        over-degree G (A .formed) (s .marks) (S .sized .marks-length),
         over-below (degree G) 0 (s .marks) (reached G starts)
             (λ (v : ℕ) (m : Marked (s .marks) v). chain-reached G (A .formed) starts (A .starts-below) (F .only-reached v m)),
       )
 
   -- a worker has no more turns left than 7 for each reference carried, and 1 when it has ended
-  turns-limit : (w : Worker) → WorkerSound G g (s .marks) w → turnsOf w ≤ 7 * carriedBy w + stopped w
+  turns-limit : (w : Worker) → Supplied w → turnsOf w ≤ 7 * carriedBy w + stopped w
   turns-limit idle t = omega arith
   turns-limit asking t = omega arith
   turns-limit denied t = omega arith
   turns-limit ended t = omega arith
   turns-limit (given rs) t = omega arith
-  turns-limit (busy c n p rs) t = omega (arith, phase-turns-limit p, cell-turns-limit c, t .carries .some, length-carried rs)
+  turns-limit (busy c n p rs) t = omega (arith, phase-turns-limit p, cell-turns-limit c, t, length-carried rs)
 
   -- the turns that changed something, where so many have ended
   moved-stopped : s .counts .moved ≤ 7 * leavingReached G starts + sum stopped (s .workers)
@@ -70,12 +70,12 @@ module _ {G : Graph} {starts : List ℕ} {W : ℕ} {g : Setting} {s : State} {l 
         F .turn-count,
         within-reached,
         sum-below-each turnsOf (λ (w : Worker). 7 * carriedBy w + stopped w) ended (s .workers)
-            (λ (i : ℕ). turns-limit (worker s i) (S .each-worker i)),
+            (λ (i : ℕ). turns-limit (worker s i) (S .supplied i)),
         sum-combine 7 carriedBy stopped (s .workers),
       )
 
   moved-limit : s .counts .moved ≤ movedBound (leavingReached G starts) W
-  moved-limit = omega (arith, moved-stopped, stopped-limit (s .workers), S .workers-length)
+  moved-limit = omega (arith, moved-stopped, stopped-limit (s .workers), S .sized .workers-length)
 
   handed-limit : s .counts .handed * g .cutoff ≤ handedBound (leavingReached G starts)
   handed-limit =
@@ -89,7 +89,7 @@ module _ {G : Graph} {starts : List ℕ} {W : ℕ} {g : Setting} {s : State} {l 
       )
 
   no-twice : (e : ℕ) → sum (hit e) l ≤ 1
-  no-twice e = omega (arith, F .once (hit e), over-once G (A .formed) (s .marks) (S .marks-length) e)
+  no-twice e = omega (arith, F .once (hit e), over-once G (A .formed) (s .marks) (S .sized .marks-length) e)
 
   module _ (done : allEnded (s .workers) ≡ true) where
     trail-is : (f : ℕ → ℕ) → sum f l ≡ over G f (s .marks)
@@ -98,10 +98,10 @@ module _ {G : Graph} {starts : List ℕ} {W : ℕ} {g : Setting} {s : State} {l 
     trail-exactly : (e : ℕ) → (0 < sum (hit e) l) ↔ ((v : ℕ) × Reach G starts v × Leaves G e v)
     trail-exactly e = (
       λ (h : 0 < sum (hit e) l).
-          let r = over-source G (A .formed) (s .marks) (S .marks-length) e (omega (arith, trail-is (hit e))) in
+          let r = over-source G (A .formed) (s .marks) (S .sized .marks-length) e (omega (arith, trail-is (hit e))) in
           (r .0, F .only-reached (r .0) (r .1), r .2),
       λ (r : (v : ℕ) × Reach G starts v × Leaves G e v).
-          omega (arith, trail-is (hit e), over-leaves G (A .formed) (s .marks) (S .marks-length) e (r .0) (all-marked S done (r .1)) (r .2)),
+          omega (arith, trail-is (hit e), over-leaves G (A .formed) (s .marks) (S .sized .marks-length) e (r .0) (all-marked S done (r .1)) (r .2)),
     )
 
     trail-whole : length l ≡ leavingReached G starts
@@ -112,7 +112,7 @@ module _ {G : Graph} {starts : List ℕ} {W : ℕ} {g : Setting} {s : State} {l 
           within-reached,
           sum-one l,
           trail-is (λ (e : ℕ). 1),
-          over-degree G (A .formed) (s .marks) (S .marks-length),
+          over-degree G (A .formed) (s .marks) (S .sized .marks-length),
           over-below (degree G) 0 (reached G starts) (s .marks)
               (λ (v : ℕ) (m : Marked (reached G starts) v). all-marked S done (reached-chain G starts v m)),
         )
@@ -140,7 +140,7 @@ module _ {G : Graph} {starts : List ℕ} {W : ℕ} {g : Setting} (A : Accepted G
         none-moved,
         moved-stopped A (sound A xs) (fresh A xs),
         reserve-limit W s (sound-start A .holder-below),
-        sound A xs .workers-length,
+        sound A xs .sized .workers-length,
         A .some-worker,
       )))
       (stretches-spend A (sound-start A) xss h)

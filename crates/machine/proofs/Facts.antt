@@ -1,21 +1,23 @@
 -- Plain facts about a sound state, for the code: lengths, ranges and limits.
 use mathlib.Core.Path.{_≡_, refl, ap}
 use mathlib.Core.List.{List, [], _∷_}
-use mathlib.Core.Logic.{_⊎_, inl, inr, ⊎-elim, _≢_}
+use mathlib.Core.Logic.{_≢_}
 use Prim.Native.Nat.{ℕ, zero, suc, _+_, _≤_, _<_}
 use native.Mathlib.Omega.{arith}
 use lib.ListN.{length}
 use Rattle.laws.specs.Every.{Every}
 use Rattle.laws.specs.Sum.{sum, hit}
 use Rattle.laws.proofs.Every.{every-map}
-use Rattle.laws.proofs.Sum.{sum-one, sum-below, sum-zero-each, sum-share, inside, hit-same}
+use Rattle.laws.proofs.Sum.{sum-one, sum-below, sum-share, inside, hit-same}
 use Rattle.graph.specs.Graph.{Graph, objects, references, target}
 use Rattle.graph.specs.Chain.{set?}
 use Rattle.graph.proofs.OverMarked.{after-limit}
-use Rattle.machine.specs.Run.{Run, run, size, carried}
+use Rattle.machine.specs.Run.{Run, run, carried}
 use Rattle.machine.specs.Machine.{Setting, State, Worker, idle, asking, denied, ended, given, busy, Cell, from, Phase, worker, runsOf, carriedBy, carries?, carriedAll, live}
 use Rattle.machine.specs.Accepted.{Accepted}
-use Rattle.machine.specs.Sound.{startOf, Within, Carries, batchOf, Working, WorkerSound, holds, waits, sinceOf, Sound}
+use Rattle.machine.specs.Sound.{InTargets, Within, WholeInside, batchOf, batchIn, Supplied, holds, waits, sinceOf, heldSum, runsSum, Sound}
+use Rattle.machine.proofs.Marks.{set-some}
+use Rattle.machine.proofs.Room.{runs-few}
 use Rattle.machine.proofs.Runs.{length-carried}
 
 -- 1 for a worker that has not ended
@@ -27,23 +29,15 @@ there ended = 0
 there (given rs) = 1
 there (busy c n p rs) = 1
 
--- a number counts once where it is not 0, and then it does
+-- a number counts once at most
 set-limit : (x : ℕ) → set? x ≤ 1
 set-limit zero = omega arith
 set-limit (suc k) = omega arith
 
-pub set-some : (x : ℕ) → 0 < x → set? x ≡ 1
-set-some zero h = absurd (omega arith)
-set-some (suc k) h = refl
-
--- no more than it is, and not at all where it is 0
+-- and no more than it is
 set-below : (x : ℕ) → set? x ≤ x
 set-below zero = omega arith
 set-below (suc k) = omega arith
-
-set-none : (x : ℕ) → set? x ≡ 0 → x ≡ 0
-set-none zero h = refl
-set-none (suc k) h = absurd (omega arith)
 
 -- a worker with a run counts as one that carries
 pub run-counts : (r : Run) (rs : List Run) → set? (carried (r ∷ rs)) ≡ 1
@@ -54,9 +48,17 @@ pub live-limit : (ms : List ℕ) → live ms ≤ length ms
 unfolding live
 live-limit ms = omega (arith, sum-below set? (λ (x : ℕ). 1) ms set-limit, sum-one ms)
 
--- a run lies among the targets
-abbrev pub InTargets : Graph → Run → Type 0
-InTargets G r = startOf r + size r ≤ references G
+-- what the conditions ask of one worker, with these marks
+pub record WorkerSound (G : Graph) (g : Setting) (ms : List ℕ) (w : Worker) : Type 0 where
+  pub within : Every (Within G ms) (runsOf w)
+  pub whole : WholeInside G (runsOf w)
+  pub supplied : Supplied w
+  pub batch-limit : batchIn w ≤ g .batch
+  pub batch-carried : batchIn w ≤ carriedBy w
+
+-- one that has no runs is as it must be
+pub without-runs : {G : Graph} {g : Setting} {ms : List ℕ} (w : Worker) → runsOf w ≡ [] → batchIn w ≡ 0 → Supplied w → WorkerSound G g ms w
+without-runs w e z t = record { within = rw e tt; whole = rw e tt; supplied = t; batch-limit = omega arith; batch-carried = omega arith }
 
 -- only an asker without a reply waits
 asking-if : (w : Worker) → 0 < waits w → w ≡ asking
@@ -70,11 +72,11 @@ asking-if (busy c n p rs) h = absurd (omega arith)
 module _ {G : Graph} {starts : List ℕ} {W : ℕ} {g : Setting} {s : State} (A : Accepted G starts W g) (S : Sound G starts W g s) where
   -- a worker that has not ended is below W
   pub below-workers : (b : ℕ) → 0 < there (worker s b) → b < W
-  below-workers b h = omega (arith, S .workers-length, inside (s .workers) b ended there refl h)
+  below-workers b h = omega (arith, S .sized .workers-length, inside (s .workers) b ended there refl h)
 
   -- no more marks are set than there are objects
   pub live-below : s .counts .live ≤ objects G
-  live-below = omega (arith, S .live-is, live-limit (s .marks), S .marks-length)
+  live-below = omega (arith, S .live-is, live-limit (s .marks), S .sized .marks-length)
 
   -- no more workers carry references than there are
   pub carrying-limit : s .counts .carrying ≤ W
@@ -84,7 +86,7 @@ module _ {G : Graph} {starts : List ℕ} {W : ℕ} {g : Setting} {s : State} (A 
         S .carrying-is,
         sum-below carries? (λ (w : Worker). 1) (s .workers) (λ (w : Worker). set-limit (carriedBy w)),
         sum-one (s .workers),
-        S .workers-length,
+        S .sized .workers-length,
       )
 
   -- a worker that carries some is counted
@@ -92,13 +94,7 @@ module _ {G : Graph} {starts : List ℕ} {W : ℕ} {g : Setting} {s : State} (A 
   unfolding carried sum
   carrying-at b h = omega (arith, S .carrying-is, sum-share carries? ended refl (s .workers) b, set-some (carriedBy (worker s b)) h)
 
-  -- nobody carries exactly when no reference is carried
-  pub carrying-none : s .counts .carrying ≡ 0 → carriedAll s ≡ 0
-  unfolding carried sum
-  carrying-none e =
-      sum-zero-each carriedBy ended (s .workers)
-      (λ (i : ℕ). set-none (carriedBy (worker s i)) (omega (arith, e, S .carrying-is, sum-share carries? ended refl (s .workers) i)))
-
+  -- nobody carries where no reference is carried
   pub carried-none : carriedAll s ≡ 0 → s .counts .carrying ≡ 0
   carried-none e = omega (arith, e, S .carrying-is, sum-below carries? carriedBy (s .workers) (λ (w : Worker). set-below (carriedBy w)))
 
@@ -119,37 +115,37 @@ module _ {G : Graph} {starts : List ℕ} {W : ℕ} {g : Setting} {s : State} (A 
   pub carried-limit : (b : ℕ) → carriedBy (worker s b) ≤ references G
   carried-limit b = omega (arith, carried-all-at b, carried-all-limit)
 
-  -- a sound worker carries nothing, or runs as they must be
-  carries-or : (w : Worker) → WorkerSound G g (s .marks) w → (runsOf w ≡ []) ⊎ Carries G (s .marks) (runsOf w)
-  carries-or idle t = inl refl
-  carries-or asking t = inl refl
-  carries-or denied t = inl refl
-  carries-or ended t = inl refl
-  carries-or (given rs) t = inr t
-  carries-or (busy c n p rs) t = inr (t .carries)
+  -- each worker is sound
+  pub each-worker : (b : ℕ) → WorkerSound G g (s .marks) (worker s b)
+  each-worker b =
+      record {
+        within = S .runs-within b;
+        whole = S .runs-whole b;
+        supplied = S .supplied b;
+        batch-limit = S .batch-limit b;
+        batch-carried = S .batch-carried b;
+      }
 
-  -- every run of every worker leaves one marked object
-  pub runs-within : (b : ℕ) → Every (Within G (s .marks)) (runsOf (worker s b))
-  runs-within b =
-      ⊎-elim
-      (λ (e : runsOf (worker s b) ≡ []). rw e tt)
-      (λ (t : Carries G (s .marks) (runsOf (worker s b))). t .within)
-      (carries-or (worker s b) (S .each-worker b))
-
-  -- so it lies among the targets
+  -- a run lies among the targets
   pub runs-limit : (b : ℕ) → Every (InTargets G) (runsOf (worker s b))
-  runs-limit b = every-map (Within G (s .marks)) (InTargets G) (runsOf (worker s b)) limit (runs-within b)
+  runs-limit b = every-map (Within G (s .marks)) (InTargets G) (runsOf (worker s b)) limit (S .runs-within b)
     where
       limit : (r : Run) → Within G (s .marks) r → InTargets G r
       limit r t = omega (arith, t .ends, after-limit G (A .formed) (t .object) (t .is-object))
 
   -- a worker has at most one run more than there are objects
   pub runs-room : (b : ℕ) → length (runsOf (worker s b)) ≤ suc (objects G)
+  unfolding runsSum
   runs-room b =
-      ⊎-elim
-      (λ (e : runsOf (worker s b) ≡ []). rw e (omega arith))
-      (λ (t : Carries G (s .marks) (runsOf (worker s b))). omega (arith, t .room, live-limit (s .marks), S .marks-length))
-      (carries-or (worker s b) (S .each-worker b))
+      let once : (e : ℕ) → runsSum (hit e) (runsOf (worker s b)) ≤ 1 = λ e.
+      omega (arith, S .carried-once e, sum-share (heldSum (hit e)) ended refl (s .workers) b)
+      in
+      omega (
+        arith,
+        runs-few (A .formed) (s .marks) (runsOf (worker s b)) (S .runs-within b) (S .runs-whole b) once,
+        live-limit (s .marks),
+        S .sized .marks-length,
+      )
 
   -- ---- worker b is owed a hand-over
 
@@ -159,25 +155,12 @@ module _ {G : Graph} {starts : List ℕ} {W : ℕ} {g : Setting} {s : State} (A 
     given-below = below-workers b (rw e (omega arith))
 
     -- its runs are as they must be
-    pub given-carries : Carries G (s .marks) rs
-    given-carries = rw e at (S .each-worker b)
+    pub given-sound : WorkerSound G g (s .marks) (given rs)
+    given-sound = rw e at (each-worker b)
 
-    -- it carries something, no more than there is, and no more than all
-    pub given-carried : 0 < carried rs
-    given-carried = omega (arith, given-carries .some, length-carried rs)
-
-    pub given-carried-limit : carried rs ≤ references G
-    given-carried-limit = rw e at (carried-limit b)
-
-    pub given-carried-all : carried rs ≤ carriedAll s
-    given-carried-all = rw e at (carried-all-at b)
-
-    -- its runs lie among the targets, and are few
+    -- its runs lie among the targets
     pub given-runs-limit : Every (InTargets G) rs
     given-runs-limit = rw e at (runs-limit b)
-
-    pub given-room : length rs ≤ suc (objects G)
-    given-room = rw e at (runs-room b)
 
   -- ---- worker b is busy
 
@@ -187,12 +170,12 @@ module _ {G : Graph} {starts : List ℕ} {W : ℕ} {g : Setting} {s : State} (A 
     busy-below = below-workers b (rw e (omega arith))
 
     -- its runs and batch are as they must be
-    pub busy-working : Working G g (s .marks) p rs
-    busy-working = rw e at (S .each-worker b)
+    pub busy-sound : WorkerSound G g (s .marks) (busy c n p rs)
+    busy-sound = rw e at (each-worker b)
 
     -- it has a run
     pub busy-some : 0 < length rs
-    busy-some = busy-working .carries .some
+    busy-some = busy-sound .supplied
 
     -- it carries something, no more than there is, and no more than all
     pub busy-carried : 0 < carried rs
@@ -211,12 +194,9 @@ module _ {G : Graph} {starts : List ℕ} {W : ℕ} {g : Setting} {s : State} (A 
     pub busy-room : length rs ≤ suc (objects G)
     busy-room = rw e at (runs-room b)
 
-    -- its batch is at most D, and at most what it carries
+    -- its batch is at most D
     pub batch-limit : batchOf p ≤ g .batch
-    batch-limit = busy-working .batch-limit
-
-    pub batch-carried : batchOf p ≤ carried rs
-    batch-carried = busy-working .batch-carried
+    batch-limit = busy-sound .batch-limit
 
     -- its since is at most followed
     pub since-limit : n ≤ s .counts .followed

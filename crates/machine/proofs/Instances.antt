@@ -19,7 +19,7 @@ use Rattle.graph.specs.Chain.{leavingReached, marksAt}
 use Rattle.machine.specs.Row.{Row}
 use Rattle.machine.specs.Run.{carried, keep, rest}
 use Rattle.machine.specs.Machine.{Entry, allEnded, entries, live, start, startRuns, turns}
-use Rattle.machine.specs.Call.{Call, graphOf, settingOf, scheduledBy, scheduleFits, fault, marking}
+use Rattle.machine.specs.Call.{Call, graphOf, settingOf, scheduledBy, scheduleFits, fault, firstFault, lengths, marking}
 use Rattle.machine.specs.Demand3.{stretchBound, entriesOf, AllHave, joined, roundOf, rounds, longSchedule, Cut, Demand3}
 use Rattle.machine.specs.Drawings.{S, turnsA, gives, drawing, ones}
 use Rattle.machine.proofs.Accept.{checked, fault-scheduled}
@@ -90,9 +90,9 @@ pub record Finishable (c : Call) (marks work tallies : List ℕ) : Type 0 where
 pub long-enough : (c : Call) (marks work tallies : List ℕ) → fault c (length marks) (length work) (length tallies) ≡ 0 → Finishable c marks work tallies
 unfolding longSchedule
 long-enough c marks work tallies e =
-    let A = checked c (length marks) (length work) (length tallies) e .accepted in
+    let A = checked c (lengths (length marks) (length work) (length tallies)) e .accepted in
     let k = stretchBound (leavingReached (graphOf c) (c .starts)) (c .workers) in
-    let none = fault-scheduled c (length marks) (length work) (length tallies) e (longFor c) (rounds-fit (c .workers) k) in
+    let none = fault-scheduled c (lengths (length marks) (length work) (length tallies)) e (longFor c) (rounds-fit (c .workers) k) in
     let cut : Cut (c .workers) k (entries (longFor c)) = record {
       stretches = replicate k (entries (roundOf (c .workers)));
       number = length-replicate k (entries (roundOf (c .workers)));
@@ -122,15 +122,15 @@ pub record OnS : Type 0 where
   pub holds : Demand3 S (0 ∷ []) 2 (settingOf callA) (entries turnsA) rowA
 
 faultless-A : fault callA 6 32 8 ≡ 0
-unfolding fault turnsA scheduleFits rising allBelow wellFormed
+unfolding firstFault turnsA scheduleFits rising allBelow wellFormed
 faultless-A = refl
 
 pub on-S : OnS
-unfolding turns start entries turnsA startRuns carried marksAt keep rest allEnded live leavingReached fault scheduleFits rising allBelow wellFormed
+unfolding turns start entries turnsA startRuns carried marksAt keep rest allEnded live leavingReached firstFault scheduleFits rising allBelow wellFormed
 on-S =
     record {
       faultless = faultless-A;
       reports = refl;
       five = refl;
-      holds = demand3 (checked callA 6 32 8 faultless-A .accepted) (entries turnsA);
+      holds = demand3 (checked callA (lengths 6 32 8) faultless-A .accepted) (entries turnsA);
     }

@@ -13,14 +13,12 @@ use Rattle.graph.specs.Graph.{Graph, Leaves, references, target}
 use Rattle.graph.specs.Chain.{Reach, on}
 use Rattle.graph.specs.Leaving.{leavingSum, leavingUnmarked}
 use Rattle.graph.proofs.OverMarked.{over-below, over-total, over-once, over-leaves, over-source}
-use Rattle.machine.specs.Run.{Run}
 use Rattle.machine.specs.Tally.{Tally}
 use Rattle.machine.specs.Machine.{Setting, State, Entry, Worker, idle, asking, denied, ended, given, busy, worker, runsOf, carriedBy, carries?, carriedAll, takes, turn, stopped}
 use Rattle.machine.specs.Accepted.{Accepted}
-use Rattle.machine.specs.Sound.{Marked, Within, Carries, WorkerSound, holds, waits, sinceOf, heldSum, carriedTimes, tallyOf, Sound, asks?, turnsOf, upTo, Fresh}
-use Rattle.machine.proofs.Facts.{runs-within}
+use Rattle.machine.specs.Sound.{Marked, Within, holds, waits, sinceOf, heldSum, carriedTimes, tallyOf, Sound, asks?, turnsOf, upTo, Fresh}
+use Rattle.machine.proofs.Facts.{WorkerSound, each-worker}
 use Rattle.machine.proofs.Runs.{carried-is, within-more, within-source}
-use Rattle.machine.proofs.Marks.{live-grows}
 use Rattle.machine.proofs.Change.{before, after, beforeAt, afterAt, put-length, put-sum, put-at, put-each}
 use Rattle.machine.proofs.Move.{move}
 use Rattle.machine.proofs.Step.{over, Step, step}
@@ -49,24 +47,14 @@ stopped-one (busy c n p rs) = omega arith
 -- a worker is sound also when more is marked
 worker-more : (G : Graph) (g : Setting) (ms ms′ : List ℕ) → ((v : ℕ) → Marked ms v → Marked ms′ v) → (w : Worker)
     → WorkerSound G g ms w → WorkerSound G g ms′ w
-worker-more G g ms ms′ h w t = by w t
-  where
-    carries : (rs : List Run) → Carries G ms rs → Carries G ms′ rs
-    carries rs t =
-        record {
-          some = t .some;
-          room = omega (arith, t .room, live-grows ms ms′ h);
-          within = every-map (Within G ms) (Within G ms′) rs (within-more h) (t .within);
-          whole-inside = t .whole-inside;
-        }
-
-    by : (w : Worker) → WorkerSound G g ms w → WorkerSound G g ms′ w
-    by idle t = tt
-    by asking t = tt
-    by denied t = tt
-    by ended t = tt
-    by (given rs) t = carries rs t
-    by (busy c n p rs) t = record { carries = carries rs (t .carries); batch-limit = t .batch-limit; batch-carried = t .batch-carried }
+worker-more G g ms ms′ h w t =
+    record {
+      within = every-map (Within G ms) (Within G ms′) (runsOf w) (within-more h) (t .within);
+      whole = t .whole;
+      supplied = t .supplied;
+      batch-limit = t .batch-limit;
+      batch-carried = t .batch-carried;
+    }
 
 module _ {G : Graph} {starts : List ℕ} {W : ℕ} {g : Setting} {s : State} (A : Accepted G starts W g) (S : Sound G starts W g s) where
   -- a carried reference leaves a marked object, so it is carried no more often than that is marked
@@ -75,8 +63,8 @@ module _ {G : Graph} {starts : List ℕ} {W : ℕ} {g : Setting} {s : State} (A 
       by-cases (decLt 0 (carriedTimes s e))
       (λ (h : 0 < carriedTimes s e).
       let i = sum-positive (heldSum (hit e)) ended (s .workers) h in
-      let v = within-source G (s .marks) e (runsOf (worker s (i .0))) (runs-within A S (i .0)) (i .2) in
-      omega (arith, S .carried-once e, over-leaves G (A .formed) (s .marks) (S .marks-length) e (v .0) (v .1) (v .2)))
+      let v = within-source G (s .marks) e (runsOf (worker s (i .0))) (S .runs-within (i .0)) (i .2) in
+      omega (arith, S .carried-once e, over-leaves G (A .formed) (s .marks) (S .sized .marks-length) e (v .0) (v .1) (v .2)))
       (λ (h : ¬ (0 < carriedTimes s e)). omega arith)
 
   module _ {t : List ℕ} {s′ : State} (T : Step G W g s t s′) where
@@ -97,17 +85,17 @@ module _ {G : Graph} {starts : List ℕ} {W : ℕ} {g : Setting} {s : State} (A 
     long = T .marking .long
 
     kept-once : (e : ℕ) → carriedTimes s′ e ≤ 1
-    kept-once e = omega (arith, held (hit e), held-below-over e, over-once G (A .formed) (s′ .marks) (long ∙ S .marks-length) e)
+    kept-once e = omega (arith, held (hit e), held-below-over e, over-once G (A .formed) (s′ .marks) (long ∙ S .sized .marks-length) e)
 
     -- e was taken off just now, or it was carried by nobody before
     kept-targets : (e v : ℕ) → Leaves G e v → Marked (s′ .marks) v → carriedTimes s′ e ≡ 0 → Marked (s′ .marks) (target G e)
     kept-targets e v l m h =
-        let now = over-leaves G (A .formed) (s′ .marks) (long ∙ S .marks-length) e v m l in
+        let now = over-leaves G (A .formed) (s′ .marks) (long ∙ S .sized .marks-length) e v m l in
         let same = held (hit e) in
         by-cases (decLt 0 (sum (hit e) t))
         (λ (p : 0 < sum (hit e) t). T .marking .targets e p)
         (λ (p : ¬ (0 < sum (hit e) t)).
-        let u = over-source G (A .formed) (s .marks) (S .marks-length) e (omega (arith, grows (hit e))) in
+        let u = over-source G (A .formed) (s .marks) (S .sized .marks-length) e (omega (arith, grows (hit e))) in
         T .marking .keeps (target G e) (S .targets-marked e (u .0) (u .2) (u .1) (omega (arith, grows (hit e)))))
 
     kept-total : s′ .counts .followed + carriedAll s′ + leavingUnmarked G (s′ .marks) ≡ references G
@@ -120,8 +108,8 @@ module _ {G : Graph} {starts : List ℕ} {W : ℕ} {g : Setting} {s : State} (A 
           carried-all-is (s .workers),
           carried-all-is (s′ .workers),
           sum-one t,
-          over-total G (A .formed) (s .marks) (S .marks-length),
-          over-total G (A .formed) (s′ .marks) (long ∙ S .marks-length),
+          over-total G (A .formed) (s .marks) (S .sized .marks-length),
+          over-total G (A .formed) (s′ .marks) (long ∙ S .sized .marks-length),
         )
 
     -- who has ended by now had ended before, or nothing was carried
@@ -160,42 +148,53 @@ module _ {G : Graph} {starts : List ℕ} {W : ℕ} {g : Setting} {s : State} (A 
           raised-at (λ (y : Tally). y .lost) refl (λ (y z : Tally). refl) (Y .raised) i,
         )
 
+    -- who changes is sound afterwards, and the others stay so
+    kept-worker : (i : ℕ) → WorkerSound G g (s′ .marks) (worker s′ i)
+    kept-worker i =
+        rw (T .workers)
+        (put-each (WorkerSound G g (s′ .marks)) (s .workers) (T .changes)
+        (λ (j : ℕ). worker-more G g (s .marks) (s′ .marks) (T .marking .keeps) (worker s j) (each-worker A S j))
+        (T .now-sound)
+        i)
+
     -- the tallies grow with the counts
     sound-step : {b k : ℕ} → Tallied G s b s′ k → Rested s b s′ W → Ringed A S s′ → Sound G starts W g s′
     sound-step Y R N =
         record {
-          marks-length = long ∙ S .marks-length;
-          workers-length = ap length (T .workers) ∙ put-length (s .workers) (T .changes) ∙ S .workers-length;
+          sized =
+              record {
+                marks-length = long ∙ S .sized .marks-length;
+                workers-length = ap length (T .workers) ∙ put-length (s .workers) (T .changes) ∙ S .sized .workers-length;
+                rested-length = R .long;
+                colours-length = N .long;
+                tallies-length = raised-length (Y .raised) ∙ S .sized .tallies-length;
+              };
           marks-limit = T .marking .limit;
           starts-marked = λ (v : ℕ) (h : 0 < sum (hit v) starts). T .marking .keeps v (S .starts-marked v h);
           live-is = omega (arith, S .live-is, T .weighs .lives);
           carrying-is = omega (arith, S .carrying-is, T .weighs .carrying, sums carries?);
-          each-worker = λ (i : ℕ).
-              rw (T .workers)
-              (put-each (WorkerSound G g (s′ .marks)) (s .workers) (T .changes)
-              (λ (j : ℕ). worker-more G g (s .marks) (s′ .marks) (T .marking .keeps) (worker s j) (S .each-worker j))
-              (T .now-sound)
-              i);
+          runs-within = λ (i : ℕ). kept-worker i .within;
+          runs-whole = λ (i : ℕ). kept-worker i .whole;
           carried-once = kept-once;
           total = kept-total;
           targets-marked = kept-targets;
+          supplied = λ (i : ℕ). kept-worker i .supplied;
           cells = λ (a : ℕ). omega (arith, S .cells a, T .weighs .cells a, sums (holds a), places waits a);
+          batch-limit = λ (i : ℕ). kept-worker i .batch-limit;
+          batch-carried = λ (i : ℕ). kept-worker i .batch-carried;
           stopped-empty = kept-stopped;
-          colours-length = N .long;
-          holder-below = N .below;
-          above-holder = N .clear;
-          first-ended = kept-first;
-          rested-length = R .long;
-          rested-carrying = R .none;
           since-followed = omega (arith, S .since-followed, T .weighs .since, T .weighs .followed, sums sinceOf);
+          rested-carrying = R .none;
           refused-moved = omega (arith, S .refused-moved, T .weighs .refused);
-          tallies-length = raised-length (Y .raised) ∙ S .tallies-length;
           tallies-followed =
               omega (arith, S .tallies-followed, Y .followed-counts, raised-sum (λ (y : Tally). y .followed) refl (λ (y z : Tally). refl) (Y .raised));
           tallies-handed =
               omega (arith, S .tallies-handed, Y .handed-counts, raised-sum (λ (y : Tally). y .handed) refl (λ (y z : Tally). refl) (Y .raised));
           tallies-won = omega (arith, S .tallies-won, Y .live-counts, raised-sum (λ (y : Tally). y .won) refl (λ (y z : Tally). refl) (Y .raised));
           tallies-claims = λ (i : ℕ). kept-claims Y i;
+          holder-below = N .below;
+          above-holder = N .clear;
+          first-ended = kept-first;
         }
 
     module _ {l : List ℕ} (F : Fresh G starts g s l) where

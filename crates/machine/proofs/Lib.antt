@@ -1,7 +1,9 @@
 pub mod Accept
 pub mod Runs
 pub mod Marks
+pub mod Room
 pub mod Facts
+pub mod Finishing
 pub mod Rested
 pub mod Ring
 pub mod Move

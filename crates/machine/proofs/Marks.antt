@@ -7,8 +7,9 @@ use native.Mathlib.Omega.{arith}
 use native.Mathlib.Nat.{zero-add}
 use lib.ListN.{length, getD, set}
 use Rattle.laws.specs.Sum.{sum}
-use Rattle.graph.specs.Chain.{overMarked}
-use Rattle.graph.proofs.OverMarked.{over-set, over-set-again, over-below}
+use Rattle.laws.proofs.Sum.{sum-set, inside}
+use Rattle.graph.specs.Chain.{set?, overMarked}
+use Rattle.graph.proofs.OverMarked.{over-set, over-set-again}
 use Rattle.machine.specs.Machine.{claimMark, live}
 use Rattle.machine.specs.Sound.{Marked}
 
@@ -63,6 +64,14 @@ pub live-again : (ms : List ℕ) (v x k : ℕ) → 0 < x → getD ms v 1 ≡ suc
 live-again ms v zero k p e = absurd (omega arith)
 live-again ms v (suc x) k p e = omega (arith, over-set-again (λ (u : ℕ). 1) 0 ms v x k e, live-over 0 ms, live-over 0 (set ms v (suc x)))
 
--- more marks, more that are live
-pub live-grows : (ms ms′ : List ℕ) → ((v : ℕ) → Marked ms v → Marked ms′ v) → live ms ≤ live ms′
-live-grows ms ms′ h = omega (arith, over-below (λ (u : ℕ). 1) 0 ms ms′ h, live-over 0 ms, live-over 0 ms′)
+-- a number counts once where it is not 0
+pub set-some : (x : ℕ) → 0 < x → set? x ≡ 1
+set-some zero h = absurd (omega arith)
+set-some (suc k) h = refl
+
+-- live falls by 1 where a mark is taken away
+pub live-less : (ms : List ℕ) (v : ℕ) → Marked ms v → live ms ≡ suc (live (set ms v 0))
+unfolding live
+live-less ms v m =
+    let x = getD ms v 0 in
+    omega (arith, sum-set set? 0 ms v x 0 refl (inside ms v 0 (λ (y : ℕ). y) refl m), set-some x m)

@@ -3,27 +3,26 @@
 use mathlib.Core.Path.{_≡_, refl, ap, _∙_}
 use mathlib.Core.Bool.{Bool, true, false}
 use mathlib.Core.List.{List, [], _∷_, _++_, append-assoc, append-nil}
-use mathlib.Core.Logic.{by-cases, _↔_, _≢_}
+use mathlib.Core.Logic.{by-cases, _↔_}
 use native.Mathlib.Decide.{decLe}
-use Prim.Native.Nat.{ℕ, zero, suc, _+_, _-_, _*_, _≤_, _<_}
+use Prim.Native.Nat.{ℕ, zero, suc, _-_, _*_, _≤_, _<_}
 use native.Mathlib.Omega.{arith}
-use lib.ListN.{length, getD, set, replicate, length-replicate}
+use lib.ListN.{length, getD, set}
 use lib.Seq.{getD-set-same, getD-set-other}
 use Rattle.laws.specs.Sum.{sum, hit}
 use Rattle.laws.proofs.Sum.{hit-same, hit-equal, hit-at-most-one, sum-snoc, sum-below, inside, default}
-use Rattle.graph.specs.Graph.{Graph, objects, target}
-use Rattle.graph.specs.Chain.{marksAt}
+use Rattle.graph.specs.Graph.{Graph, target}
 use Rattle.machine.specs.Run.{Run, run, carried}
 use Rattle.machine.specs.Machine.{Setting, State, Entry, Worker, idle, asking, denied, ended, given, busy, Cell, empty, from, Phase, poll, look, claim, claimMark, worker, markOf}
 use lib.Dec.{eqb}
 use Rattle.machine.specs.Ring.{Colour, white, black, colourOf}
-use Rattle.machine.specs.Machine.{stopped, asks, homeTurn, holderTurn, idleTurn, shares, answer, claims, lookTurn, claimTurn, busyTurn, workerTurn, unmarked, start, turn, turns, result}
+use Rattle.machine.specs.Machine.{stopped, asks, homeTurn, holderTurn, idleTurn, shares, answer, claims, lookTurn, claimTurn, busyTurn, workerTurn, start, turn, turns, result}
 use Rattle.machine.specs.Accepted.{Accepted}
 use Rattle.machine.specs.Sound.{Marked}
 use Rattle.machine.specs.Demand2.{outcome, FinishedMarks}
-use Rattle.machine.specs.Owners.{claimTells, Win, winOf, busyWins, wins, claimsWon, claimsWonOf, wonOf, wonBy, Owned, unclaimed, a-start, claimed, Owners}
-use Rattle.machine.proofs.Start.{sound-start, sound, start-mark, start-unmarked}
-use Rattle.machine.proofs.Demand2.{demand2, marked-is}
+use Rattle.machine.specs.Owners.{claimTells, Win, winOf, busyWins, wins, claimsWon, wonOf, wonBy, Owned, unclaimed, a-start, claimed, Owners}
+use Rattle.machine.proofs.Start.{sound, start-mark, start-unmarked}
+use Rattle.machine.proofs.Demand2.{marked-is}
 
 -- the owner that a claim tells is the mark that stands there afterwards
 pub owner-stands : (G : Graph) (s : State) (b v : ℕ) → v < length (s .marks)

@@ -4,10 +4,9 @@ use mathlib.Core.Path.{_≡_, refl, sym, subst}
 use mathlib.Core.List.{List}
 use Prim.Native.Nat.{ℕ, zero, suc, _+_, _-_, _*_, _≤_, _<_}
 use native.Mathlib.Omega.{arith}
-use lib.ListN.{length}
 use Rattle.laws.specs.Span.{span}
 use Rattle.graph.specs.Graph.{Graph}
-use Rattle.machine.specs.Ring.{Ring, colourOf, shade, passedOn, blackBelow, blackAbove}
+use Rattle.machine.specs.Ring.{Ring, passedOn, blackBelow, blackAbove}
 use Rattle.machine.specs.Machine.{Setting, State, carriedAll, passes}
 use Rattle.machine.specs.Accepted.{Accepted}
 use Rattle.machine.specs.Sound.{Sound}
@@ -64,14 +63,14 @@ module _ {G : Graph} {starts : List ℕ} {W : ℕ} {g : Setting} {s : State} (A 
   uses : (b : ℕ) → s .ring .holder ≡ b → Passing s b → suc (passesLeft W (passedOn W b (s .ring))) ≡ passesLeft W (s .ring)
   uses zero e h =
       let r = s .ring in
-      let below = sent-below W r (A .some-worker) (omega (arith, S .colours-length, A .some-worker)) e in
+      let below = sent-below W r (A .some-worker) (omega (arith, S .sized .colours-length, A .some-worker)) e in
       rw (below, sent-above W r (A .some-worker))
       (omega (arith, e, circuits-less (blackBelow r) (blackAbove W r) W h (A .some-worker)))
   uses (suc b) e h =
       let r = s .ring in
       let low : suc b < W = omega (arith, S .holder-below, e) in
       let below = passed-below W b r e in
-      rw (passed-above W b r e low (omega (arith, S .colours-length)))
+      rw (passed-above W b r e low (omega (arith, S .sized .colours-length)))
       (omega (
         arith,
         e,
@@ -80,7 +79,7 @@ module _ {G : Graph} {starts : List ℕ} {W : ℕ} {g : Setting} {s : State} (A 
 
   pub pass-uses : (b : ℕ) → s .ring .holder ≡ b → Passing s b → suc (passesLeft W (passes s b .ring)) ≡ passesLeft W (s .ring)
   pass-uses b e h =
-      subst (λ (n : ℕ). suc (passesLeft W (passedOn n b (s .ring))) ≡ passesLeft W (s .ring)) (sym (S .workers-length)) (uses b e h)
+      subst (λ (n : ℕ). suc (passesLeft W (passedOn n b (s .ring))) ≡ passesLeft W (s .ring)) (sym (S .sized .workers-length)) (uses b e h)
 
 -- ---- in reserve
 

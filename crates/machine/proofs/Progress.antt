@@ -68,7 +68,7 @@ module _ {G : Graph} {starts : List ℕ} {W : ℕ} {g : Setting} {s : State} (A 
   quiet b =
       by-cases (decLt b W)
       (λ (h : b < W). quiet-below b h)
-      (λ (h : ¬ (b < W)). let e : worker s b ≡ ended = List·getD-eq-default (s .workers) ended (omega (arith, S .workers-length)) in rw e gone)
+      (λ (h : ¬ (b < W)). let e : worker s b ≡ ended = List·getD-eq-default (s .workers) ended (omega (arith, S .sized .workers-length)) in rw e gone)
 
   -- then nobody is in a cell, so nobody waits
   nobody-waits : (b : ℕ) → waits (worker s b) ≡ 0
@@ -78,7 +78,7 @@ module _ {G : Graph} {starts : List ℕ} {W : ℕ} {g : Setting} {s : State} (A 
   all-ended =
       let h = s .ring .holder in
       let at-holder : stopped (worker s h) ≡ 1 = quiet-holder (quiet h) refl (nobody-waits h) in
-      let there : h < length (s .workers) = omega (arith, S .workers-length, S .holder-below) in
+      let there : h < length (s .workers) = omega (arith, S .sized .workers-length, S .holder-below) in
       let first = S .first-ended (omega (arith, at-holder, sum-at stopped ended (s .workers) h (worker s h) refl there)) in
       ended-if (s .workers) (λ (b : ℕ). quiet-ended (quiet b) (first .0) (nobody-waits b))
 
@@ -102,21 +102,10 @@ module _ {G : Graph} {starts : List ℕ} {W : ℕ} {g : Setting} (A : Accepted G
       by (passing q e h) = omega arith
       by (moving s′ m h r) = omega (arith, m, h)
 
-  -- moved alone
-  pub moved-turn : {s : State} → Sound G starts W g s → (x : Entry) → (moved s ≤ moved (turn G g s x)) × (moved (turn G g s x) ≤ suc (moved s))
-  moved-turn S x = (turn-counts S x .0, turn-counts S x .1)
-
   -- handed and moved rise by 1 a turn at most
   pub counts-grow : {s : State} → Sound G starts W g s → (x : Entry)
       → (turn G g s x .counts .handed ≤ suc (s .counts .handed)) × (turn G g s x .counts .moved ≤ suc (s .counts .moved))
   counts-grow S x = (turn-counts S x .2, turn-counts S x .1)
-
-  -- over a list of turns
-  pub moved-turns : {s : State} → Sound G starts W g s → (xs : List Entry)
-      → (moved s ≤ moved (turns G g s xs)) × (moved (turns G g s xs) ≤ moved s + length xs)
-  unfolding turns
-  moved-turns {s} S [] = omega arith
-  moved-turns {s} S (x ∷ xs) = omega (arith, moved-turn S x, moved-turns (sound-turn A S x) xs)
 
   -- what a turn of b does: nothing; it passes the token while references are carried; or something is spent
   data Effect (s : State) (b : ℕ) : State → Type 0 where
@@ -199,7 +188,7 @@ module _ {G : Graph} {starts : List ℕ} {W : ℕ} {g : Setting} (A : Accepted G
       let none : carriedAll s ≡ 0 = sum-zero-each carriedBy ended (s .workers) (λ (b : ℕ).
       by-cases (decLt b W)
       (λ (h : b < W). q b (each b h) .0)
-      (λ (h : ¬ (b < W)). ap carriedBy (List·getD-eq-default (s .workers) ended (omega (arith, S .workers-length)))))
+      (λ (h : ¬ (b < W)). ap carriedBy (List·getD-eq-default (s .workers) ended (omega (arith, S .sized .workers-length)))))
       in
       inl (all-ended A S (λ (b : ℕ) (h : b < W). q b (each b h) .1 none)))
       (λ (q : Spent W s 1 (turns G g s xs)). inr q)

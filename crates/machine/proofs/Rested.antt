@@ -8,14 +8,13 @@ use lib.ListN.{length, getD, set, length-set}
 use lib.Seq.{getD-set-other}
 use Rattle.laws.specs.Grouping.{itself}
 use Rattle.laws.specs.Sum.{sum}
-use Rattle.laws.proofs.Sum.{inside}
 use Rattle.graph.specs.Graph.{Graph}
-use Rattle.machine.specs.Run.{Run, run, carried, rest, half}
+use Rattle.machine.specs.Run.{Run, carried}
 use Rattle.machine.specs.Ring.{blackened}
-use Rattle.machine.specs.Machine.{Setting, State, Worker, idle, asking, denied, ended, given, busy, Cell, empty, from, Phase, phase, worker, carriedBy, resting, onward, dismiss, giver, receiver, Claimed, follows, onwardRuns}
+use Rattle.machine.specs.Machine.{Setting, State, Worker, idle, asking, denied, ended, busy, Cell, empty, from, phase, worker, carriedBy, dismiss, giver, receiver, Claimed, follows, onwardRuns}
 use Rattle.machine.specs.Accepted.{Accepted}
 use Rattle.machine.specs.Sound.{Sound}
-use Rattle.machine.specs.Move.{Alone, wakes, takes-up, ends, polls, looks, Waiting, Move, still, passed, alone, asked, hands, refuses, follow}
+use Rattle.machine.specs.Move.{Alone, wakes, takes-up, ends, polls, looks, Move, still, passed, alone, asked, hands, refuses, follow}
 use Rattle.machine.proofs.Facts.{busy-carried}
 
 -- one number written: the sum grows by at most that
@@ -82,7 +81,7 @@ module _ {G : Graph} {starts : List ℕ} {W : ℕ} {g : Setting} {s : State} (A 
 
   -- the sinces stay
   still-rested : {b : ℕ} {s′ : State} → s′ .rested ≡ s .rested → Carriers s s′ → Rested s b s′ W
-  still-rested e k = record { long = ap length e ∙ S .rested-length; none = λ i p. rw e (S .rested-carrying i (k i p)); carriers = inl k }
+  still-rested e k = record { long = ap length e ∙ S .sized .rested-length; none = λ i p. rw e (S .rested-carrying i (k i p)); carriers = inl k }
 
   lonely : (b : ℕ) {x y : Worker} → worker s b ≡ x → Alone G g s b x y → 0 < carriedBy y → 0 < carriedBy (worker s b)
   unfolding carried sum
@@ -97,7 +96,7 @@ module _ {G : Graph} {starts : List ℕ} {W : ℕ} {g : Setting} {s : State} (A 
   unfolding carried sum
   left b c n k o [] h =
       record {
-        long = simp length-set (S .rested-length);
+        long = simp length-set (S .sized .rested-length);
         none = λ (i : ℕ) (p : 0 < carriedBy (getD (dismiss c [] (set (s .workers) b idle)) i ended)).
             let q = gone c i p in getD-set-other (s .rested) b i (suc n) 0 (q .1) ∙ S .rested-carrying i (q .0);
         carriers = inl (λ (i : ℕ) (p : 0 < carriedBy (getD (dismiss c [] (set (s .workers) b idle)) i ended)). gone c i p .0);
@@ -133,7 +132,7 @@ module _ {G : Graph} {starts : List ℕ} {W : ℕ} {g : Setting} {s : State} (A 
       (kept a denied (set (s .workers) b y) (λ h. absurd (omega arith)) (kept b y (s .workers) (λ i. rw q (busy-carried A S b q)) same))
   rested-move {b} (hands a {n} {rs} q r h) =
       record {
-        long = simp length-set (S .rested-length);
+        long = simp length-set (S .sized .rested-length);
         none = λ (i : ℕ) (p : 0 < carriedBy (getD (set (set (s .workers) b (giver g n rs)) a (receiver rs)) i ended)).
             ⊎-elim
             (λ (k : (0 < carriedBy (getD (set (s .workers) b (giver g n rs)) i ended)) × (i ≢ a)).

@@ -1,7 +1,7 @@
 -- The token ring: an idle worker ends only where nobody carries anything, and every move keeps what the ring says.
 use mathlib.Core.Path.{_≡_, refl, sym, ap, _∙_}
 use mathlib.Core.List.{List}
-use mathlib.Core.Logic.{_⊎_, inl, inr, ⊎-elim, _≢_, by-cases}
+use mathlib.Core.Logic.{_⊎_, inl, inr, _≢_, by-cases}
 use Prim.Native.Nat.{ℕ, zero, suc, _+_, _-_, _*_, _≤_, _<_}
 use native.Mathlib.Decide.{decLt}
 use native.Mathlib.Omega.{arith}
@@ -17,7 +17,7 @@ use Rattle.machine.specs.Ring.{Colour, white, black, shade, Ring, colour
 use Rattle.machine.specs.Machine.{Setting, State, idle, ended, worker, carriedBy, carriedAll, stopped, passes}
 use Rattle.machine.specs.Accepted.{Accepted}
 use Rattle.machine.specs.Sound.{Sound}
-use Rattle.machine.specs.Move.{Over, behind, home, Passing, Move, still, passed, alone, asked, hands, refuses, follow}
+use Rattle.machine.specs.Move.{Over, behind, home, Move, still, passed, alone, asked, hands, refuses, follow}
 use Rattle.machine.proofs.Facts.{busy-carried}
 use Rattle.machine.proofs.Rested.{Carriers, Blackens, Rested}
 
@@ -96,7 +96,7 @@ module _ {G : Graph} {starts : List ℕ} {W : ℕ} {g : Setting} {s : State} (A 
   -- worker 0 is among those that have ended
   stopped-some : 0 < stopped (worker s 0) → 0 < sum stopped (s .workers)
   stopped-some h =
-      omega (arith, sum-at stopped ended (s .workers) 0 (worker s 0) refl (omega (arith, S .workers-length, A .some-worker)))
+      omega (arith, sum-at stopped ended (s .workers) 0 (worker s 0) refl (omega (arith, S .sized .workers-length, A .some-worker)))
 
   -- where an idle worker ends, nobody carries anything: worker 0 has found everyone white, or it has ended before
   pub over-none : {b : ℕ} → worker s b ≡ idle → Over s b → carriedAll s ≡ 0
@@ -133,7 +133,7 @@ module _ {G : Graph} {starts : List ℕ} {W : ℕ} {g : Setting} {s : State} (A 
   ringed-same : {s′ : State} → s′ .ring ≡ s .ring → Carriers s s′ → Ringed s′
   ringed-same {s′} e k =
       record {
-        long = ap (λ (r : Ring). length (r .colours)) e ∙ S .colours-length;
+        long = ap (λ (r : Ring). length (r .colours)) e ∙ S .sized .colours-length;
         below = rw e (S .holder-below);
         clear = λ (z : blackBelow (s′ .ring) ≡ 0) (b : ℕ) (h : s′ .ring .holder < b).
             by-cases (decLt 0 (carriedBy (worker s′ b)))
@@ -147,7 +147,7 @@ module _ {G : Graph} {starts : List ℕ} {W : ℕ} {g : Setting} {s : State} (A 
       let r = s .ring in
       let some = h .0 in
       record {
-        long = ap (λ (x : Ring). length (x .colours)) (h .1) ∙ length-set (r .colours) b black ∙ S .colours-length;
+        long = ap (λ (x : Ring). length (x .colours)) (h .1) ∙ length-set (r .colours) b black ∙ S .sized .colours-length;
         below = rw (h .1) (S .holder-below);
         clear = λ (z : blackBelow (s′ .ring) ≡ 0) (i : ℕ) (l : s′ .ring .holder < i). absurd (never (rw (h .1) at z));
       }
@@ -159,7 +159,7 @@ module _ {G : Graph} {starts : List ℕ} {W : ℕ} {g : Setting} {s : State} (A 
           let below = colours-below (s .ring) b black (suc (s .ring .holder)) (omega arith) in
           omega (arith, h .0, S .above-holder (omega (arith, z, below)) b p))
           (λ (p : ¬ (s .ring .holder < b)).
-          let there : b < length (s .ring .colours) = omega (arith, S .colours-length, S .holder-below) in
+          let there : b < length (s .ring .colours) = omega (arith, S .sized .colours-length, S .holder-below) in
           omega (
             arith,
             z,
@@ -172,16 +172,16 @@ module _ {G : Graph} {starts : List ℕ} {W : ℕ} {g : Setting} {s : State} (A 
   unfolding carried sum
   ringed-passed zero q e =
       record {
-        long = length-set (s .ring .colours) 0 white ∙ S .colours-length;
-        below = omega (arith, S .workers-length, A .some-worker);
-        clear = λ z b h. nobody b (omega (arith, S .workers-length, h));
+        long = length-set (s .ring .colours) 0 white ∙ S .sized .colours-length;
+        below = omega (arith, S .sized .workers-length, A .some-worker);
+        clear = λ z b h. nobody b (omega (arith, S .sized .workers-length, h));
       }
     where
       nobody : (b : ℕ) → W ≤ b → carriedBy (worker s b) ≡ 0
-      nobody b h = ap carriedBy (List·getD-eq-default (s .workers) ended (omega (arith, S .workers-length)))
+      nobody b h = ap carriedBy (List·getD-eq-default (s .workers) ended (omega (arith, S .sized .workers-length)))
   ringed-passed (suc b) q e =
       record {
-        long = length-set (s .ring .colours) (suc b) white ∙ S .colours-length;
+        long = length-set (s .ring .colours) (suc b) white ∙ S .sized .colours-length;
         below = omega (arith, S .holder-below, e);
         clear = λ z i h. clear z i h;
       }

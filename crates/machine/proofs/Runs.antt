@@ -5,7 +5,7 @@ use mathlib.Core.List.{List, [], _∷_, _++_, append-nil}
 use mathlib.Core.Logic.{⊎-elim}
 use Prim.Native.Nat.{ℕ, zero, suc, _+_, _-_, _/_, _≤_, _<_, min}
 use native.Mathlib.Omega.{arith}
-use lib.ListN.{length, length-append}
+use lib.ListN.{length}
 use lib.Dec.{ltb}
 use borrow.Author.Tests.{ltb-true, ltb-false}
 use Rattle.laws.specs.Choice.{pick}
@@ -110,21 +110,6 @@ pub carried-length : (rs : List Run) → 0 < carried rs → 0 < length rs
 unfolding carried sum
 carried-length [] h = absurd (omega arith)
 carried-length (r ∷ rs) h = omega arith
-
--- the k references from e on are at most one run
-pub length-from : (e k : ℕ) → length (runFrom e k) ≤ 1
-length-from e zero = omega arith
-length-from e (suc k) = omega arith
-
--- a part has no more runs than the whole
-pub length-cut : {k : ℕ} {rs ks ls : List Run} → Cut k rs ks ls → (length ks ≤ length rs) × (length ls ≤ length rs)
-length-cut none = omega arith
-length-cut (past h c) = omega (arith, length-cut c)
-length-cut (here {k} {e} {j} {rs} h) = rw length-append (omega (arith, length-from e k, length-from (e + k) (suc j - k)))
-
--- what is left, in particular
-pub length-rest : (k : ℕ) (rs : List Run) → length (rest k rs) ≤ length rs
-length-rest k rs = length-cut (cuts k rs) .1
 
 -- ---- where the runs lie
 

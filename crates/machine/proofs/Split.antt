@@ -1,9 +1,8 @@
 -- Which part held the last reference kept says how many of the runs are kept: that reference ends the last of them.
-use mathlib.Core.Path.{_≡_, refl, ap, _∙_, sym, subst}
-use mathlib.Core.Bool.{Bool, true, false}
+use mathlib.Core.Path.{_≡_, refl, ap, _∙_}
 use mathlib.Core.Logic.{by-cases}
 use mathlib.Core.List.{List, [], _∷_}
-use Prim.Native.Nat.{ℕ, zero, suc, _+_, _-_, _≤_, _<_}
+use Prim.Native.Nat.{ℕ, zero, suc, _-_, _≤_, _<_}
 use native.Mathlib.Decide.{decLt}
 use native.Mathlib.Omega.{arith}
 use borrow.Author.Tests.{lt-ltb, le-ltb, le-leb, lt-leb}
@@ -11,9 +10,8 @@ use lib.ListN.{length}
 use lib.Dec.{ltb}
 use Rattle.laws.specs.Choice.{pick}
 use Rattle.laws.specs.Sum.{sum}
-use Rattle.machine.specs.declared.frontier.Held.{Held}
-use Rattle.machine.specs.declared.frontier.Held.the-variants.{Front, Back, Middle}
-use Rattle.machine.specs.Run.{Run, run, runFrom, carried, keep}
+use Rattle.machine.specs.declared.frontier.Held.the-variants.{Back, Middle}
+use Rattle.machine.specs.Run.{Run, run, carried, keep}
 use Rattle.machine.specs.Split.{held, lastSize, Tells}
 
 -- the last run is one of them

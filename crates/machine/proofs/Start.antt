@@ -6,7 +6,7 @@ use Prim.Native.Nat.{ℕ, zero, suc, _+_, _-_, _≤_, _<_}
 use native.Mathlib.Omega.{arith}
 use native.Mathlib.Decide.{decLt}
 use native.Mathlib.Nat.{zero-add, add-zero}
-use lib.ListN.{length, getD, set, take, replicate, length-set, length-append, length-replicate}
+use lib.ListN.{length, getD, set, take, replicate, length-set, length-replicate}
 use lib.Seq.{getD-set-other}
 use Rattle.laws.specs.Every.{Every}
 use Rattle.laws.specs.Grouping.{itself}
@@ -24,12 +24,12 @@ use Rattle.machine.specs.Tally.{Tally, noTally}
 use Rattle.machine.specs.Ring.{white}
 use Rattle.machine.specs.Machine.{Setting, State, Entry, Worker, idle, ended, busy, empty, poll, runsOf, carriedBy, worker, carries?, live, newRun, startRuns, withRuns, unmarked, start, turns, trail, stopped}
 use Rattle.machine.specs.Accepted.{Accepted}
-use Rattle.machine.specs.Sound.{Marked, Within, Whole, Carries, WorkerSound, holds, waits, sinceOf, runsSum, heldSum, carriedTimes, distinctStarts, Sound, asks?, Fresh}
+use Rattle.machine.specs.Sound.{Marked, InTargets, Within, Whole, holds, waits, sinceOf, runsSum, heldSum, carriedTimes, distinctStarts, Sound, asks?, Fresh}
 use Rattle.machine.specs.Demand2.{outcome}
 use Rattle.machine.specs.Demand3.{trailOf}
-use Rattle.machine.proofs.Runs.{runs-append, runs-from, length-from, leaving-runs, inside-all}
-use Rattle.machine.proofs.Marks.{marked-keeps, marked-there, over-more, live-more, live-grows}
-use Rattle.machine.proofs.Facts.{InTargets, set-some, live-below, carried-limit, runs-limit, runs-room}
+use Rattle.machine.proofs.Runs.{runs-append, runs-from, leaving-runs, inside-all}
+use Rattle.machine.proofs.Marks.{marked-keeps, marked-there, over-more, set-some}
+use Rattle.machine.proofs.Facts.{WorkerSound, without-runs, carried-limit, runs-limit, runs-room}
 use Rattle.machine.proofs.Step.{over}
 use Rattle.machine.proofs.Kept.{carried-all-is, sound-turn, fresh-turn}
 
@@ -89,14 +89,13 @@ each-none (suc k) (suc i) = each-none k i
 -- the runs rs of the objects that are marked in ms′ and not in ms
 record Begun (G : Graph) (ms ms′ : List ℕ) (rs : List Run) : Type 0 where
   sums : (f : ℕ → ℕ) → runsSum f rs + over G f ms ≡ over G f ms′
-  room : length rs + live ms ≤ live ms′
   within : Every (Within G ms′) rs
   whole : Every (Whole G) rs
 
 module _ {G : Graph} {starts : List ℕ} {W : ℕ} {g : Setting} (A : Accepted G starts W g) where
   begun : (vs ms : List ℕ) → length ms ≡ objects G → ((v : ℕ) → 0 < sum (hit v) vs → v < objects G) → Begun G ms (marksAt vs ms) (startRuns G vs ms)
   unfolding startRuns marksAt runsSum sum
-  begun [] ms l h = record { sums = λ (f : ℕ → ℕ). omega arith; room = omega arith; within = tt; whole = tt }
+  begun [] ms l h = record { sums = λ (f : ℕ → ℕ). omega arith; within = tt; whole = tt }
   begun (v ∷ vs) ms l h =
       by (getD ms v 1) refl (begun vs (set ms v 1) (length-set ms v 1 ∙ l) (λ (u : ℕ) (p : 0 < sum (hit u) vs). h u (omega arith)))
     where
@@ -110,14 +109,12 @@ module _ {G : Graph} {starts : List ℕ} {W : ℕ} {g : Setting} (A : Accepted G
           record {
             sums = λ (f : ℕ → ℕ).
                 omega (arith, t .sums f, runs-append f (leaving G v) rs, runs-from f (first G v) (degree G v), over-more (leavingSum G f) ms v 1 (omega arith) e);
-            room = rw length-append (omega (arith, t .room, length-from (first G v) (degree G v), live-more ms v 1 (omega arith) e));
             within = every-append (Within G (marksAt vs (set ms v 1))) (leaving G v) rs (own .0) (t .within);
             whole = every-append (Whole G) (leaving G v) rs (own .1) (t .whole);
           }
       by (suc x) e t =
           record {
             sums = λ (f : ℕ → ℕ). omega (arith, t .sums f, over-set-again (leavingSum G f) 0 ms v 0 x e);
-            room = omega (arith, t .room, live-grows ms (set ms v 1) (λ (u : ℕ). marked-keeps ms v 1 u (omega arith)));
             within = t .within;
             whole = t .whole;
           }
@@ -226,45 +223,49 @@ module _ {G : Graph} {starts : List ℕ} {W : ℕ} {g : Setting} (A : Accepted G
       let ms = marksAt starts (unmarked G) in
       let rs = startRuns G starts (unmarked G) in
       let t = begun-start in
-      let carries : 0 < length rs → Carries G ms rs = λ (h : 0 < length rs).
-      record { some = h; room = omega (arith, t .room); within = t .within; whole-inside = inside-all G rs (t .whole) }
+      let first : 0 < length rs → WorkerSound G g ms (busy empty 0 poll rs) = λ (h : 0 < length rs).
+      record { within = t .within; whole = inside-all G rs (t .whole); supplied = h; batch-limit = omega arith; batch-carried = omega arith }
       in
+      let each = each-start (WorkerSound G g ms) rs (W - 1) first (without-runs idle refl refl tt) (without-runs ended refl refl tt) in
       record {
-        marks-length = marks-long;
-        workers-length = omega (arith, length-replicate (W - 1) idle, A .some-worker);
+        sized =
+            record {
+              marks-length = marks-long;
+              workers-length = omega (arith, length-replicate (W - 1) idle, A .some-worker);
+              rested-length = length-replicate W 0;
+              colours-length = length-replicate W white;
+              tallies-length = length-replicate W noTally;
+            };
         marks-limit = marks-at-limit W (A .some-worker) starts (objects G);
         starts-marked = λ (v : ℕ) (h : 0 < sum (hit v) starts).
             starts-marked starts (unmarked G) v h (rw length-replicate (A .starts-below v h));
         live-is = refl;
         carrying-is = carrying-start;
-        each-worker =
-            each-start (WorkerSound G g ms) rs (W - 1)
-            (λ (h : 0 < length rs). record { carries = carries h; batch-limit = omega arith; batch-carried = omega arith })
-            tt
-            tt;
+        runs-within = λ (b : ℕ). each b .within;
+        runs-whole = λ (b : ℕ). each b .whole;
         carried-once = λ (e : ℕ). omega (arith, held-start (hit e), over-once G (A .formed) ms marks-long e);
         total = omega (arith, held-start (λ (e : ℕ). 1), carried-all-is (start G starts W .workers), over-total G (A .formed) ms marks-long);
         targets-marked = λ (e v : ℕ) (l : Leaves G e v) (m : Marked ms v) (h : carriedTimes (start G starts W) e ≡ 0).
             absurd (omega (arith, held-start (hit e), over-leaves G (A .formed) ms marks-long e v m l));
+        supplied = λ (b : ℕ). each b .supplied;
         cells = λ (i : ℕ).
             none-start (holds i) refl (λ (l : List Run). refl)
             ∙ sym (each-start (λ (w : Worker). waits w ≡ 0) rs (W - 1) (λ (h : 0 < length rs). refl) refl refl i);
+        batch-limit = λ (b : ℕ). each b .batch-limit;
+        batch-carried = λ (b : ℕ). each b .batch-carried;
         stopped-empty = λ (h : 0 < sum stopped (start G starts W .workers)).
             absurd (omega (arith, none-start stopped refl (λ (l : List Run). refl)));
-        colours-length = length-replicate W white;
-        holder-below = omega (arith, A .some-worker);
-        above-holder = λ none b h. others-start b (omega arith);
-        first-ended = λ (h : 0 < sum stopped (start G starts W .workers)).
-            absurd (omega (arith, none-start stopped refl (λ (l : List Run). refl)));
-        rested-length = length-replicate W 0;
-        rested-carrying = λ (b : ℕ) (h : 0 < carriedBy (worker (start G starts W) b)). none-marked W b;
         since-followed = omega (arith, none-start sinceOf refl (λ (l : List Run). refl), sum-none itself W 0 refl);
+        rested-carrying = λ (b : ℕ) (h : 0 < carriedBy (worker (start G starts W) b)). none-marked W b;
         refused-moved = omega arith;
-        tallies-length = length-replicate W noTally;
         tallies-followed = sum-none (λ (t : Tally). t .followed) W noTally refl;
         tallies-handed = sum-none (λ (t : Tally). t .handed) W noTally refl;
         tallies-won = omega (arith, sum-none (λ (t : Tally). t .won) W noTally refl, starts-live);
         tallies-claims = each-none W;
+        holder-below = omega (arith, A .some-worker);
+        above-holder = λ none b h. others-start b (omega arith);
+        first-ended = λ (h : 0 < sum stopped (start G starts W .workers)).
+            absurd (omega (arith, none-start stopped refl (λ (l : List Run). refl)));
       }
 
   -- what worker 0 carries at the start
@@ -281,10 +282,6 @@ module _ {G : Graph} {starts : List ℕ} {W : ℕ} {g : Setting} (A : Accepted G
 
   pub start-carried : carried (startRuns G starts (unmarked G)) ≤ references G
   start-carried = rw carried-first at (carried-limit A sound-start 0)
-
-  pub start-live : live (marksAt starts (unmarked G)) ≤ objects G
-  unfolding start
-  start-live = live-below A sound-start
 
   pub start-inside : Every (InTargets G) (startRuns G starts (unmarked G))
   start-inside = rw carried-first at (runs-limit A sound-start 0)

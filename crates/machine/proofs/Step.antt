@@ -6,7 +6,7 @@ use mathlib.Core.List.{List, [], _∷_, _++_}
 use mathlib.Core.Logic.{_⊎_, inl, inr, ⊎-map, ⊎-elim, _≢_}
 use Prim.Native.Nat.{ℕ, zero, suc, _+_, _*_, _/_, _≤_, _<_, min}
 use native.Mathlib.Omega.{arith}
-use lib.ListN.{length, getD, set, length-append, length-set}
+use lib.ListN.{length, getD, set, length-set}
 use lib.Dec.{ltb, leb}
 use borrow.Author.Tests.{ltb-true, leb-true}
 use Rattle.laws.specs.Choice.{both, either}
@@ -22,19 +22,19 @@ use Rattle.graph.specs.Leaving.{leavingSum}
 use Rattle.graph.proofs.Formed.{both-true}
 use Rattle.graph.proofs.OverMarked.{over-below}
 use Rattle.machine.specs.Run.{Run, run, carried, runFrom, keep, half}
-use Rattle.machine.specs.Machine.{Setting, State, Worker, idle, asking, denied, ended, busy, Cell, empty, from, Phase, poll, look, claim, phase, worker, markOf, claimMark, stopped}
+use Rattle.machine.specs.Machine.{Setting, State, Worker, idle, asking, denied, ended, given, busy, Cell, empty, from, Phase, poll, look, claim, phase, worker, markOf, claimMark, stopped}
 use Rattle.machine.specs.Machine.{runsOf, carriedBy, carries?, carriedAll, live, shares, giver, receiver, Claimed, notClaimed, claimLost, claimWon, onwardRuns, follows}
 use Rattle.machine.specs.Accepted.{Accepted}
-use Rattle.machine.specs.Sound.{Marked, Within, Whole, WholeInside, Carries, batchOf, Working, WorkerSound, holds, waits, sinceOf, runsSum, heldSum, Sound, asks?}
+use Rattle.machine.specs.Sound.{Marked, Within, Whole, WholeInside, batchOf, holds, waits, sinceOf, runsSum, heldSum, Sound, asks?}
 use Rattle.machine.specs.Sound.{phaseTurns, turnsOf, upTo}
 use Rattle.machine.specs.Events.{owed?, refused?, replies}
 use Rattle.machine.specs.Move.{wakes, takes-up, ends, polls, looks, asked, hands, refuses, Taken, seen, lost, won, Waiting, Move, still, passed, alone, follow}
-use Rattle.machine.proofs.Facts.{there, given-carries, busy-below, busy-working, busy-carried, busy-carried-all, carrying-at, first-target, set-some, run-counts}
-use Rattle.machine.proofs.Runs.{cuts, runs-append, runs-from, runs-cut, carried-is, carried-length, halves, length-from, length-cut, within-part}
+use Rattle.machine.proofs.Facts.{there, run-counts, WorkerSound, without-runs, given-sound, busy-below, busy-sound, busy-carried, busy-carried-all, carrying-at, first-target}
+use Rattle.machine.proofs.Runs.{cuts, runs-append, runs-from, runs-cut, carried-is, carried-length, halves, within-part}
 use Rattle.machine.proofs.Runs.{within-cut, within-more, leaving-runs, whole-append, inside-from, inside-keep, inside-rest}
 use Rattle.machine.proofs.Rested.{sum-written}
 use Rattle.machine.proofs.Ring.{over-none, over-first}
-use Rattle.machine.proofs.Marks.{claim-mark-set, claim-mark-limit, marked-keeps, marked-from, marked-there, over-more, live-more}
+use Rattle.machine.proofs.Marks.{claim-mark-set, claim-mark-limit, marked-keeps, marked-from, marked-there, over-more, live-more, set-some}
 use Rattle.machine.proofs.Change.{Change, put, Fits, before, after, beforeAt, afterAt, one, two, fits-two, replied, replies-none, replies-one, replies-two}
 
 -- ---- the record
@@ -120,10 +120,15 @@ share-pays K n c k h =
 
 module _ {G : Graph} {g : Setting} {ms : List ℕ} where
   -- a batch begins
-  begins : {rs : List Run} → Carries G ms rs → Working G g ms (phase (min (g .batch) (carried rs))) rs
-  begins {rs} t =
-      let k = phase-batch (min (g .batch) (carried rs)) in
-      record { carries = t; batch-limit = omega arith; batch-carried = omega arith }
+  begins : {w : Worker} {c : Cell} {n : ℕ} → 0 < length (runsOf w) → WorkerSound G g ms w
+      → WorkerSound G g ms (busy c n (phase (min (g .batch) (carriedBy w))) (runsOf w))
+  begins {w} some t =
+      let k = phase-batch (min (g .batch) (carriedBy w)) in
+      record { within = t .within; whole = t .whole; supplied = some; batch-limit = omega arith; batch-carried = omega arith }
+
+  -- a worker that is owed a part of some runs
+  owed : {ks : List Run} → 0 < carried ks → Every (Within G ms) ks → WholeInside G ks → WorkerSound G g ms (given ks)
+  owed {ks} some w i = record { within = w; whole = i; supplied = carried-length ks some; batch-limit = omega arith; batch-carried = omega arith }
 
 -- ---- following
 
@@ -132,14 +137,12 @@ record Opens (G : Graph) (W : ℕ) (s : State) (e : ℕ) (o : Claimed) : Type 0 
   over-is : (f : ℕ → ℕ) → over G f (o .marks) ≡ over G f (s .marks) + runsSum f (o .opened)
   marking : Marking G W s (o .marks) (e ∷ [])
   lives : live (o .marks) ≡ live (s .marks) + o .won
-  few : length (o .opened) ≤ o .won
   within : Every (Within G (o .marks)) (o .opened)
   whole : Every (Whole G) (o .opened)
 
 -- the runs rs′ after e is taken off `run e j` before rs, with these marks
 record Left (G : Graph) (s : State) (e j : ℕ) (rs : List Run) (ms : List ℕ) (rs′ : List Run) : Type 0 where
   held : (f : ℕ → ℕ) → f e + runsSum f rs′ + over G f (s .marks) ≡ runsSum f (run e j ∷ rs) + over G f ms
-  room : length rs′ ≤ suc (live ms)
   within : Every (Within G ms) rs′
   inside : WholeInside G rs′
 
@@ -163,7 +166,7 @@ module _ {G : Graph} {starts : List ℕ} {W : ℕ} {g : Setting} {s : State} (A 
 
   module _ (b : ℕ) {c : Cell} {n : ℕ} {p : Phase} {e j : ℕ} {rs : List Run} (q : worker s b ≡ busy c n p (run e j ∷ rs)) where
     below : target G e < length (s .marks)
-    below = omega (arith, S .marks-length, first-target A S b q)
+    below = omega (arith, S .sized .marks-length, first-target A S b q)
 
     -- the target is marked already
     opens-lost : (x : ℕ) → markOf s (target G e) ≡ suc x → Opens G W s e (claimLost s)
@@ -174,7 +177,6 @@ module _ {G : Graph} {starts : List ℕ} {W : ℕ} {g : Setting} {s : State} (A 
           over-is = λ (f : ℕ → ℕ). omega arith;
           marking = same-marks (e ∷ []) there;
           lives = omega arith;
-          few = omega arith;
           within = tt;
           whole = tt;
         }
@@ -183,7 +185,7 @@ module _ {G : Graph} {starts : List ℕ} {W : ℕ} {g : Setting} {s : State} (A 
     opens-seen : (x : ℕ) → markOf s (target G e) ≡ suc x → Opens G W s e (notClaimed s)
     opens-seen x m =
         let t = opens-lost x m in
-        record { over-is = t .over-is; marking = t .marking; lives = t .lives; few = t .few; within = t .within; whole = t .whole }
+        record { over-is = t .over-is; marking = t .marking; lives = t .lives; within = t .within; whole = t .whole }
 
     opens-won : markOf s (target G e) ≡ 0 → Opens G W s e (claimWon G s b (target G e))
     opens-won m =
@@ -192,7 +194,7 @@ module _ {G : Graph} {starts : List ℕ} {W : ℕ} {g : Setting} {s : State} (A 
         let ms = claimWon G s b v .marks in
         let there = marked-there (s .marks) v x (claim-mark-set b) below in
         let run = leaving-runs G ms (A .formed) v (first-target A S b q) there in
-        let w = busy-working A S b q .carries .within .0 in
+        let w = busy-sound A S b q .within .0 in
         let l : Leaves G e (w .object) = record { object = w .is-object; from = w .begins; below = omega (arith, w .ends) } in
         record {
           over-is = λ (f : ℕ → ℕ). omega (arith, over-more (leavingSum G f) (s .marks) v x (claim-mark-set b) m, runs-from f (first G v) (degree G v));
@@ -209,7 +211,6 @@ module _ {G : Graph} {starts : List ℕ} {W : ℕ} {g : Setting} {s : State} (A 
                 targets = one-target ms e there;
               };
           lives = omega (arith, live-more (s .marks) v x (claim-mark-set b) m);
-          few = length-from (first G v) (degree G v);
           within = run .0;
           whole = run .1;
         }
@@ -222,17 +223,16 @@ module _ {G : Graph} {starts : List ℕ} {W : ℕ} {g : Setting} {s : State} (A 
     left : (o : Claimed) → Opens G W s e o → Left G s e j rs (o .marks) (onwardRuns e j (o .opened) rs)
     unfolding runsSum sum span
     left o t =
-        let w = busy-working A S b q .carries in
+        let w = busy-sound A S b q in
         let more = every-map (Within G (s .marks)) (Within G (o .marks)) (run e j ∷ rs) (within-more (t .marking .keeps)) (w .within) in
         record {
           held = λ (f : ℕ → ℕ).
               omega (arith, runs-append f (runFrom (suc e) j) (o .opened ++ rs), runs-append f (o .opened) rs, runs-from f (suc e) j, t .over-is f);
-          room = rw (length-append, length-append) (omega (arith, w .room, length-from (suc e) j, t .few, t .lives));
           within =
               every-append (Within G (o .marks)) (runFrom (suc e) j) (o .opened ++ rs)
               (within-part G (o .marks) (run e j) (suc e) j (omega arith) (omega arith) (more .0))
               (every-append (Within G (o .marks)) (o .opened) rs (t .within) (more .1));
-          inside = inside-from G (suc e) j (o .opened ++ rs) (whole-append G (o .opened) rs (t .whole) (w .whole-inside));
+          inside = inside-from G (suc e) j (o .opened ++ rs) (whole-append G (o .opened) rs (t .whole) (w .whole));
         }
 
   -- ---- a step by which one worker changes, and one by which two do
@@ -280,11 +280,6 @@ module _ {G : Graph} {starts : List ℕ} {W : ℕ} {g : Setting} {s : State} (A 
         marking = m;
       }
 
-  -- a part of what a worker carries
-  part : {ks rs : List Run} → Carries G (s .marks) rs → 0 < carried ks → length ks ≤ length rs → Every (Within G (s .marks)) ks
-      → WholeInside G ks → Carries G (s .marks) ks
-  part {ks} t h l w i = record { some = carried-length ks h; room = omega (arith, t .room); within = w; whole-inside = i }
-
   -- ---- following, by the cell and by what is left
 
   module _ (b n k e j : ℕ) (p : Phase) (rs : List Run) (o : Claimed) (h : batchOf p ≡ suc k) (t : Opens G W s e o) where
@@ -307,11 +302,13 @@ module _ {G : Graph} {starts : List ℕ} {W : ℕ} {g : Setting} {s : State} (A 
     counted q = (set-some (carried (run e j ∷ rs)) (busy-carried A S b q), carrying-at A S b (rw q (busy-carried A S b q)))
 
     working : (c : Cell) (r : Run) (rs′ : List Run) → worker s b ≡ busy c n p (run e j ∷ rs) → Left G s e j rs (o .marks) (r ∷ rs′)
-        → Working G g (o .marks) (phase k) (r ∷ rs′)
+        → WorkerSound G g (o .marks) (busy c (suc n) (phase k) (r ∷ rs′))
     working c r rs′ q l =
-        let w = busy-working A S b q in
+        let w = busy-sound A S b q in
         record {
-          carries = record { some = omega arith; room = l .room; within = l .within; whole-inside = l .inside };
+          within = l .within;
+          whole = l .inside;
+          supplied = omega arith;
           batch-limit = omega (arith, phase-batch k, w .batch-limit, h);
           batch-carried = omega (arith, phase-batch k, w .batch-carried, h, lowers (r ∷ rs′) q l);
         }
@@ -320,12 +317,12 @@ module _ {G : Graph} {starts : List ℕ} {W : ℕ} {g : Setting} {s : State} (A 
         → Step G W g s (e ∷ []) (follows s b c n k o rs′)
     unfolding carried runsSum sum
     step-left empty [] q w l =
-        step-one b idle q (omega arith) refl tt
+        step-one b idle q (omega arith) refl (without-runs idle refl refl tt)
         (λ (f : ℕ → ℕ). omega (arith, l .held f))
         (omega (arith, t .lives, phase-turns-limit p, lowers [] q l, counted q, sum-written (s .rested) b (suc n)))
         (t .marking)
     step-left (from a) [] q w l =
-        step-two b a idle denied q w (omega arith) refl refl tt tt
+        step-two b a idle denied q w (omega arith) refl refl (without-runs idle refl refl tt) (without-runs denied refl refl tt)
         (λ (f : ℕ → ℕ). omega (arith, l .held f))
         (omega (arith, t .lives, phase-turns-limit p, lowers [] q l, counted q, sum-written (s .rested) b (suc n)))
         (t .marking)
@@ -365,29 +362,39 @@ module _ {G : Graph} {starts : List ℕ} {W : ℕ} {g : Setting} {s : State} (A 
         weighs = omega (arith, o);
         marking = none-taken;
       }
-  step {b} (alone q wakes) = step-one b idle q (omega arith) refl tt (λ (f : ℕ → ℕ). omega arith) (omega arith) none-taken
+  step {b} (alone q wakes) =
+      step-one b idle q (omega arith) refl (without-runs idle refl refl tt) (λ (f : ℕ → ℕ). omega arith) (omega arith) none-taken
   step {b} (alone q (takes-up {rs})) =
-      let w : Working G g (s .marks) poll rs = record { carries = given-carries A S b q; batch-limit = omega arith; batch-carried = omega arith } in
+      let t = given-sound A S b q in
+      let w : WorkerSound G g (s .marks) (busy empty 0 poll rs) =
+      record { within = t .within; whole = t .whole; supplied = t .supplied; batch-limit = omega arith; batch-carried = omega arith } in
       step-one b (busy empty 0 poll rs) q (omega arith) refl w (λ (f : ℕ → ℕ). omega arith) (omega arith) none-taken
-  step {b} (alone q (ends h)) = step-one b ended q (omega arith) refl tt (λ (f : ℕ → ℕ). omega arith) (omega (arith, over-none A S q h, over-first A S q h)) none-taken
+  step {b} (alone q (ends h)) =
+      step-one b ended q (omega arith) refl (without-runs ended refl refl tt) (λ (f : ℕ → ℕ). omega arith) (omega (arith, over-none A S q h, over-first A S q h)) none-taken
   step {b} (alone q (polls {n} {rs})) =
       let k = min (g .batch) (carried rs) in
       let three = phase-turns k (omega (arith, A .some-batch, busy-carried A S b q)) in
-      let w = begins (busy-working A S b q .carries) in
+      let t = busy-sound A S b q in
+      let w = begins (t .supplied) t in
       step-one b (busy empty n (phase k) rs) q (omega arith) refl w (λ (f : ℕ → ℕ). omega arith) (omega arith) none-taken
   step {b} (alone q (looks {c} {n} {k} {e} {j} {rs} m)) =
-      let t = busy-working A S b q in
-      let w : Working G g (s .marks) (claim k) (run e j ∷ rs) = record { carries = t .carries; batch-limit = t .batch-limit; batch-carried = t .batch-carried } in
+      let t = busy-sound A S b q in
+      let w : WorkerSound G g (s .marks) (busy c n (claim k) (run e j ∷ rs)) =
+      record { within = t .within; whole = t .whole; supplied = t .supplied; batch-limit = t .batch-limit; batch-carried = t .batch-carried } in
       step-one b (busy c n (claim k) (run e j ∷ rs)) q (omega arith) refl w (λ (f : ℕ → ℕ). omega arith) (omega arith) none-taken
   step {b} (asked v {n} {p} {rs} q r) =
-      step-two v b (busy (from b) n p rs) asking q r (omega arith) refl refl (busy-working A S v q) tt
+      let t = busy-sound A S v q in
+      let w : WorkerSound G g (s .marks) (busy (from b) n p rs) =
+      record { within = t .within; whole = t .whole; supplied = t .supplied; batch-limit = t .batch-limit; batch-carried = t .batch-carried } in
+      step-two v b (busy (from b) n p rs) asking q r (omega arith) refl refl w (without-runs asking refl refl tt)
       (λ (f : ℕ → ℕ). omega arith)
       (omega arith)
       none-taken
   step {b} (refuses a {n} {rs} q r h) =
       let k = min (g .batch) (carried rs) in
       let three = phase-turns k (omega (arith, A .some-batch, busy-carried A S b q)) in
-      step-two b a (busy empty n (phase k) rs) denied q r (omega arith) refl refl (begins (busy-working A S b q .carries)) tt
+      let t = busy-sound A S b q in
+      step-two b a (busy empty n (phase k) rs) denied q r (omega arith) refl refl (begins (t .supplied) t) (without-runs denied refl refl tt)
       (λ (f : ℕ → ℕ). omega arith)
       (omega arith)
       none-taken
@@ -395,18 +402,18 @@ module _ {G : Graph} {starts : List ℕ} {W : ℕ} {g : Setting} {s : State} (A 
       let K = g .cutoff in
       let c = cuts (half (carried rs)) rs in
       let k = min (g .batch) (carried (keep (half (carried rs)) rs)) in
-      let t = busy-working A S b q .carries in
-      let l = length-cut c in
+      let t = busy-sound A S b q in
       let w = within-cut G (s .marks) c (t .within) in
       let pays = share-pays K n (carried rs) (A .some-cutoff) h in
       let both = halves rs in
+      let kept : WorkerSound G g (s .marks) (given (keep (half (carried rs)) rs)) = owed (omega (arith, both, pays)) (w .0) (inside-keep G c (t .whole)) in
       let three = phase-turns k (omega (arith, A .some-batch, both, pays)) in
       let counted : (carries? (busy (from a) n poll rs) ≡ 1) × (carries? (giver g n rs) ≡ 1) × (carries? (receiver rs) ≡ 1) =
       (set-some (carried rs) (busy-carried A S b q), set-some (carriedBy (giver g n rs)) (omega (arith, both, pays)), set-some (carriedBy (receiver rs)) (omega (arith, both, pays)))
       in
       step-two b a (giver g n rs) (receiver rs) q r (omega arith) refl refl
-      (begins (part t (omega (arith, both, pays)) (l .0) (w .0) (inside-keep G c (t .whole-inside))))
-      (part t (omega (arith, both, pays)) (l .1) (w .1) (inside-rest G c (t .whole-inside)))
+      (begins (kept .supplied) kept)
+      (owed (omega (arith, both, pays)) (w .1) (inside-rest G c (t .whole)))
       (λ (f : ℕ → ℕ). omega (arith, runs-cut f c))
       (omega (arith, pays, both, three, counted, sum-written (s .rested) a 0, ap (λ (m : ℕ). min (2 * m) K) (both .0), ap (λ (m : ℕ). min (2 * m) K) (both .1)))
       none-taken

@@ -1,19 +1,19 @@
 -- What a turn adds to its worker's tally, told by the rule of the turn.
-use mathlib.Core.Path.{_≡_, refl, _∙_}
+use mathlib.Core.Path.{_≡_, refl}
 use mathlib.Core.List.{List, _∷_}
 use Prim.Native.Nat.{ℕ, _+_, _*_, _≤_, _<_}
 use native.Mathlib.Omega.{arith}
 use lib.ListN.{length, getD, length-set}
 use Rattle.laws.specs.Sum.{sum, hit}
 use Rattle.laws.proofs.Sum.{sum-set, at-set}
-use Rattle.graph.specs.Graph.{Graph, target}
+use Rattle.graph.specs.Graph.{Graph}
 use Rattle.machine.specs.Run.{Run, run}
 use Rattle.machine.specs.Tally.{Tally, tally, noTally, addTally, tallied}
 use Rattle.machine.specs.Machine.{Setting, State, Worker, busy, Cell, Phase, worker, Claimed}
 use Rattle.machine.specs.Accepted.{Accepted}
 use Rattle.machine.specs.Sound.{Sound}
-use Rattle.machine.specs.Owners.{Win, wins}
-use Rattle.machine.specs.Tallies.{workerLoses, winsOf}
+use Rattle.machine.specs.Owners.{wins}
+use Rattle.machine.specs.Tallies.{workerLoses}
 use Rattle.machine.specs.Move.{Quiet, gone, waiting, unable, Alone, wakes, takes-up, ends, polls, looks, Taken, seen, lost, won, Move, still, passed, alone, asked, hands, refuses, follow}
 use Rattle.machine.proofs.Facts.{busy-below}
 
@@ -101,7 +101,7 @@ module _ {G : Graph} {starts : List ℕ} {W : ℕ} {g : Setting} {s : State} (A 
   tells q (won m) = record { one = omega arith; wins-are = rw (q, m) refl; losses-are = rw (q, m) refl }
 
   below : {b : ℕ} {c : Cell} {n : ℕ} {p : Phase} {rs : List Run} → worker s b ≡ busy c n p rs → b < length (s .tallies)
-  below {b} q = omega (arith, busy-below A S b q, S .tallies-length)
+  below {b} q = omega (arith, busy-below A S b q, S .sized .tallies-length)
 
   -- every move counts so
   pub tallied-move : {b : ℕ} {t : List ℕ} {s′ : State} → Move G g s b t s′ → Tallied G s b s′ (length t)

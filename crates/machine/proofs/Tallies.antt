@@ -1,7 +1,7 @@
 -- The tallies: `Sound` keeps how they add up, and each is what its worker's turns count, turn by turn.
 use mathlib.Core.Path.{_≡_, refl}
 use mathlib.Core.Bool.{Bool, true, false}
-use mathlib.Core.List.{List, [], _∷_, _++_}
+use mathlib.Core.List.{List, [], _∷_}
 use Prim.Native.Nat.{ℕ, zero, suc, _+_, _*_}
 use native.Mathlib.Omega.{arith}
 use lib.ListN.{length, getD, replicate}
@@ -10,7 +10,7 @@ use Rattle.laws.proofs.Sum.{sum-append}
 use Rattle.graph.specs.Graph.{Graph, target}
 use Rattle.machine.specs.Run.{Run, run}
 use Rattle.machine.specs.Tally.{Tally, noTally}
-use Rattle.machine.specs.Machine.{Setting, State, Entry, Worker, idle, asking, denied, ended, given, busy, Phase, poll, look, claim, worker, markOf, start, turn, turns, takes, result}
+use Rattle.machine.specs.Machine.{Setting, State, Entry, Worker, idle, asking, denied, ended, given, busy, Phase, poll, look, claim, worker, markOf, start, turn, turns, result}
 use Rattle.machine.specs.Accepted.{Accepted}
 use Rattle.machine.specs.Sound.{Sound, tallyOf}
 use Rattle.machine.specs.Events.{owed?}
@@ -107,7 +107,7 @@ module _ {G : Graph} {starts : List ℕ} {W : ℕ} {g : Setting} (A : Accepted G
       let S = sound A xs in
       let a = added (sound-start A) xs in
       record {
-        each = S .tallies-length;
+        each = S .sized .tallies-length;
         followed-total = S .tallies-followed;
         handed-total = S .tallies-handed;
         won-total = S .tallies-won;

@@ -2,7 +2,7 @@
 -- answers; nobody else's turn changes a worker whose cell is taken. What it carries beyond its batch never falls before the poll.
 use mathlib.Core.Path.{_≡_, refl, sym, ap, _∙_, subst}
 use mathlib.Core.Bool.{Bool, true, false, true≢false}
-use mathlib.Core.List.{List, [], _∷_, _++_, map}
+use mathlib.Core.List.{List, [], _∷_, _++_}
 use mathlib.Core.Logic.{_≢_, by-cases}
 use Prim.Native.Nat.{ℕ, zero, suc, _+_, _-_, _*_, _≤_, _<_}
 use native.Mathlib.Decide.{decLt}
@@ -14,19 +14,19 @@ use Rattle.laws.specs.Grouping.{itself}
 use Rattle.laws.specs.Span.{span, listing}
 use Rattle.laws.specs.Sum.{sum, hit}
 use Rattle.laws.proofs.Span.{span-hit-one, listing-length}
-use Rattle.laws.proofs.Sum.{hit-same, hit-at-most-one, hit-equal, hit-other, sum-append}
+use Rattle.laws.proofs.Sum.{hit-same, hit-at-most-one, hit-equal, sum-append}
 use Rattle.graph.specs.Graph.{Graph, target}
 use Rattle.machine.specs.Run.{Run, run, runFrom, carried}
 use Rattle.machine.specs.Machine.{Setting, State, Entry, Worker, idle, asking, denied, ended, given, busy, Cell, empty, from, Phase, poll, look, claim, phase, worker, markOf, carriedBy}
-use Rattle.machine.specs.Machine.{shares, giver, receiver, answer, dismiss, Claimed, notClaimed, claims, onward, onwardRuns, follows, lookTurn, busyTurn, workerTurn, turn, turns}
+use Rattle.machine.specs.Machine.{shares, answer, dismiss, Claimed, notClaimed, claims, onwardRuns, follows, lookTurn, busyTurn, workerTurn, turn, turns}
 use Rattle.machine.specs.Accepted.{Accepted}
 use Rattle.machine.specs.Sound.{batchOf, holds, waits, Sound}
 use Rattle.machine.specs.Move.{Waiting, Move, still, passed, alone, asked, hands, refuses, follow}
 use Rattle.machine.specs.Events.{owed?}
 use Rattle.machine.specs.Demand2.{outcome}
 use Rattle.machine.specs.Demand3.{entriesOf}
-use Rattle.machine.specs.Waiting.{replyBound, refusalBound, replied?, Asked, Reply, laps, behind, workersOf, Waits}
-use Rattle.machine.proofs.Facts.{there, batch-limit, asker-asking, asker-below, asker-other, busy-below, busy-some}
+use Rattle.machine.specs.Waiting.{replyBound, replied?, Reply, laps, behind, workersOf, Waits}
+use Rattle.machine.proofs.Facts.{batch-limit, asker-below, asker-other, busy-below, busy-some}
 use Rattle.machine.proofs.Runs.{carried-append, carried-from}
 use Rattle.machine.proofs.Move.{move}
 use Rattle.machine.proofs.Kept.{sound-turn}
@@ -75,10 +75,10 @@ pub data Own (g : Setting) (s′ : State) (a b : ℕ) (p : Phase) (rs : List Run
 module _ {G : Graph} {starts : List ℕ} {W : ℕ} {g : Setting} {s : State} (A : Accepted G starts W g) (S : Sound G starts W g s)
     (b : ℕ) {a n : ℕ} {p : Phase} {rs : List Run} (q : worker s b ≡ busy (from a) n p rs) where
   asker-there : a < length (s .workers)
-  asker-there = omega (arith, S .workers-length, asker-below A S b q)
+  asker-there = omega (arith, S .sized .workers-length, asker-below A S b q)
 
   asked-there : b < length (s .workers)
-  asked-there = omega (arith, S .workers-length, busy-below A S b q)
+  asked-there = omega (arith, S .sized .workers-length, busy-below A S b q)
 
   -- b and then the asker change
   asker-set : (y z : Worker) → getD (set (set (s .workers) b y) a z) a ended ≡ z

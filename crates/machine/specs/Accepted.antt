@@ -4,7 +4,7 @@ use mathlib.Core.List.{List}
 use Rattle.laws.specs.Sum.{sum, hit}
 use Rattle.graph.specs.Graph.{Graph, objects}
 use Rattle.graph.specs.Formed.{Formed}
-use Rattle.machine.specs.Limits.{most-workers, most-setting}
+use Rattle.desk.specs.Limits.{most-workers, most-setting}
 use Rattle.machine.specs.Machine.{Setting}
 
 pub record Accepted (G : Graph) (starts : List ℕ) (W : ℕ) (g : Setting) : Type 0 where

@@ -1,17 +1,19 @@
 -- SPECIFICATION 2: the marker's checks in their order (8, 4, 7, 10, 13, 5, 9), its answer, and the lent buffers afterwards.
-use Prim.Native.Nat.{ℕ, zero, suc, _*_}
-use mathlib.Core.Bool.{Bool, true, false, not, _||_}
+use Prim.Native.Nat.{ℕ, zero, suc}
+use mathlib.Core.Bool.{Bool, true, false, not}
 use mathlib.Core.List.{List, [], _∷_}
 use lib.ListN.{length}
-use lib.Dec.{ltb, eqb}
+use lib.Dec.{ltb}
 use Rattle.laws.specs.Choice.{both}
 use Rattle.refusal.specs.Order.{raise, first}
-use Rattle.graph.specs.Graph.{Graph, graph, objects, allBelow, wellFormed}
-use Rattle.graph.specs.Limits.{most-objects, most-references, most-starts}
-use Rattle.machine.specs.Limits.{most-workers, most-setting}
+use Rattle.graph.specs.Graph.{Graph, graph, objects}
+use Rattle.desk.specs.declared.Lengths.{Lengths}
+use Rattle.desk.specs.declared.SavedWords.the-variants.{Absent}
+use Rattle.desk.specs.Checks.{settingFault, countFault, bufferFault, storeFault}
+use Rattle.desk.specs.Kept.{unlessRefused}
 use Rattle.machine.specs.Row.{Row, refusedRow}
-use Rattle.machine.specs.Tally.{tally-words, talliesWords}
-use Rattle.machine.specs.Machine.{Setting, State, result, entries, memory, stretchLength}
+use Rattle.machine.specs.Tally.{talliesWords}
+use Rattle.machine.specs.Machine.{Setting, State, result, entries, memory}
 use Rattle.machine.specs.Demand2.{outcome}
 
 -- what the marker is given, beside the buffers that it writes
@@ -45,35 +47,6 @@ settingOf c = record { batch = c .batch; cutoff = c .cutoff }
 
 -- ---- the checks
 
--- not 1 to the largest
-abbrev pub outside : ℕ → ℕ → Bool
-outside most x = ltb x 1 || ltb most x
-
--- 8: W, D or K outside its range
-abbrev pub settingFault : ℕ → ℕ → ℕ → ℕ
-settingFault W D K = raise (outside most-workers W || outside most-setting D || outside most-setting K) 8 0
-
--- 4: n or m outside its range; offsets of length 0 or 1 give no n of 1 or more
-abbrev pub countFault : List ℕ → List ℕ → ℕ
-countFault offsets targets = raise (ltb (length offsets) 2 || ltb (most-objects) (objects (graph offsets targets)) || ltb most-references (length targets)) 4 0
-
--- 7: not n marks, not W × (2n + 4) work words, or not 4 × W tally words
-abbrev pub bufferFault : ℕ → ℕ → ℕ → ℕ → ℕ → ℕ
-bufferFault n W marks work tallies =
-    raise (not (eqb marks n) || not (eqb work (W * stretchLength n)) || not (eqb tallies (W * tally-words))) 7 0
-
--- 10
-abbrev pub graphFault : Graph → ℕ
-graphFault G = raise (not (wellFormed G)) 10 0
-
--- 13: no start, or more than a collection may have
-abbrev pub startsFault : List ℕ → ℕ
-startsFault starts = raise (outside most-starts (length starts)) 13 0
-
--- 5: a start is no object
-abbrev pub objectFault : ℕ → List ℕ → ℕ
-objectFault n starts = raise (not (allBelow n starts)) 5 0
-
 -- whole entries, each with a worker below W
 unfoldable pub scheduleFits : ℕ → List ℕ → Bool
 scheduleFits W [] = true
@@ -84,16 +57,21 @@ scheduleFits W (b ∷ v ∷ l) = both (ltb b W) (scheduleFits W l)
 abbrev pub scheduleFault : ℕ → List ℕ → ℕ
 scheduleFault W schedule = raise (not (scheduleFits W schedule)) 9 0
 
--- the number of the first fault of a call with so many marks, work words and tally words, or 0
-unfoldable pub fault : Call → ℕ → ℕ → ℕ → ℕ
-fault c marks work tallies =
+-- the number of the first fault of a call whose buffers are so long, or 0
+unfoldable pub firstFault : Call → Lengths → ℕ
+firstFault c l =
     first (settingFault (c .workers) (c .batch) (c .cutoff))
     (first (countFault (c .offsets) (c .targets))
-    (first (bufferFault (objects (graphOf c)) (c .workers) marks work tallies)
-    (first (graphFault (graphOf c))
-    (first (startsFault (c .starts))
-    (first (objectFault (objects (graphOf c)) (c .starts))
-    (scheduleFault (c .workers) (c .schedule)))))))
+    (first (bufferFault (objects (graphOf c)) (c .workers) l)
+    (first (storeFault (c .offsets) (c .targets) (c .starts))
+    (scheduleFault (c .workers) (c .schedule)))))
+
+-- so many marks, work words and tally words, and no saved words
+abbrev pub lengths : ℕ → ℕ → ℕ → Lengths
+lengths marks work tallies = record { marks = marks; work = work; tallies = tallies; saved = Absent }
+
+abbrev pub fault : Call → ℕ → ℕ → ℕ → ℕ
+fault c marks work tallies = firstFault c (lengths marks work tallies)
 
 -- ---- the answer
 
@@ -110,24 +88,14 @@ answerFor (suc k) c = refusedRow (suc k)
 abbrev pub marking : Call → List ℕ → List ℕ → List ℕ → Row
 marking c marks work tallies = answerFor (fault c (length marks) (length work) (length tallies)) c
 
--- the marks, the work words and the tallies afterwards; unchanged beside a refusal
-abbrev pub marksFor : ℕ → Call → List ℕ → List ℕ
-marksFor zero c marks = final c .marks
-marksFor (suc k) c marks = marks
-
+-- the marks, the work words and the tallies afterwards
 abbrev pub marksAfter : Call → List ℕ → List ℕ → List ℕ → List ℕ
-marksAfter c marks work tallies = marksFor (fault c (length marks) (length work) (length tallies)) c marks
-
-abbrev pub workFor : ℕ → Call → List ℕ → List ℕ
-workFor zero c work = memory (objects (graphOf c)) (final c .workers)
-workFor (suc k) c work = work
+marksAfter c marks work tallies = unlessRefused (fault c (length marks) (length work) (length tallies)) (final c .marks) marks
 
 abbrev pub workAfter : Call → List ℕ → List ℕ → List ℕ → List ℕ
-workAfter c marks work tallies = workFor (fault c (length marks) (length work) (length tallies)) c work
-
-abbrev pub talliesFor : ℕ → Call → List ℕ → List ℕ
-talliesFor zero c tallies = talliesWords (final c .tallies)
-talliesFor (suc k) c tallies = tallies
+workAfter c marks work tallies =
+    unlessRefused (fault c (length marks) (length work) (length tallies)) (memory (objects (graphOf c)) (final c .workers)) work
 
 abbrev pub talliesAfter : Call → List ℕ → List ℕ → List ℕ → List ℕ
-talliesAfter c marks work tallies = talliesFor (fault c (length marks) (length work) (length tallies)) c tallies
+talliesAfter c marks work tallies =
+    unlessRefused (fault c (length marks) (length work) (length tallies)) (talliesWords (final c .tallies)) tallies

@@ -6,11 +6,11 @@ use Prim.Native.Nat.{ℕ, _*_}
 use lib.ListN.{replicate}
 use Rattle.graph.specs.Graph.{Graph, objects, rising, allBelow, wellFormed}
 use Rattle.graph.specs.Chain.{marksAt}
+use Rattle.desk.specs.Lengths.{stretchLength, tally-words}
 use Rattle.machine.specs.Run.{carried, keep, rest}
-use Rattle.machine.specs.Machine.{turns, trail, start, startRuns, entries, allEnded, live, stretchLength}
-use Rattle.machine.specs.Tally.{tally-words}
+use Rattle.machine.specs.Machine.{turns, trail, start, startRuns, entries, allEnded, live}
 use Rattle.machine.specs.Row.{Row, refusedRow}
-use Rattle.machine.specs.Call.{Call, graphOf, settingOf, fault, scheduleFits, final, marking}
+use Rattle.machine.specs.Call.{Call, graphOf, settingOf, fault, firstFault, scheduleFits, final, marking}
 use Rattle.machine.specs.Owners.{Win, claimsWon, claimsWonOf}
 
 -- a call, and the row that it must give
@@ -75,7 +75,7 @@ pub checks-in-order :
     ∷ fault (faulty (0 ∷ 0 ∷ []) [] (0 ∷ 9 ∷ []) 1 (7 ∷ [])) 1 6 4
     ∷ []
     ≡ 8 ∷ 4 ∷ 7 ∷ 10 ∷ 13 ∷ 5 ∷ []
-unfolding fault rising allBelow wellFormed scheduleFits
+unfolding firstFault rising allBelow wellFormed scheduleFits
 checks-in-order = refl
 
 -- A to J, and L
@@ -101,7 +101,7 @@ ones k = replicate k 1
 
 -- what the definitions give for a drawing's call, with buffers of the right lengths
 unfoldable pub drawn : Drawing → Row
-unfolding fault
+unfolding firstFault
 drawn d =
     marking (d .call)
     (ones (objects (graphOf (d .call))))

@@ -1,11 +1,12 @@
 pub mod Accepted
 pub mod Call
+pub mod Checked
 pub mod Demand2
 pub mod Demand3
 pub mod Drawings
 pub mod Events
+pub mod Finishing
 pub mod Lamp
-pub mod Limits
 pub mod Machine
 pub mod Move
 pub mod Owners

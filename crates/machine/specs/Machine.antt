@@ -1,5 +1,5 @@
 -- SPECIFICATION 4, rule by rule: state, start, turns, sharing, work memory and result. A worker is the drawing's box.
-use Prim.Native.Nat.{ℕ, zero, suc, _+_, _-_, _*_, min}
+use Prim.Native.Nat.{ℕ, zero, suc, _+_, _-_, min}
 use mathlib.Core.Bool.{Bool, true, false}
 use mathlib.Core.List.{List, [], _∷_, _++_}
 use lib.ListN.{length, getD, set, replicate}
@@ -9,6 +9,7 @@ use Rattle.laws.specs.Choice.{both, either}
 use Rattle.laws.specs.Sum.{sum}
 use Rattle.graph.specs.Graph.{Graph, objects, target}
 use Rattle.graph.specs.Chain.{set?, marksAt}
+use Rattle.desk.specs.Lengths.{stretchLength}
 use Rattle.machine.specs.declared.Counts.{Counts}
 use Rattle.machine.specs.Row.{Row, freshCounts, countMove, countFollow}
 use Rattle.machine.specs.Ring.{Colour, white, black, Ring, colourOf, freshRing, blackened, passedOn}
@@ -393,10 +394,6 @@ allEnded (busy c n p rs ∷ ws) = false
 -- whether all have ended, and the counts
 abbrev pub result : State → Row
 result s = record { number = 0; finished = allEnded (s .workers); counts = s .counts }
-
--- how many words one worker's stretch of the work memory has
-abbrev pub stretchLength : ℕ → ℕ
-stretchLength n = 2 * n + 4
 
 -- one worker's stretch: its runs' pairs, then zeros
 unfoldable pub stretch : ℕ → Worker → List ℕ

@@ -43,10 +43,6 @@ countFollow c live⁺ refused⁺ emptied =
       carrying = c .carrying - emptied;
     }
 
--- how many counts there are
-abbrev pub counts-number : ℕ
-counts-number = 6
-
 -- the counts as words, in their order
 abbrev pub countWords : Counts → List ℕ
 countWords c = c .live ∷ c .followed ∷ c .handed ∷ c .refused ∷ c .moved ∷ c .carrying ∷ []

@@ -11,7 +11,7 @@ use Rattle.machine.specs.Run.{run, carried, keep, rest, pairs}
 use Rattle.machine.specs.Machine.{Worker, idle, asking, denied, given, busy, poll, look, claim, empty, from, turns, worker, runsOf, start, startRuns, entries, allEnded, live, stretch, memory}
 use Rattle.machine.specs.declared.frontier.Held.the-variants.{Front, Back, Middle}
 use Rattle.machine.specs.Split.{held, heldHalf}
-use Rattle.machine.specs.Call.{fault, scheduleFits, final, marksAfter, workAfter}
+use Rattle.machine.specs.Call.{firstFault, scheduleFits, final, marksAfter, workAfter}
 use Rattle.machine.specs.Drawings.{Drawing, itself, naming0, gives, drawing, ones, drawn}
 
 -- a drawing, and the workers after its last turn
@@ -116,7 +116,7 @@ held-cut = refl
 -- the marks and the work words of these unfinished collections, in buffers that held ones: of each worker the run to be
 -- followed last stands first, a cut run among them, and zeros behind
 pub marks-cut : map (λ (G : Graph). marksAfter (cut G .call) (ones 5) (ones 28) (ones 8)) cutFans ≡ replicate 4 (1 ∷ 1 ∷ 1 ∷ 1 ∷ 0 ∷ [])
-unfolding cut fault turns start entries live startRuns carried marksAt keep rest rising allBelow wellFormed scheduleFits
+unfolding cut firstFault turns start entries live startRuns carried marksAt keep rest rising allBelow wellFormed scheduleFits
 marks-cut = refl
 
 pub work-cut :
@@ -126,5 +126,5 @@ pub work-cut :
     ∷ ((5 ∷ 7 ∷ 9 ∷ 11 ∷ replicate 10 0) ++ (3 ∷ 5 ∷ 7 ∷ 9 ∷ replicate 10 0))
     ∷ ((7 ∷ 9 ∷ 9 ∷ 11 ∷ replicate 10 0) ++ (3 ∷ 7 ∷ replicate 12 0))
     ∷ []
-unfolding cut fault turns start entries live startRuns carried marksAt keep rest rising allBelow wellFormed scheduleFits memory stretch laid pairs
+unfolding cut firstFault turns start entries live startRuns carried marksAt keep rest rising allBelow wellFormed scheduleFits memory stretch laid pairs
 work-cut = refl

@@ -11,7 +11,7 @@ use Rattle.laws.specs.Span.{span}
 use Rattle.graph.specs.Graph.{Graph, Leaves, objects, references, first, after, target}
 use Rattle.graph.specs.Chain.{Reach, set?, overMarked}
 use Rattle.graph.specs.Leaving.{leavingSum, leavingUnmarked}
-use Rattle.machine.specs.Run.{Run, run, size, carried}
+use Rattle.machine.specs.Run.{Run, run, size}
 use Rattle.machine.specs.Machine.{Setting, State, Worker, idle, asking, denied, ended, given, busy, Cell, empty, from, Phase, poll, look, claim}
 use Rattle.machine.specs.Tally.{Tally, noTally}
 use Rattle.machine.specs.Machine.{worker, runsOf, carriedBy, carries?, stopped, carriedAll, live}
@@ -26,6 +26,10 @@ Marked ms v = 0 < getD ms v 0
 -- where a run begins
 abbrev pub startOf : Run → ℕ
 startOf (run f k) = f
+
+-- the run lies among the targets
+abbrev pub InTargets : Graph → Run → Type 0
+InTargets G r = startOf r + size r ≤ references G
 
 -- the run's references all leave one marked object
 pub record Within (G : Graph) (ms : List ℕ) (r : Run) : Type 0 where
@@ -53,34 +57,28 @@ abbrev pub WholeInside : Graph → List Run → Type 0
 WholeInside G [] = Unit {0}
 WholeInside G (r ∷ rs) = WholeButLast G rs
 
--- the runs of a worker that has some. There is at most one more than there are marked objects: only the first and the
--- last can be parts of one object's references.
-pub record Carries (G : Graph) (ms : List ℕ) (rs : List Run) : Type 0 where
-  pub some : 0 < length rs
-  pub room : length rs ≤ suc (live ms)
-  pub within : Every (Within G ms) rs
-  pub whole-inside : WholeInside G rs
-
--- the batch of a phase
+-- the batch of a phase, and of a worker; one that is not busy has none
 abbrev pub batchOf : Phase → ℕ
 batchOf poll = 0
 batchOf (look k) = suc k
 batchOf (claim k) = suc k
 
--- a busy worker: batch is at most D, and at most what it carries
-pub record Working (G : Graph) (g : Setting) (ms : List ℕ) (p : Phase) (rs : List Run) : Type 0 where
-  pub carries : Carries G ms rs
-  pub batch-limit : batchOf p ≤ g .batch
-  pub batch-carried : batchOf p ≤ carried rs
+abbrev pub batchIn : Worker → ℕ
+batchIn idle = 0
+batchIn asking = 0
+batchIn denied = 0
+batchIn ended = 0
+batchIn (given rs) = 0
+batchIn (busy c n p rs) = batchOf p
 
--- a worker carries references exactly when busy or owed a hand-over
-abbrev pub WorkerSound : Graph → Setting → List ℕ → Worker → Type 0
-WorkerSound G g ms idle = Unit {0}
-WorkerSound G g ms asking = Unit {0}
-WorkerSound G g ms denied = Unit {0}
-WorkerSound G g ms ended = Unit {0}
-WorkerSound G g ms (given rs) = Carries G ms rs
-WorkerSound G g ms (busy c n p rs) = Working G g ms p rs
+-- a worker that is busy or owed a hand-over has runs; the others have none, by what a worker is
+abbrev pub Supplied : Worker → Type 0
+Supplied idle = Unit {0}
+Supplied asking = Unit {0}
+Supplied denied = Unit {0}
+Supplied ended = Unit {0}
+Supplied (given rs) = 0 < length rs
+Supplied (busy c n p rs) = 0 < length rs
 
 -- ---- what is summed over the workers
 
@@ -152,50 +150,66 @@ distinctStarts G starts = span (λ (v : ℕ). set? (sum (hit v) starts)) 0 (obje
 abbrev pub carriedTimes : State → ℕ → ℕ
 carriedTimes s e = sum (heldSum (hit e)) (s .workers)
 
--- What the words of a collection can show, whoever wrote them. A turn keeps it (`sound-turn`); with it, a finished
--- collection has marked every reachable object (`all-marked`).
-pub record Sound (G : Graph) (starts : List ℕ) (W : ℕ) (g : Setting) (s : State) : Type 0 where
-  pub marks-length : length (s .marks) ≡ objects G
+-- a mark for each of n objects; a since, a colour and a tally for each of W workers
+pub record Sized (n W : ℕ) (s : State) : Type 0 where
+  pub marks-length : length (s .marks) ≡ n
   pub workers-length : length (s .workers) ≡ W
-  -- marks are 0 to W
-  pub marks-limit : (v : ℕ) → getD (s .marks) v 0 ≤ W
-  pub starts-marked : (v : ℕ) → 0 < sum (hit v) starts → Marked (s .marks) v
-  -- live is the number of marks set
-  pub live-is : s .counts .live ≡ live (s .marks)
-  -- carrying is the number of workers that carry references
-  pub carrying-is : s .counts .carrying ≡ sum carries? (s .workers)
-  -- each worker's runs and batch; it carries references exactly when busy or owed a hand-over
-  pub each-worker : (b : ℕ) → WorkerSound G g (s .marks) (worker s b)
-  -- no reference is carried twice
-  pub carried-once : (e : ℕ) → carriedTimes s e ≤ 1
-  -- followed, carried and what leaves unmarked objects make m
-  pub total : s .counts .followed + carriedAll s + leavingUnmarked G (s .marks) ≡ references G
-  -- a marked object's reference that nobody carries has a marked target
-  pub targets-marked : (e v : ℕ) → Leaves G e v → Marked (s .marks) v → carriedTimes s e ≡ 0 → Marked (s .marks) (target G e)
-  -- an asker without a reply is in the cell of exactly one busy worker, and no one else is in a cell
-  pub cells : (a : ℕ) → sum (holds a) (s .workers) ≡ waits (worker s a)
-  -- no worker has ended while references are carried
-  pub stopped-empty : 0 < sum stopped (s .workers) → carriedAll s ≡ 0
-  -- each worker has a colour, and one of them holds the token
-  pub colours-length : length (s .ring .colours) ≡ W
-  pub holder-below : s .ring .holder < W
-  -- every worker above the holder carries nothing, unless the token, the holder or a lower one is black
-  pub above-holder : blackBelow (s .ring) ≡ 0 → (b : ℕ) → s .ring .holder < b → carriedBy (worker s b) ≡ 0
-  -- none has ended before worker 0, which then holds the token
-  pub first-ended : 0 < sum stopped (s .workers) → (stopped (worker s 0) ≡ 1) × (s .ring .holder ≡ 0)
-  -- a since for each worker; one that carries has it beside its batch
   pub rested-length : length (s .rested) ≡ W
-  pub rested-carrying : (b : ℕ) → 0 < carriedBy (worker s b) → getD (s .rested) b 0 ≡ 0
-  -- the sinces sum to at most followed
-  pub since-followed : sum sinceOf (s .workers) + sum itself (s .rested) ≤ s .counts .followed
-  pub refused-moved : s .counts .refused ≤ s .counts .moved
-  -- a tally for each worker; their sums are the counts, and the claims won and the starts are what is marked
+  pub colours-length : length (s .ring .colours) ≡ W
   pub tallies-length : length (s .tallies) ≡ W
+
+-- What the words of a collection can show, whoever wrote them: the conditions of SPECIFICATION 8.2 in their order, by their
+-- numbers. Only 20 and 21 are not here: a turn keeps them in a collection begun afresh, by `Fresh`, and else need not. A turn
+-- keeps a state sound (`sound-turn`), and a sound collection that is finished has marked every reachable object (`all-marked`).
+pub record Sound (G : Graph) (starts : List ℕ) (W : ℕ) (g : Setting) (s : State) : Type 0 where
+  pub sized : Sized (objects G) W s
+  -- 1. Each mark is 0 to W.
+  pub marks-limit : (v : ℕ) → getD (s .marks) v 0 ≤ W
+  -- 2. Each start is marked.
+  pub starts-marked : (v : ℕ) → 0 < sum (hit v) starts → Marked (s .marks) v
+  -- 3. live is the number of marked objects.
+  pub live-is : s .counts .live ≡ live (s .marks)
+  -- 4. carrying is the number of workers that carry references.
+  pub carrying-is : s .counts .carrying ≡ sum carries? (s .workers)
+  -- 5 to 7. Each run, which is never empty, lies among the references of one object, and that one is marked.
+  pub runs-within : (b : ℕ) → Every (Within G (s .marks)) (runsOf (worker s b))
+  -- 8. A run that is neither the first nor the last of its worker is whole.
+  pub runs-whole : (b : ℕ) → WholeInside G (runsOf (worker s b))
+  -- 9. No reference is carried twice.
+  pub carried-once : (e : ℕ) → carriedTimes s e ≤ 1
+  -- 10. followed, the references carried and those that leave unmarked objects add up to m.
+  pub total : s .counts .followed + carriedAll s + leavingUnmarked G (s .marks) ≡ references G
+  -- 11. A reference of a marked object that nobody carries has a marked target.
+  pub targets-marked : (e v : ℕ) → Leaves G e v → Marked (s .marks) v → carriedTimes s e ≡ 0 → Marked (s .marks) (target G e)
+  -- 12. A worker carries references exactly if it is busy or owed a hand-over.
+  pub supplied : (b : ℕ) → Supplied (worker s b)
+  -- 13 to 15. A worker that asks and has no reply is in one cell, of a busy worker, and nobody else is in a cell. Only one that
+  -- asks has a reply, by what a worker is.
+  pub cells : (a : ℕ) → sum (holds a) (s .workers) ≡ waits (worker s a)
+  -- 16. A batch is at most D.
+  pub batch-limit : (b : ℕ) → batchIn (worker s b) ≤ g .batch
+  -- 17 and 18. A batch is at most what its worker carries. Only one above 0 is about to claim, by what a phase is.
+  pub batch-carried : (b : ℕ) → batchIn (worker s b) ≤ carriedBy (worker s b)
+  -- 19. No worker has ended while references are carried.
+  pub stopped-empty : 0 < sum stopped (s .workers) → carriedAll s ≡ 0
+  -- 22. The sinces of all workers together are at most followed. A busy worker has its since beside its batch, and one that is
+  -- owed a hand-over has 0.
+  pub since-followed : sum sinceOf (s .workers) + sum itself (s .rested) ≤ s .counts .followed
+  pub rested-carrying : (b : ℕ) → 0 < carriedBy (worker s b) → getD (s .rested) b 0 ≡ 0
+  -- 23. refused is at most moved.
+  pub refused-moved : s .counts .refused ≤ s .counts .moved
+  -- 24. The tallies' followed add up to followed, their handed to handed, and their won and the different starts to live.
   pub tallies-followed : followedSum s ≡ s .counts .followed
   pub tallies-handed : handedSum s ≡ s .counts .handed
   pub tallies-won : wonSum s + distinctStarts G starts ≡ s .counts .live
-  -- a claim is followed, whether it is won or lost
+  -- 25. No worker has won and lost more than it followed.
   pub tallies-claims : (b : ℕ) → tallyOf s b .won + tallyOf s b .lost ≤ tallyOf s b .followed
+  -- 26. The token is at exactly one worker.
+  pub holder-below : s .ring .holder < W
+  -- 27. Every worker above the holder carries nothing, unless the token, the holder or a worker below it is black.
+  pub above-holder : blackBelow (s .ring) ≡ 0 → (b : ℕ) → s .ring .holder < b → carriedBy (worker s b) ≡ 0
+  -- 28. If a worker has ended, worker 0 has, and holds the token.
+  pub first-ended : 0 < sum stopped (s .workers) → (stopped (worker s 0) ≡ 1) × (s .ring .holder ≡ 0)
 
 -- ---- a collection begun afresh
 

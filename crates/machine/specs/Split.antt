@@ -5,7 +5,6 @@ use mathlib.Core.Path.{_≡_, refl}
 use mathlib.Core.List.{List, [], _∷_, map}
 use lib.Dec.{leb, ltb}
 use Rattle.laws.specs.Choice.{pick}
-use Rattle.laws.specs.Sum.{sum}
 use Rattle.machine.specs.declared.frontier.Held.{Held}
 use Rattle.machine.specs.declared.frontier.Held.the-variants.{Front, Back, Middle}
 use Rattle.machine.specs.Run.{Run, run, size, carried, half}

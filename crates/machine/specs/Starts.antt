@@ -8,7 +8,7 @@ use Rattle.graph.specs.Graph.{rising, allBelow, wellFormed}
 use Rattle.graph.specs.Chain.{marksAt, leavingReached}
 use Rattle.machine.specs.Run.{run, carried, keep, rest}
 use Rattle.machine.specs.Machine.{idle, ended, busy, poll, empty, turns, start, startRuns, entries, allEnded, live}
-use Rattle.machine.specs.Call.{fault, scheduleFits, final}
+use Rattle.machine.specs.Call.{fault, firstFault, scheduleFits, final}
 use Rattle.machine.specs.Drawings.{S, naming0, gives, drawingFrom, faulty, drawn, drawnTrail}
 use Rattle.machine.specs.Rules.{Rule, rule}
 
@@ -74,11 +74,11 @@ leased-leaving = refl
 -- the edges of 13: 1 and 257 starts are taken, none and 258 are not
 pub start-counts :
     map (λ (k : ℕ). fault (faulty (0 ∷ 0 ∷ []) [] (replicate k 0) 1 []) 1 6 4) (0 ∷ 1 ∷ 257 ∷ 258 ∷ []) ≡ 13 ∷ 0 ∷ 0 ∷ 13 ∷ []
-unfolding fault rising allBelow wellFormed scheduleFits
+unfolding firstFault rising allBelow wellFormed scheduleFits
 start-counts = refl
 
 -- 5 looks at every start: n - 1 is taken, n is not
 pub start-objects :
     map (λ (v : ℕ). fault (faulty (0 ∷ 0 ∷ 0 ∷ []) [] (0 ∷ v ∷ []) 1 []) 2 8 4) (0 ∷ 1 ∷ 2 ∷ []) ≡ 0 ∷ 0 ∷ 5 ∷ []
-unfolding fault rising allBelow wellFormed scheduleFits
+unfolding firstFault rising allBelow wellFormed scheduleFits
 start-objects = refl

@@ -17,7 +17,6 @@ use Rattle.machine.specs.Machine.{worker, markOf, live, startRuns, start
 use Rattle.machine.specs.Sound.{distinctStarts}
 use Rattle.machine.specs.Events.{owed?, replies}
 use Rattle.machine.specs.Owners.{claimTells, Win, claimsWonOf}
-use Rattle.machine.specs.Demand2.{outcome}
 use Rattle.machine.specs.Call.{final}
 use Rattle.machine.specs.Drawings.{Drawing, S, turnsA, naming0, gives, drawing, drawingFrom}
 

@@ -25,10 +25,6 @@ addTally x y = tally (x .followed + y .followed) (x .won + y .won) (x .lost + y 
 abbrev pub tallied : List Tally → ℕ → Tally → List Tally
 tallied ts b y = set ts b (addTally (getD ts b noTally) y)
 
--- how many words a tally has
-abbrev pub tally-words : ℕ
-tally-words = 4
-
 abbrev pub tallyWords : Tally → List ℕ
 tallyWords t = t .followed ∷ t .won ∷ t .lost ∷ t .handed ∷ []
 

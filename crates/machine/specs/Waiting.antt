@@ -9,7 +9,7 @@ use Rattle.laws.specs.Span.{listing}
 use Rattle.graph.specs.Graph.{Graph}
 use Rattle.graph.specs.Chain.{marksAt}
 use Rattle.machine.specs.Run.{carried, keep, rest}
-use Rattle.machine.specs.Machine.{Setting, State, Entry, Worker, worker, carriedBy, live, startRuns, start, turn, turns, entries}
+use Rattle.machine.specs.Machine.{Setting, State, Entry, Worker, worker, carriedBy, live, startRuns, start, turns, entries}
 use Rattle.machine.specs.Sound.{holds, waits}
 use Rattle.machine.specs.Events.{owed?, refused?}
 use Rattle.machine.specs.Demand3.{entriesOf}

@@ -1,18 +1,11 @@
 // The turn machine: definitions in specs/, what is proved of them in proofs/. The code is what a
-// result is made of, and the limits of a setting.
+// result is made of.
 pub mod frontier;
 
 ghost use mathlib.Core.Path.{_≡_};
 ghost use lib.ListN.{length};
-ghost use Rattle.machine.specs.Row.{counts-number, countWords};
-
-// The most workers, and the largest batch and cutoff.
-pub const MOST_WORKERS: u32 = 16;
-
-pub const MOST_SETTING: u32 = 65535;
-
-// The words of a worker's tally: followed, won, lost and handed.
-pub const TALLY: usize = 4;
+ghost use Rattle.desk.specs.Lengths.{counts-number};
+ghost use Rattle.machine.specs.Row.{countWords};
 
 // The counts of a collection: marks set, references followed, polls that shared, asks refused, turns
 // that changed something, and workers that carry references now.
@@ -24,9 +17,6 @@ pub struct Counts {
     pub moved: u64,
     pub carrying: u64,
 }
-
-// How many counts there are.
-pub const COUNTS: usize = 6;
 
 // The counts as words, in the struct's order.
 pub fn put_counts(c: Counts, words: &mut [u64])

@@ -2,19 +2,18 @@
 use mathlib.Core.Path.{_≡_, refl, sym, ap, _∙_}
 use mathlib.Core.Logic.{_≢_}
 use mathlib.Core.List.{List, [], _∷_}
-use Prim.Native.Nat.{ℕ, zero, suc, _+_, _-_, _*_, _≤_, _<_}
+use Prim.Native.Nat.{ℕ, zero, suc, _+_, _-_, _*_, _<_}
 use native.Mathlib.Omega.{arith}
 use lib.ListN.{length, getD, replicate, getD-replicate, length-replicate}
 use Rattle.laws.specs.Sum.{sum}
 use Rattle.laws.specs.Every.{Every}
 use Rattle.laws.proofs.Sum.{sum-none}
-use Rattle.graph.specs.Graph.{Graph, graph, objects}
-use Rattle.graph.specs.Chain.{marksAt}
+use Rattle.graph.specs.Graph.{Graph, graph}
 use Rattle.machine.specs.Row.{freshCounts}
-use Rattle.machine.specs.declared.Counts.{Counts}
 use Rattle.machine.specs.Run.{Run, run, carried}
 use Rattle.machine.specs.Machine.{State, Worker, idle, ended, busy, empty, poll, carries?, live, withRuns, start}
-use Rattle.machine.proofs.Facts.{InTargets, set-some}
+use Rattle.machine.specs.Sound.{InTargets}
+use Rattle.machine.proofs.Marks.{set-some}
 use Rattle.machine.proofs.Runs.{length-carried, carried-length}
 use Rattle.machine.proofs.Start.{none-marked, start-inside}
 use Rattle.worker.specs.declared.registers.Block.{Block}
@@ -25,7 +24,6 @@ use Rattle.worker.proofs.Blocks.{store-stored}
 use Rattle.laws.proofs.Blocks.{laid-replicate}
 use Rattle.machine.specs.Tally.{Tally, noTally, tallyWords, talliesWords}
 use Rattle.turns.specs.declared.Setup.{Setup}
-use Rattle.turns.specs.declared.Progress.{Progress}
 use Rattle.machine.specs.Ring.{freshRing}
 use Rattle.turns.proofs.Ringing.{fresh-words}
 use Rattle.turns.specs.Counting.{running?, countsOf, freshProgress}

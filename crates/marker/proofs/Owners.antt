@@ -1,6 +1,6 @@
 -- Two calls of the marker that report finished, on one graph with the same starts: the sets of nonzero marks are equal. It follows from
 -- what each call promises of itself.
-use mathlib.Core.Path.{_≡_, _∙_}
+use mathlib.Core.Path.{_≡_}
 use mathlib.Core.Bool.{true}
 use mathlib.Core.List.{List}
 use mathlib.Core.Logic.{_↔_}

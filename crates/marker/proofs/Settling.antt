@@ -9,9 +9,10 @@ use native.Mathlib.Omega.{arith}
 use lib.ListN.{length, getD, take, drop, replicate, length-append, length-replicate}
 use Rattle.laws.proofs.Blocks.{laid-parts}
 use Rattle.graph.specs.Graph.{Graph, objects}
+use Rattle.desk.specs.Lengths.{stretchLength}
 use Rattle.machine.specs.Run.{Run, run, pairs}
 use Rattle.machine.specs.Machine as machine
-use Rattle.machine.specs.Machine.{Worker, idle, asking, denied, ended, given, busy, poll, look, claim, runsOf, stretch, stretchLength}
+use Rattle.machine.specs.Machine.{Worker, idle, asking, denied, ended, given, busy, poll, look, claim, runsOf, stretch}
 use Rattle.worker.specs.declared.registers.Block.{Block}
 use Rattle.worker.specs.declared.stretch.Top.{Top}
 use Rattle.worker.specs.Registers.{Room, blockAt}

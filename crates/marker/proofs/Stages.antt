@@ -8,38 +8,91 @@ use lib.ListN.{length, replicate, take, drop, length-append, length-drop}
 use lib.Dec.{eqb}
 use lib.Seq.{length-take-le, take-at}
 use Rattle.refusal.specs.declared.Refusal.{Refusal}
+use Rattle.refusal.specs.declared.Verdict.{Verdict}
+use Rattle.refusal.specs.declared.Verdict.the-variants.{Fine, Faulty}
 use Rattle.refusal.specs.Number.{number, numberOf}
 use Rattle.refusal.proofs.Numbers.{numbered}
-use Rattle.machine.specs.Machine.{start, entries, allEnded}
+use Rattle.graph.specs.Graph.{Graph, objects}
+use Rattle.desk.specs.declared.Lengths.{Lengths}
+use Rattle.desk.specs.declared.SavedWords.{SavedWords}
+use Rattle.desk.specs.Limits.{most-workers}
+use Rattle.desk.specs.Lengths.{stretchLength}
+use Rattle.desk.specs.Kept.{unlessRefused}
+use Rattle.machine.specs.Machine as machine
+use Rattle.machine.specs.Machine.{State, start, entries, allEnded, result}
+use Rattle.machine.specs.Tally.{talliesWords}
 use Rattle.machine.specs.Row.{refusedRow}
 use Rattle.machine.specs.Sound.{Sound}
-use Rattle.machine.specs.Call.{Call, graphOf, settingOf, fault, final, answerFor, marksFor, workFor, talliesFor}
-use Rattle.machine.proofs.Accept.{Checked, checked}
+use Rattle.machine.specs.Call.{Call, graphOf, fault, final, lengths, answerFor}
+use Rattle.machine.specs.Checked.{Checked}
+use Rattle.machine.proofs.Accept.{checked}
 use Rattle.machine.proofs.Facts.{runs-room}
-use Rattle.machine.proofs.Start.{sound-start, sound}
+use Rattle.machine.proofs.Start.{sound-start, sound-turns}
 use Rattle.machine.proofs.Demand2.{demand2}
 use Rattle.machine.proofs.Demand3.{demand3}
 use Rattle.machine.proofs.Lamp.{lamp}
 use Rattle.machine.proofs.Owners.{owners}
 use Rattle.machine.proofs.Tallies as tallies-proved
+use Rattle.worker.specs.Registers.{block-words, register-words}
 use Rattle.turns.specs.declared.Setup.{Setup}
 use Rattle.turns.specs.declared.Progress.{Progress}
 use Rattle.turns.specs.Counting.{Countable}
-use Rattle.turns.specs.Held.{memory, stretchAt, Holds}
-use Rattle.turns.proofs.Counting.{countable}
+use Rattle.turns.specs.Held.{Memory, memory, settingOf, stretchAt}
 use Rattle.turns.specs.Turned.{Ready}
+use Rattle.turns.proofs.Counting.{countable}
 use Rattle.marker.specs.declared.Marked.{Marked}
 use Rattle.marker.specs.declared.Marked.the-variants.{Refused}
-use Rattle.refusal.specs.declared.Verdict.{Verdict}
-use Rattle.refusal.specs.declared.Verdict.the-variants.{Fine, Faulty}
 use Rattle.marker.specs.Answer.{row, Finds, Answered}
-use Rattle.marker.specs.Stages.{IsScheduled, DoesAll, Settling, Settled, rowOf, callWith, setupOf, Faultless, Collectable, Collected}
+use Rattle.marker.specs.Stages.{IsScheduled, scheduled, DoesAll, Settling, Settled, setupOf, Runnable, Leaves, Runs, rowOf}
 use Rattle.marker.specs.Starting.{Startable, Started}
 use Rattle.marker.proofs.Loop.{all-ended, handed-fits, entries-few}
 
--- what the checks establish
-facts : {c : Call} {marks work tallies : List ℕ} → Faultless c marks work tallies → Checked c (length marks) (length work) (length tallies)
-facts {c} {marks} {work} {tallies} x = checked c (length marks) (length work) (length tallies) (x .none)
+-- ---- after the turns, from any state
+
+module _ {g : Setup} {offsets targets schedule : List ℕ} {μ : Memory} (R : Ready (IsScheduled g offsets targets schedule) g μ) where
+  abbrev s : State
+  s = scheduled g schedule (R .graph) (R .state)
+
+  sound-after : Sound (R .graph) (R .scene .starts) (g .workers) (settingOf g) s
+  sound-after = sound-turns (R .scene .accepted) (R .scene .sound) (entries schedule)
+
+  module _ {marks work tallies regs : List ℕ} {p : Progress}
+      (t : DoesAll (IsScheduled g offsets targets schedule) g schedule μ (memory marks work tallies regs p)) where
+    pub settle-ready : Settling (g .workers) (g .stretch) work regs
+    settle-ready =
+        record {
+          graph = R .graph;
+          workers = s .workers;
+          count = sound-after .sized .workers-length;
+          few = R .scene .accepted .workers-limit;
+          objects-limit = R .scene .objects-limit;
+          stretch-is = R .scene .stretch-is;
+          regs-long = t R .regs-long;
+          work-long = t R .work-long;
+          each = t R .each;
+          room = runs-room (R .scene .accepted) sound-after;
+        }
+
+    -- the stretches are written out
+    pub leaves : {work′ : List ℕ} → Settled (g .workers) (g .stretch) work regs work′ → Leaves (R .graph) g s (memory marks work′ tallies regs p)
+    unfolding settle-ready
+    leaves d =
+        record {
+          unsettled = work;
+          held = t R;
+          work-is = d settle-ready;
+          countable = countable (R .scene .accepted) sound-after (R .scene .objects-limit) (R .scene .references-limit) (handed-fits R) (t R);
+          counted = refl;
+        }
+
+-- the answer is the state's
+pub row-left : {G : Graph} {g : Setup} {s : State} {μ : Memory} → Leaves G g s μ → (r : Marked)
+    → ((x : Countable (μ .tallies) (g .workers) (μ .progress)) → row r ≡ rowOf (μ .progress) (x .tallies)) → row r ≡ result s
+row-left {s = s} {μ} l r e =
+    let f : eqb (μ .progress .running) 0 ≡ allEnded (s .workers) = ap (λ (k : ℕ). eqb k 0) (l .held .running-is) ∙ all-ended (s .workers) in
+    e (l .countable) ∙ rw (l .counted, f, l .held .counts-are) refl
+
+-- ---- a call without a fault, from the start
 
 -- the first stretch of the work memory, of L words, and the memory with it written anew
 abbrev pub firstPart : ℕ → List ℕ → List ℕ
@@ -59,110 +112,59 @@ module _ (L : ℕ) (work : List ℕ) (room : L ≤ length work) where
     pub front-here : stretchAt L 0 (firstAnew L work s) ≡ s
     front-here = let e : 0 * L ≡ 0 = omega arith in rw e (take-at s (drop (L - 0) work) L (long ∙ front-part))
 
-module _ {offsets targets starts : List ℕ} {g : Setup} {schedule marks work tallies regs : List ℕ}
-    (x : Collectable (callWith offsets targets starts g schedule) g marks work tallies regs) where
-  abbrev pub call : Call
-  call = callWith offsets targets starts g schedule
+module _ {c : Call} {marks work tallies regs : List ℕ} (x : Runnable c marks work tallies regs) where
+  module _ {g : Setup} (is : g ≡ setupOf c) where
+    -- worker 0's stretch
+    pub first-stretch : g .stretch ≤ length work
+    first-stretch =
+        rw is (omega (arith, x .passed .work-exact, mul-le-mul-right (stretchLength (objects (graphOf c))) (x .passed .accepted .some-worker)))
 
-  pub known : Checked call (length marks) (length work) (length tallies)
-  known = facts (x .faultless)
-
-  sound-final : Sound (graphOf call) (call .starts) (g .workers) (settingOf call) (final call)
-  sound-final = sound (known .accepted) (entries schedule)
-
-  pub work-long : length work ≡ g .workers * g .stretch
-  work-long = known .work-exact ∙ ap (λ (L : ℕ). g .workers * L) (sym (x .stretch-is))
-
-  -- worker 0's stretch
-  pub first-stretch : g .stretch ≤ length work
-  first-stretch = omega (arith, work-long, mul-le-mul-right (g .stretch) (known .accepted .some-worker))
-
-  pub start-ready : Startable offsets targets starts g marks (firstPart (g .stretch) work) regs
-  start-ready =
-      record {
-        accepted = known .accepted;
-        objects-limit = known .objects-limit;
-        references-limit = known .references-limit;
-        marks-long = known .marks-exact;
-        long = front-part (g .stretch) work first-stretch ∙ x .stretch-is;
-        regs-are = x .regs-are;
-      }
-
-  -- after the start, with the tallies cleared
-  module _ {marks₁ s₁ tallies₁ regs₁ : List ℕ} {p₁ : Progress} (d : Started offsets targets starts g marks₁ s₁ regs₁ p₁)
-      (l₁ : length s₁ ≡ length (firstPart (g .stretch) work)) (z₁ : tallies₁ ≡ replicate (length tallies) 0) (short : length schedule < 2 ^ 64) where
-    abbrev pub work₁ : List ℕ
-    work₁ = firstAnew (g .stretch) work s₁
-
-    unfoldable pub turns-ready : Ready (IsScheduled g offsets targets schedule) g (memory marks₁ work₁ tallies₁ regs₁ p₁)
-    unfolding start
-    turns-ready =
+    pub start-ready : Startable (c .offsets) (c .targets) (c .starts) g marks (firstPart (g .stretch) work) regs
+    start-ready =
         record {
-          graph = graphOf call;
-          state = start (graphOf call) (call .starts) (g .workers);
-          scene =
-              record {
-                starts = call .starts;
-                accepted = known .accepted;
-                sound = sound-start (known .accepted);
-                objects-limit = known .objects-limit;
-                references-limit = known .references-limit;
-                stretch-is = x .stretch-is;
-                handed-room = omega arith;
-                moved-room = omega arith;
-              };
-          holds =
-              d work₁ tallies₁ (front-long (g .stretch) work first-stretch s₁ l₁ ∙ work-long) (front-here (g .stretch) work first-stretch s₁ l₁)
-              (z₁ ∙ ap (λ (k : ℕ). replicate {A = ℕ} k 0) (known .tallies-exact));
-          here =
-              record {
-                graph-is = refl;
-                fits = known .schedule-fits;
-                handed-room = omega (arith, entries-few schedule, short);
-                moved-room = omega (arith, entries-few schedule, short);
-              };
+          accepted = rw is (x .passed .accepted);
+          objects-limit = x .passed .objects-limit;
+          references-limit = x .passed .references-limit;
+          marks-long = x .passed .marks-exact;
+          long = front-part (g .stretch) work first-stretch ∙ ap (λ (h : Setup). h .stretch) is;
+          regs-are = rw is (x .regs-are);
         }
 
-    -- after the turns
-    module _ {marks₂ work₂ tallies₂ regs₂ : List ℕ} {p₂ : Progress}
-        (t : DoesAll (IsScheduled g offsets targets schedule) g schedule (memory marks₁ work₁ tallies₁ regs₁ p₁) (memory marks₂ work₂ tallies₂ regs₂ p₂)) where
-      final-held : Holds (graphOf call) g (final call) (memory marks₂ work₂ tallies₂ regs₂ p₂)
-      unfolding turns-ready
-      final-held = t turns-ready
+    -- the state after the turns is the call's
+    pub run-leaves : {μ : Memory} → Leaves (graphOf c) g (scheduled g (c .schedule) (graphOf c) (start (graphOf c) (c .starts) (g .workers))) μ → Runs c μ
+    run-leaves l = rw is at l
 
-      pub settle-ready : Settling (g .workers) (g .stretch) work₂ regs₂
-      settle-ready =
+    -- after the start, with the tallies cleared
+    module _ {marks₁ s₁ tallies₁ regs₁ : List ℕ} {p₁ : Progress} (d : Started (c .offsets) (c .targets) (c .starts) g marks₁ s₁ regs₁ p₁)
+        (l₁ : length s₁ ≡ length (firstPart (g .stretch) work)) (z₁ : tallies₁ ≡ replicate (length tallies) 0) (short : length (c .schedule) < 2 ^ 64) where
+      unfoldable pub turns-ready : Ready (IsScheduled g (c .offsets) (c .targets) (c .schedule)) g
+          (memory marks₁ (firstAnew (g .stretch) work s₁) tallies₁ regs₁ p₁)
+      unfolding start
+      turns-ready =
           record {
-            graph = graphOf call;
-            workers = final call .workers;
-            count = sound-final .workers-length;
-            few = known .accepted .workers-limit;
-            objects-limit = known .objects-limit;
-            stretch-is = x .stretch-is;
-            regs-long = final-held .regs-long;
-            work-long = final-held .work-long;
-            each = final-held .each;
-            room = runs-room (known .accepted) sound-final;
-          }
-
-      -- the counts are what words hold
-      pub count-ready : Countable tallies₂ (g .workers) p₂
-      unfolding turns-ready
-      count-ready = countable (known .accepted) sound-final (known .objects-limit) (known .references-limit) (handed-fits turns-ready) final-held
-
-      -- after the stretches are written out
-      pub all-collected : {work₃ : List ℕ} → Settled (g .workers) (g .stretch) work₂ regs₂ work₃
-          → (r : Marked) → ((x : Countable tallies₂ (g .workers) p₂) → row r ≡ rowOf p₂ (x .tallies))
-          → Collected (callWith offsets targets starts g schedule) r marks₂ work₃ tallies₂
-      unfolding settle-ready count-ready
-      all-collected s r e =
-          let f : eqb (p₂ .running) 0 ≡ allEnded (final call .workers) =
-          ap (λ (k : ℕ). eqb k 0) (final-held .running-is) ∙ all-ended (final call .workers) in
-          record {
-            row-is = e count-ready ∙ rw (f, final-held .counts-are);
-            marks-are = final-held .marks-are;
-            work-is = s settle-ready;
-            tallies-are = final-held .tallies-are;
+            graph = graphOf c;
+            state = start (graphOf c) (c .starts) (g .workers);
+            scene =
+                record {
+                  starts = c .starts;
+                  accepted = rw is (x .passed .accepted);
+                  sound = rw is (sound-start (x .passed .accepted));
+                  objects-limit = x .passed .objects-limit;
+                  references-limit = x .passed .references-limit;
+                  stretch-is = ap (λ (h : Setup). h .stretch) is;
+                  handed-room = omega arith;
+                  moved-room = omega arith;
+                };
+            holds =
+                d _ tallies₁ (front-long (g .stretch) work first-stretch s₁ l₁ ∙ rw is (x .passed .work-exact))
+                (front-here (g .stretch) work first-stretch s₁ l₁) (z₁ ∙ rw is (ap (λ (k : ℕ). replicate {A = ℕ} k 0) (x .passed .tallies-exact)));
+            here =
+                record {
+                  graph-is = refl;
+                  fits = rw is (x .passed .schedule-fits);
+                  handed-room = omega (arith, entries-few (c .schedule), short);
+                  moved-room = omega (arith, entries-few (c .schedule), short);
+                };
           }
 
 -- ---- the registers, all zero
@@ -172,33 +174,31 @@ zeros-front zero m h = refl
 zeros-front (suc k) zero h = absurd (omega arith)
 zeros-front (suc k) (suc m) h = ap (λ (t : List ℕ). 0 ∷ t) (zeros-front k m (omega arith))
 
-module _ {c : Call} {marks work tallies : List ℕ} (x : Faultless c marks work tallies) where
-  pub offsets-some : 2 ≤ length (c .offsets)
-  offsets-some = facts x .offsets-some
+module _ {c : Call} {l : Lengths} (x : Checked c l) where
+  pub workers-few : c .workers ≤ most-workers
+  workers-few = x .accepted .workers-limit
 
-  pub workers-few : c .workers ≤ 16
-  workers-few = facts x .accepted .workers-limit
+  pub registers-long : length (take {A = ℕ} (block-words * c .workers) (replicate register-words 0)) ≡ block-words * c .workers
+  registers-long = length-take-le (block-words * c .workers) (replicate register-words 0) (omega (arith, workers-few))
 
-  pub registers-long : length (take {A = ℕ} (9 * c .workers) (replicate 144 0)) ≡ 9 * c .workers
-  registers-long = length-take-le (9 * c .workers) (replicate 144 0) (omega (arith, workers-few))
-
-  pub collectable : Collectable c (setupOf c) marks work tallies (take (9 * c .workers) (replicate 144 0))
-  collectable =
-      record {
-        faultless = x;
-        stretch-is = refl;
-        regs-are = zeros-front (9 * c .workers) 144 (omega (arith, workers-few));
-      }
+pub runnable : {c : Call} (marks work tallies : List ℕ) {saved : SavedWords}
+    → Checked c (record { marks = length marks; work = length work; tallies = length tallies; saved = saved })
+    → Runnable c marks work tallies (take (block-words * c .workers) (replicate register-words 0))
+runnable {c} marks work tallies {saved} x =
+    record { saved = saved; passed = x; regs-are = zeros-front (block-words * c .workers) register-words (omega (arith, workers-few x)) }
 
 -- ---- the promise
 
 module _ (c : Call) (marks work tallies : List ℕ) where
   -- what the call leaves, by the number k of the fault
-  abbrev Leaves : ℕ → Marked → List ℕ → List ℕ → List ℕ → Type 0
-  Leaves k r marks′ work′ tallies′ =
-      (row r ≡ answerFor k c) × ((marks′ ≡ marksFor k c marks) × ((work′ ≡ workFor k c work) × (tallies′ ≡ talliesFor k c tallies)))
+  abbrev Gives : ℕ → Marked → List ℕ → List ℕ → List ℕ → Type 0
+  Gives k r marks′ work′ tallies′ =
+      (row r ≡ answerFor k c)
+      × ((marks′ ≡ unlessRefused k (final c .marks) marks)
+      × ((work′ ≡ unlessRefused k (machine.memory (objects (graphOf c)) (final c .workers)) work)
+      × (tallies′ ≡ unlessRefused k (talliesWords (final c .tallies)) tallies)))
 
-  promised : {r : Marked} {marks′ work′ tallies′ : List ℕ} → Leaves (fault c (length marks) (length work) (length tallies)) r marks′ work′ tallies′
+  promised : {r : Marked} {marks′ work′ tallies′ : List ℕ} → Gives (fault c (length marks) (length work) (length tallies)) r marks′ work′ tallies′
       → Answered c marks work tallies r marks′ work′ tallies′
   promised l =
       record {
@@ -207,28 +207,31 @@ module _ (c : Call) (marks work tallies : List ℕ) where
         work-is = l .1 .1 .0;
         tallies-are = l .1 .1 .1;
         demand2 = λ e.
-            rw (rw e at (l .0), rw e at (l .1 .0)) (demand2 (checked c (length marks) (length work) (length tallies) e .accepted) (entries (c .schedule)));
-        demand3 = λ e. rw (rw e at (l .0)) (demand3 (checked c (length marks) (length work) (length tallies) e .accepted) (entries (c .schedule)));
-        lamp = λ e. rw (rw e at (l .0)) (lamp (checked c (length marks) (length work) (length tallies) e .accepted) (entries (c .schedule)));
+            rw (rw e at (l .0), rw e at (l .1 .0)) (demand2 (checked c (lengths (length marks) (length work) (length tallies)) e .accepted) (entries (c .schedule)));
+        demand3 = λ e. rw (rw e at (l .0)) (demand3 (checked c (lengths (length marks) (length work) (length tallies)) e .accepted) (entries (c .schedule)));
+        lamp = λ e. rw (rw e at (l .0)) (lamp (checked c (lengths (length marks) (length work) (length tallies)) e .accepted) (entries (c .schedule)));
         owners = λ e.
-            rw (rw e at (l .0), rw e at (l .1 .0)) (owners (checked c (length marks) (length work) (length tallies) e .accepted) (entries (c .schedule)));
-        counted = λ e. rw (rw e at (l .0)) (tallies-proved.tallies (checked c (length marks) (length work) (length tallies) e .accepted) (entries (c .schedule)));
+            rw (rw e at (l .0), rw e at (l .1 .0)) (owners (checked c (lengths (length marks) (length work) (length tallies)) e .accepted) (entries (c .schedule)));
+        counted = λ e. rw (rw e at (l .0)) (tallies-proved.tallies (checked c (lengths (length marks) (length work) (length tallies)) e .accepted) (entries (c .schedule)));
       }
 
   -- any other number than 0 is a refusal, and the buffers stay
-  refused : (cause : Refusal) (k : ℕ) → number cause ≡ k → Leaves k (Refused cause) marks work tallies
+  refused : (cause : Refusal) (k : ℕ) → number cause ≡ k → Gives k (Refused cause) marks work tallies
   refused cause zero e = absurd (omega (arith, numbered cause))
   refused cause (suc k) e = (ap refusedRow e, (refl, (refl, refl)))
 
-module _ {c : Call} {marks work tallies : List ℕ} {v : Verdict} (found : Finds v c (length marks) (length work) (length tallies)) where
+module _ {c : Call} {marks work tallies : List ℕ} {v : Verdict} (found : Finds v c (lengths (length marks) (length work) (length tallies))) where
   -- by what the checks find
   pub answered-refused : {cause : Refusal} → v ≡ Faulty cause → Answered c marks work tallies (Refused cause) marks work tallies
   answered-refused {cause} e =
       promised c marks work tallies (refused c marks work tallies cause (fault c (length marks) (length work) (length tallies)) (sym (ap numberOf e) ∙ found .number-is))
 
-  pub none-found : v ≡ Fine → Faultless c marks work tallies
-  none-found e = record { none = sym (found .number-is) ∙ ap numberOf e }
-
-  pub answered-fine : v ≡ Fine → {r : Marked} {marks′ work′ tallies′ : List ℕ} → Collected c r marks′ work′ tallies′
+  pub answered-fine : v ≡ Fine → {marks′ work′ tallies′ regs′ : List ℕ} {p : Progress} → Runs c (memory marks′ work′ tallies′ regs′ p)
+      → (r : Marked) → ((x : Countable tallies′ (c .workers) p) → row r ≡ rowOf p (x .tallies))
       → Answered c marks work tallies r marks′ work′ tallies′
-  answered-fine e d = promised c marks work tallies (rw (none-found e .none) (d .row-is, (d .marks-are, (d .work-is, d .tallies-are))))
+  answered-fine e d r f =
+      promised c marks work tallies (rw (sym (found .number-is) ∙ ap numberOf e) (row-left d r f, (d .held .marks-are, (d .work-is, d .held .tallies-are))))
+
+-- the checks that find nothing are passed
+pub passed : {c : Call} {l : Lengths} {v : Verdict} → Finds v c l → v ≡ Fine → Checked c l
+passed {c} {l} found e = checked c l (sym (found .number-is) ∙ ap numberOf e)

@@ -6,27 +6,29 @@ use mathlib.Core.List.{List}
 use lib.ListN.{length}
 use Rattle.refusal.specs.declared.Verdict.{Verdict}
 use Rattle.refusal.specs.Number.{number, numberOf}
+use Rattle.desk.specs.declared.Lengths.{Lengths}
+use Rattle.desk.specs.declared.Settings.{Settings}
 use Rattle.machine.specs.Machine.{entries}
 use Rattle.machine.specs.Row.{Row, refusedRow}
 use Rattle.machine.specs.Demand2.{Demand2}
 use Rattle.machine.specs.Demand3.{Demand3}
 use Rattle.machine.specs.Lamp.{Lamp}
-use Rattle.machine.specs.Call.{Call, graphOf, settingOf, fault, final, marking, marksAfter, workAfter, talliesAfter}
+use Rattle.machine.specs.Call.{Call, graphOf, settingOf, firstFault, fault, final, marking, marksAfter, workAfter, talliesAfter}
 use Rattle.machine.specs.Owners.{Owners}
 use Rattle.machine.specs.Tallies.{Tallies}
 use Rattle.marker.specs.declared.Marked.{Marked}
 use Rattle.marker.specs.declared.Marked.the-variants.{Finished, Unfinished, Refused}
 
 -- the call with these arguments
-abbrev pub callOf : List ℕ → List ℕ → List ℕ → ℕ → ℕ → ℕ → List ℕ → Call
-callOf offsets targets starts W D K schedule =
+abbrev pub callOf : List ℕ → List ℕ → List ℕ → Settings → List ℕ → Call
+callOf offsets targets starts g schedule =
     record {
       offsets = offsets;
       targets = targets;
       starts = starts;
-      workers = W;
-      batch = D;
-      cutoff = K;
+      workers = g .workers;
+      batch = g .batch;
+      cutoff = g .cutoff;
       schedule = schedule;
     }
 
@@ -36,9 +38,9 @@ row (Finished t) = record { number = 0; finished = true; counts = t }
 row (Unfinished t) = record { number = 0; finished = false; counts = t }
 row (Refused r) = refusedRow (number r)
 
--- what the checks find is the first fault of a call with so many marks, work words and tally words
-pub record Finds (v : Verdict) (c : Call) (marks work tallies : ℕ) : Type 0 where
-  pub number-is : numberOf v ≡ fault c marks work tallies
+-- what the checks find is the first fault of a call whose buffers are so long
+pub record Finds (v : Verdict) (c : Call) (l : Lengths) : Type 0 where
+  pub number-is : numberOf v ≡ firstFault c l
 
 -- the call's promise, for all inputs: the answer, every mark, every work word and every tally word; and, where the call has
 -- no fault, demands 2 and 3 of the answer and the marks, what its count of workers that carry says, who claimed what, and

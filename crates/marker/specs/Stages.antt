@@ -8,23 +8,25 @@ use lib.Dec.{ltb, eqb}
 use Rattle.laws.specs.Choice.{pick}
 use Rattle.graph.specs.Graph.{Graph, graph, objects}
 use Rattle.graph.specs.Limits.{most-objects}
-use Rattle.machine.specs.Limits.{most-workers}
+use Rattle.desk.specs.declared.SavedWords.{SavedWords}
+use Rattle.desk.specs.declared.Settings.{Settings}
+use Rattle.desk.specs.Limits.{most-workers}
+use Rattle.desk.specs.Lengths.{stretchLength}
 use Rattle.machine.specs.Row.{Row}
-use Rattle.machine.specs.Tally.{Tally, talliesWords}
+use Rattle.machine.specs.Tally.{Tally}
 use Rattle.machine.specs.Machine as machine
-use Rattle.machine.specs.Machine.{State, Worker, ended, runsOf, turns, entries, result, stretchLength}
-use Rattle.machine.specs.Call.{Call, graphOf, fault, final, scheduleFits}
+use Rattle.machine.specs.Machine.{State, Worker, ended, runsOf, turns, entries}
+use Rattle.machine.specs.Call.{Call, graphOf, final, scheduleFits}
+use Rattle.machine.specs.Checked.{Checked}
 use Rattle.worker.specs.declared.registers.Block.{Block}
 use Rattle.worker.specs.declared.stretch.Top.{Top}
 use Rattle.worker.specs.Registers.{block-words, status-given}
 use Rattle.worker.specs.Stretch.{topWith}
 use Rattle.turns.specs.declared.Setup.{Setup}
 use Rattle.turns.specs.declared.Progress.{Progress}
-use Rattle.turns.specs.Counting.{countsOf}
+use Rattle.turns.specs.Counting.{countsOf, Countable}
 use Rattle.turns.specs.Held.{Memory, memory, settingOf, topOf, Each, Holds}
 use Rattle.turns.specs.Turned.{Ready}
-use Rattle.marker.specs.declared.Marked.{Marked}
-use Rattle.marker.specs.Answer.{callOf, row}
 
 -- ---- the turns
 
@@ -66,39 +68,35 @@ pub record Settling (W L : ℕ) (work regs : List ℕ) : Type 0 where
 abbrev pub Settled : ℕ → ℕ → List ℕ → List ℕ → List ℕ → Type 0
 Settled W L work regs work′ = (x : Settling W L work regs) → work′ ≡ machine.memory (objects (x .graph)) (x .workers)
 
--- ---- the whole call
+-- ---- a whole run
+
+-- W, D, K and the length of a stretch, for n objects
+abbrev pub setupFor : Settings → ℕ → Setup
+setupFor g n = record { workers = g .workers; batch = g .batch; cutoff = g .cutoff; stretch = stretchLength n }
+
+-- those of a call
+abbrev pub setupOf : Call → Setup
+setupOf c = setupFor (record { workers = c .workers; batch = c .batch; cutoff = c .cutoff }) (objects (graphOf c))
+
+-- a call that has passed the checks, whether saved words are lent or not, with registers that are all zero
+pub record Runnable (c : Call) (marks work tallies regs : List ℕ) : Type 0 where
+  pub saved : SavedWords
+  pub passed : Checked c (record { marks = length marks; work = length work; tallies = length tallies; saved = saved })
+  pub regs-are : regs ≡ replicate (block-words * c .workers) 0
+
+-- the memories hold a state with every stretch written out, and its counts are what words hold
+pub record Leaves (G : Graph) (g : Setup) (s : State) (μ : Memory) : Type 0 where
+  -- the work words as the turns leave them
+  pub unsettled : List ℕ
+  pub held : Holds G g s (memory (μ .marks) unsettled (μ .tallies) (μ .regs) (μ .progress))
+  pub work-is : μ .work ≡ machine.memory (objects G) (s .workers)
+  pub countable : Countable (μ .tallies) (g .workers) (μ .progress)
+  pub counted : countable .tallies ≡ s .tallies
+
+-- they hold the state after the turns of the call
+abbrev pub Runs : Call → Memory → Type 0
+Runs c μ = Leaves (graphOf c) (setupOf c) (final c) μ
 
 -- the answer of a collection that is so far, with these tallies: it is finished where nobody is running
 abbrev pub rowOf : Progress → List Tally → Row
 rowOf p ts = record { number = 0; finished = eqb (p .running) 0; counts = countsOf p ts }
-
--- the call whose setting is this
-abbrev pub callWith : List ℕ → List ℕ → List ℕ → Setup → List ℕ → Call
-callWith offsets targets starts g schedule = callOf offsets targets starts (g .workers) (g .batch) (g .cutoff) schedule
-
--- its setting, with the length of a stretch
-abbrev pub setupOf : Call → Setup
-setupOf c =
-    record {
-      workers = c .workers;
-      batch = c .batch;
-      cutoff = c .cutoff;
-      stretch = stretchLength (objects (graphOf c));
-    }
-
--- the checks find no fault
-pub record Faultless (c : Call) (marks work tallies : List ℕ) : Type 0 where
-  pub none : fault c (length marks) (length work) (length tallies) ≡ 0
-
--- a call without a fault, with registers that are all zero
-pub record Collectable (c : Call) (g : Setup) (marks work tallies regs : List ℕ) : Type 0 where
-  pub faultless : Faultless c marks work tallies
-  pub stretch-is : g .stretch ≡ stretchLength (objects (graphOf c))
-  pub regs-are : regs ≡ replicate (block-words * g .workers) 0
-
--- what it leaves: the result, the marks, the work words and the tallies of the state after its turns
-pub record Collected (c : Call) (r : Marked) (marks′ work′ tallies′ : List ℕ) : Type 0 where
-  pub row-is : row r ≡ result (final c)
-  pub marks-are : marks′ ≡ final c .marks
-  pub work-is : work′ ≡ machine.memory (objects (graphOf c)) (final c .workers)
-  pub tallies-are : tallies′ ≡ talliesWords (final c .tallies)

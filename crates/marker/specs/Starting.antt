@@ -7,9 +7,9 @@ use lib.ListN.{length, replicate}
 use Rattle.graph.specs.Graph.{Graph, graph, objects, references}
 use Rattle.graph.specs.Chain.{marksAt}
 use Rattle.graph.specs.Limits.{most-objects, most-references}
+use Rattle.desk.specs.Lengths.{tally-words, stretchLength}
 use Rattle.machine.specs.Run.{Run, carried}
-use Rattle.machine.specs.Tally.{tally-words}
-use Rattle.machine.specs.Machine.{Setting, State, live, unmarked, startRuns, start, stretchLength}
+use Rattle.machine.specs.Machine.{Setting, State, live, unmarked, startRuns, start}
 use Rattle.machine.specs.Accepted.{Accepted}
 use Rattle.worker.specs.Registers.{block-words}
 use Rattle.worker.specs.Stretch.{EndsWith}

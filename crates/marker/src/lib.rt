@@ -1,32 +1,32 @@
 // The marker's call: its checks in their order, the start, the turns of the schedule, and the answer.
 pub mod start;
 
+use desk::Lengths;
+use desk::SavedWords;
+use desk::Settings;
+use desk::places;
 use machine::Counts;
 use refusal::Refusal;
 use refusal::Verdict;
+use turns::Entry;
 use turns::Outcome;
 use turns::Progress;
 use turns::Setup;
+use turns::Step;
 use turns::counts;
 use worker::registers;
 use worker::registers::Block;
 use worker::stretch;
 use worker::stretch::Top;
 ghost use mathlib.Core.Path.{_≡_};
-ghost use mathlib.Core.Bool.{not, _||_};
-ghost use Prim.Native.Nat.{_*_, _-_, _≤_};
-ghost use lib.ListN.{length};
-ghost use lib.Dec.{ltb, eqb};
-ghost use Rattle.graph.specs.Limits.{most-objects, most-references};
-ghost use Rattle.machine.specs.Limits.{most-workers, most-setting};
-ghost use Rattle.machine.specs.Tally.{tally-words};
-ghost use Rattle.machine.specs.Machine.{stretchLength};
-ghost use Rattle.machine.specs.Call.{outside, scheduleFits};
+ghost use Prim.Native.Nat.{_≤_};
+ghost use Rattle.graph.specs.Limits.{most-objects};
+ghost use Rattle.machine.specs.Call.{scheduleFits};
 ghost use Rattle.turns.specs.Counting.{Countable};
 ghost use Rattle.turns.specs.Held.{memory};
 ghost use Rattle.turns.specs.Turned.{Ready};
 ghost use Rattle.marker.specs.Answer.{callOf, row, Finds, Answered};
-ghost use Rattle.marker.specs.Stages.{IsScheduled, DoesAll, topFor, Settling, Settled, rowOf, callWith, Faultless, Collectable, Collected};
+ghost use Rattle.marker.specs.Stages.{IsScheduled, DoesAll, topFor, Settling, Settled, rowOf, setupFor, Runnable, Runs};
 
 pub enum Marked {
     // All workers have ended.
@@ -44,57 +44,6 @@ pub fn refusal_of(marked: Marked) -> u8
         Marked::Unfinished(_) => 0,
         Marked::Refused(cause) => refusal::number_of(cause),
     }
-}
-
-// A number that is not 1 to the largest.
-pub fn out_of_range(x: usize, most: usize) -> bool
-    ensures { λ r. ⌜ r ≡ outside most x ⌝ }
-{
-    if x < 1 {
-        return true;
-    }
-    most < x
-}
-
-// Check 8: W is not 1 to 16, or D or K is not 1 to 65,535.
-pub fn setting_outside(workers: u32, batch: u32, cutoff: u32) -> bool
-    ensures { λ r. ⌜ r ≡ (outside most-workers workers || outside most-setting batch || outside most-setting cutoff) ⌝ }
-{
-    if out_of_range(workers as usize, machine::MOST_WORKERS as usize) {
-        return true;
-    }
-    if out_of_range(batch as usize, machine::MOST_SETTING as usize) {
-        return true;
-    }
-    out_of_range(cutoff as usize, machine::MOST_SETTING as usize)
-}
-
-// Check 4: from the number of offsets and of targets, n or m is outside its range.
-pub fn counts_outside(offsets: usize, targets: usize) -> bool
-    ensures { λ r. ⌜ r ≡ (ltb offsets 2 || ltb most-objects (offsets - 1) || ltb most-references targets) ⌝ }
-{
-    if offsets < 2 {
-        return true;
-    }
-    if graph::MOST_OBJECTS < offsets - 1 {
-        return true;
-    }
-    graph::MOST_REFERENCES < targets
-}
-
-// Check 7: the lent buffers' lengths.
-fn buffers_wrong(n: usize, workers: u32, marks: usize, work: usize, tallies: usize) -> bool
-    requires { ⌜ (n ≤ most-objects) × (workers ≤ most-workers) ⌝ }
-    ensures { λ r. ⌜ r ≡ (not (eqb marks n) || not (eqb work (workers * stretchLength n)) || not (eqb tallies (workers * tally-words))) ⌝ }
-{
-    let wanted = workers as usize * (2 * n + 4);
-    if marks != n {
-        return true;
-    }
-    if work != wanted {
-        return true;
-    }
-    tallies != workers as usize * machine::TALLY
 }
 
 // Check 9: whole entries, each with a worker below W.
@@ -121,36 +70,25 @@ pub fn check(
     offsets: &[u32],
     targets: &[u32],
     starts: &[u32],
-    workers: u32,
-    batch: u32,
-    cutoff: u32,
+    settings: Settings,
     schedule: &[u8],
-    marks: usize,
-    work: usize,
-    tallies: usize,
+    lengths: Lengths,
 ) -> Verdict
-    ensures { λ v. ⌜ Finds v (callOf (now (offsets .entry)) (now (targets .entry)) (now (starts .entry)) workers batch cutoff (now (schedule .entry))) marks work tallies ⌝ }
+    ensures { λ v. ⌜ Finds v (callOf (now (offsets .entry)) (now (targets .entry)) (now (starts .entry)) settings (now (schedule .entry))) lengths ⌝ }
 {
-    if setting_outside(workers, batch, cutoff) {
+    if desk::settings_outside(settings) {
         return Verdict::Faulty(Refusal::Setting);
     }
-    if counts_outside(offsets.len(), targets.len()) {
+    if desk::graph_outside(offsets.len(), targets.len()) {
         return Verdict::Faulty(Refusal::Count);
     }
-    let n = offsets.len() - 1;
-    if buffers_wrong(n, workers, marks, work, tallies) {
+    if desk::lengths_wrong(offsets.len() - 1, settings.workers, lengths) {
         return Verdict::Faulty(Refusal::Buffer);
     }
-    if !graph::well_formed(offsets, targets) {
-        return Verdict::Faulty(Refusal::Graph);
+    if let Verdict::Faulty(cause) = desk::check_store(offsets, targets, starts) {
+        return Verdict::Faulty(cause);
     }
-    if out_of_range(starts.len(), graph::MOST_STARTS) {
-        return Verdict::Faulty(Refusal::Starts);
-    }
-    if !graph::is_below(n, starts) {
-        return Verdict::Faulty(Refusal::Object);
-    }
-    if !schedule_fits(schedule, workers) {
+    if !schedule_fits(schedule, settings.workers) {
         return Verdict::Faulty(Refusal::Schedule);
     }
     Verdict::Fine
@@ -212,9 +150,15 @@ pub fn take_turns(
     let mut p = begun;
     let mut i: usize = 0;
     while i < schedule.len() {
-        let b = schedule[i] as u32;
-        let v = schedule[i + 1] as u32;
-        let outcome = turns::turn(offsets, targets, setup, marks, work, tallies, regs, p, b, v);
+        let worker = schedule[i];
+        let named = schedule[i + 1];
+        let entry = Entry { worker, named };
+        let step = Step {
+            setup,
+            progress: p,
+            entry,
+        };
+        let outcome = turns::turn(offsets, targets, marks, work, tallies, regs, step);
         i += 2;
         match outcome {
             Outcome::Goes(q) => {
@@ -241,22 +185,37 @@ pub fn answer(tallies: &[u64], workers: u32, p: Progress) -> Marked
     Marked::Unfinished(all)
 }
 
-// A checked call, with its registers all zero.
-fn collected(
+// W, D, K and the length of a stretch, for n objects.
+pub fn setup_of(settings: Settings, objects: usize) -> Setup
+    requires { ⌜ objects ≤ most-objects ⌝ }
+    ensures { λ g. ⌜ g ≡ setupFor settings objects ⌝ }
+{
+    Setup {
+        workers: settings.workers,
+        batch: settings.batch,
+        cutoff: settings.cutoff,
+        stretch: places::stretch(objects),
+    }
+}
+
+// A whole run of a checked call, with its registers all zero: the start, the turns of the schedule,
+// and the stretches written out.
+pub fn run(
     offsets: &[u32],
     targets: &[u32],
     starts: &[u32],
-    setup: Setup,
+    settings: Settings,
     schedule: &[u8],
     marks: &mut [u8],
     work: &mut [u32],
     tallies: &mut [u64],
     regs: &mut [u32],
-) -> Marked
-    requires { ⌜ Collectable (callWith (now offsets) (now targets) (now starts) setup (now schedule)) setup (now marks) (now work) (now tallies) (now regs) ⌝ }
-    ensures { λ r. ⌜ Collected (callWith (now (offsets .entry)) (now (targets .entry)) (now (starts .entry)) setup (now (schedule .entry)))
-        r (now (marks .exit)) (now (work .exit)) (now (tallies .exit)) ⌝ }
+) -> Progress
+    requires { ⌜ Runnable (callOf (now offsets) (now targets) (now starts) settings (now schedule)) (now marks) (now work) (now tallies) (now regs) ⌝ }
+    ensures { λ p. ⌜ Runs (callOf (now (offsets .entry)) (now (targets .entry)) (now (starts .entry)) settings (now (schedule .entry)))
+        (memory (now (marks .exit)) (now (work .exit)) (now (tallies .exit)) (now (regs .exit)) p) ⌝ }
 {
+    let setup = setup_of(settings, offsets.len() - 1);
     let len = setup.stretch;
     let begun = start::start(
         offsets,
@@ -280,46 +239,7 @@ fn collected(
         begun,
     );
     settle(setup, work, regs);
-    answer(tallies, setup.workers, p)
-}
-
-// A checked call.
-fn mark_checked(
-    offsets: &[u32],
-    targets: &[u32],
-    starts: &[u32],
-    workers: u32,
-    batch: u32,
-    cutoff: u32,
-    schedule: &[u8],
-    marks: &mut [u8],
-    work: &mut [u32],
-    tallies: &mut [u64],
-) -> Marked
-    requires { ⌜ Faultless (callOf (now offsets) (now targets) (now starts) workers batch cutoff (now schedule)) (now marks) (now work) (now tallies) ⌝ }
-    ensures { λ r. ⌜ Collected (callOf (now (offsets .entry)) (now (targets .entry)) (now (starts .entry)) workers batch cutoff (now (schedule .entry)))
-        r (now (marks .exit)) (now (work .exit)) (now (tallies .exit)) ⌝ }
-{
-    let n = offsets.len() - 1;
-    let setup = Setup {
-        workers,
-        batch,
-        cutoff,
-        stretch: 2 * n + 4,
-    };
-    let mut registers = [0u32; 144];
-    let size = registers::BLOCK * workers as usize;
-    collected(
-        offsets,
-        targets,
-        starts,
-        setup,
-        schedule,
-        marks,
-        work,
-        tallies,
-        &mut registers[..size],
-    )
+    p
 }
 
 // The marker's call.
@@ -327,42 +247,38 @@ pub fn mark(
     offsets: &[u32],
     targets: &[u32],
     starts: &[u32],
-    workers: u32,
-    batch: u32,
-    cutoff: u32,
+    settings: Settings,
     schedule: &[u8],
     marks: &mut [u8],
     work: &mut [u32],
     tallies: &mut [u64],
 ) -> Marked
-    ensures { λ r. ⌜ Answered (callOf (now (offsets .entry)) (now (targets .entry)) (now (starts .entry)) workers batch cutoff (now (schedule .entry)))
+    ensures { λ r. ⌜ Answered (callOf (now (offsets .entry)) (now (targets .entry)) (now (starts .entry)) settings (now (schedule .entry)))
         (now (marks .entry)) (now (work .entry)) (now (tallies .entry)) r (now (marks .exit)) (now (work .exit)) (now (tallies .exit)) ⌝ }
 {
-    let verdict = check(
+    let lengths = Lengths {
+        marks: marks.len(),
+        work: work.len(),
+        tallies: tallies.len(),
+        saved: SavedWords::Absent,
+    };
+    let verdict = check(offsets, targets, starts, settings, schedule, lengths);
+    if let Verdict::Faulty(cause) = verdict {
+        return Marked::Refused(cause);
+    }
+    let workers = settings.workers;
+    let mut registers = [0u32; registers::ALL];
+    let size = registers::BLOCK * workers as usize;
+    let p = run(
         offsets,
         targets,
         starts,
-        workers,
-        batch,
-        cutoff,
+        settings,
         schedule,
-        marks.len(),
-        work.len(),
-        tallies.len(),
+        marks,
+        work,
+        tallies,
+        &mut registers[..size],
     );
-    match verdict {
-        Verdict::Faulty(cause) => Marked::Refused(cause),
-        Verdict::Fine => mark_checked(
-            offsets,
-            targets,
-            starts,
-            workers,
-            batch,
-            cutoff,
-            schedule,
-            marks,
-            work,
-            tallies,
-        ),
-    }
+    answer(tallies, workers, p)
 }

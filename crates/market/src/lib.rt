@@ -5,8 +5,7 @@ mod parse;
 mod print;
 
 use catalogue::Answer;
-use graph::MOST_OBJECTS;
-use graph::MOST_REFERENCES;
+use desk::Length;
 use refusal::Refusal;
 use refusal::Verdict;
 ghost use mathlib.Core.Path.{_≡_};
@@ -15,31 +14,13 @@ ghost use lib.ListN.{length};
 ghost use Rattle.graph.specs.Limits.{most-objects};
 ghost use Rattle.refusal.specs.Number.{numberOf};
 ghost use Rattle.catalogue.specs.Answer.{row};
-ghost use Rattle.market.specs.Import.{outside, misfits, headRow, Imports};
-ghost use Rattle.market.specs.Promise.{Accepts, Returns};
-ghost use Rattle.market.specs.Export.{graphFault, lengthRow, lengthFor, exportFault, bytesAfter};
+ghost use Rattle.desk.specs.Length.{lengthRow};
+ghost use Rattle.matrix.specs.Import.{misfits, headRow, Imports};
+ghost use Rattle.matrix.specs.Promise.{Accepts, Returns};
+ghost use Rattle.matrix.specs.Export.{lengthFor, exportFault, bytesAfter};
 
 // The first line of every text, with its line feed.
 pub const BANNER: [u8; 49] = *b"%%MatrixMarket matrix coordinate pattern general\n";
-
-// How many bytes the text of a graph has.
-pub enum Length {
-    Bytes(u64),
-    Refused(Refusal),
-}
-
-// Check 4 of counts that a text has.
-fn counts_outside(n: u64, m: u64) -> bool
-    ensures { λ r. ⌜ r ≡ outside n m ⌝ }
-{
-    if n < 1 {
-        return true;
-    }
-    if (MOST_OBJECTS as u64) < n {
-        return true;
-    }
-    (MOST_REFERENCES as u64) < m
-}
 
 // Check 7 of what is lent to import.
 fn buffers_wrong(n: u64, m: u64, offsets: usize, targets: usize, sizes: usize) -> bool
@@ -56,14 +37,14 @@ fn buffers_wrong(n: u64, m: u64, offsets: usize, targets: usize, sizes: usize) -
 }
 
 // The counts of a text, from what stands before its pairs.
-pub fn header(text: &[u8]) -> Answer
+pub fn market_header(text: &[u8]) -> Answer
     ensures { λ r. ⌜ row r ≡ headRow (now (text .entry)) ⌝ }
 {
     let head = parse::head_of(text);
     if !head.good {
         return Answer::Refused(Refusal::Text);
     }
-    if counts_outside(head.rows, head.entries) {
+    if desk::counts_outside(head.rows as usize, head.entries as usize) {
         return Answer::Refused(Refusal::Count);
     }
     Answer::Read {
@@ -90,7 +71,7 @@ pub fn import(text: &[u8], offsets: &mut [u32], targets: &mut [u32], sizes: &mut
     if !body.good {
         return Answer::Refused(Refusal::Text);
     }
-    if counts_outside(n, m) {
+    if desk::counts_outside(n as usize, m as usize) {
         return Answer::Refused(Refusal::Count);
     }
     if !body.fits {
@@ -108,33 +89,14 @@ pub fn import(text: &[u8], offsets: &mut [u32], targets: &mut [u32], sizes: &mut
     }
 }
 
-// Checks 4 and 10 of a graph.
-fn check_graph(offsets: &[u32], targets: &[u32]) -> Verdict
-    ensures { λ v. ⌜ numberOf v ≡ graphFault (now (offsets .entry)) (now (targets .entry)) ⌝ }
-{
-    if offsets.len() < 2 {
-        return Verdict::Faulty(Refusal::Count);
-    }
-    if MOST_OBJECTS < offsets.len() - 1 {
-        return Verdict::Faulty(Refusal::Count);
-    }
-    if MOST_REFERENCES < targets.len() {
-        return Verdict::Faulty(Refusal::Count);
-    }
-    if !graph::well_formed(offsets, targets) {
-        return Verdict::Faulty(Refusal::Graph);
-    }
-    Verdict::Fine
-}
-
 // How long the text of a graph is.
 pub fn export_length(offsets: &[u32], targets: &[u32]) -> Length
     ensures { λ r. ⌜ lengthRow r ≡ lengthFor (now (offsets .entry)) (now (targets .entry)) ⌝ }
 {
-    if let Verdict::Faulty(refusal) = check_graph(offsets, targets) {
+    if let Verdict::Faulty(refusal) = desk::check_graph(offsets, targets) {
         return Length::Refused(refusal);
     }
-    Length::Bytes(print::text_length(offsets, targets) as u64)
+    Length::Is(print::text_length(offsets, targets) as u64)
 }
 
 // Writes the text of a graph into a buffer of exactly its length.
@@ -143,7 +105,7 @@ pub fn export(offsets: &[u32], targets: &[u32], out: &mut [u8]) -> Verdict
     ensures { λ _. ⌜ now (out .exit) ≡ bytesAfter (now (offsets .entry)) (now (targets .entry)) (now (out .entry)) ⌝ }
     ensures { λ v. ⌜ (numberOf v ≡ 0 → Returns (now (offsets .entry)) (now (targets .entry))) ⌝ }
 {
-    let verdict = check_graph(offsets, targets);
+    let verdict = desk::check_graph(offsets, targets);
     match verdict {
         Verdict::Faulty(refusal) => Verdict::Faulty(refusal),
         Verdict::Fine => {

@@ -3,10 +3,10 @@ ghost use mathlib.Core.Path.{_≡_};
 ghost use mathlib.Core.Bool.{false};
 ghost use Prim.Native.Nat.{_≤_, _<_};
 ghost use lib.ListN.{length, drop};
-ghost use Rattle.market.specs.Layout.{banner};
-ghost use Rattle.market.specs.Reading.{begins, skip};
-ghost use Rattle.market.specs.Import.{within, isInside};
-ghost use Rattle.market.specs.Steps.{pairAt, LineEnd, FieldAt, LineAt, HeadOf, BodyAt};
+ghost use Rattle.matrix.specs.Layout.{banner};
+ghost use Rattle.matrix.specs.Reading.{begins, skip};
+ghost use Rattle.matrix.specs.Import.{within, isInside};
+ghost use Rattle.matrix.specs.Steps.{pairAt, LineEnd, FieldAt, LineAt, HeadOf, BodyAt};
 use crate::BANNER;
 
 // The bytes that part numbers and lines, and the one that begins a line to be skipped.
@@ -30,6 +30,12 @@ pub struct Field {
     pub next: usize,
 }
 
+const NO_FIELD: Field = Field {
+    good: false,
+    value: 0,
+    next: 0,
+};
+
 // A line of a pair, as it is written, and the place behind it; or not good.
 pub struct Line {
     pub good: bool,
@@ -38,6 +44,13 @@ pub struct Line {
     pub next: usize,
 }
 
+const NO_LINE: Line = Line {
+    good: false,
+    from: 0,
+    to: 0,
+    next: 0,
+};
+
 // The counts, and the place of the first pair; or not good.
 pub struct Head {
     pub good: bool,
@@ -45,6 +58,13 @@ pub struct Head {
     pub entries: u64,
     pub next: usize,
 }
+
+const NO_HEAD: Head = Head {
+    good: false,
+    rows: 0,
+    entries: 0,
+    next: 0,
+};
 
 // Whether all lines are lines of pairs, and whether each number is 1 to n.
 pub struct Body {
@@ -116,18 +136,10 @@ fn field_at(text: &[u8], at: usize, stop: u8) -> Field
         let b = text[i];
         if b < ZERO {
             if b != stop {
-                return Field {
-                    good: false,
-                    value: 0,
-                    next: at,
-                };
+                return NO_FIELD;
             }
             if i == at {
-                return Field {
-                    good: false,
-                    value: 0,
-                    next: at,
-                };
+                return NO_FIELD;
             }
             return Field {
                 good: true,
@@ -136,27 +148,15 @@ fn field_at(text: &[u8], at: usize, stop: u8) -> Field
             };
         }
         if NINE < b {
-            return Field {
-                good: false,
-                value: 0,
-                next: at,
-            };
+            return NO_FIELD;
         }
         if i - at == MOST_DIGITS {
-            return Field {
-                good: false,
-                value: 0,
-                next: at,
-            };
+            return NO_FIELD;
         }
         value = value * 10 + wide(b - ZERO);
         i += 1;
     }
-    Field {
-        good: false,
-        value: 0,
-        next: at,
-    }
+    NO_FIELD
 }
 
 // The line of a pair at a place.
@@ -166,12 +166,7 @@ pub fn line_at(text: &[u8], at: usize) -> Line
 {
     let from = field_at(text, at, SPACE);
     if !from.good {
-        return Line {
-            good: false,
-            from: 0,
-            to: 0,
-            next: at,
-        };
+        return NO_LINE;
     }
     let middle = from.next;
     let to = field_at(text, middle, FEED);
@@ -188,42 +183,22 @@ pub fn head_of(text: &[u8]) -> Head
     ensures { λ r. ⌜ HeadOf (now (text .entry)) (r .good) (r .rows) (r .entries) (r .next) ⌝ }
 {
     if !begins_right(text) {
-        return Head {
-            good: false,
-            rows: 0,
-            entries: 0,
-            next: 0,
-        };
+        return NO_HEAD;
     }
     let counts = skip_lines(text, BANNER.len());
     let rows = field_at(text, counts, SPACE);
     if !rows.good {
-        return Head {
-            good: false,
-            rows: 0,
-            entries: 0,
-            next: 0,
-        };
+        return NO_HEAD;
     }
     let second = rows.next;
     let columns = field_at(text, second, SPACE);
     if !columns.good {
-        return Head {
-            good: false,
-            rows: 0,
-            entries: 0,
-            next: 0,
-        };
+        return NO_HEAD;
     }
     let third = columns.next;
     let entries = field_at(text, third, FEED);
     if !entries.good {
-        return Head {
-            good: false,
-            rows: 0,
-            entries: 0,
-            next: 0,
-        };
+        return NO_HEAD;
     }
     Head {
         good: rows.value == columns.value,

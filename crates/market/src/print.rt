@@ -4,12 +4,12 @@ ghost use mathlib.Core.List.{_++_};
 ghost use Prim.Native.Nat.{suc, _+_, _*_, _≤_, _<_};
 ghost use lib.ListN.{length};
 ghost use Rattle.laws.specs.Blocks.{laid};
-ghost use Rattle.laws.specs.Every.{Every};
 ghost use Rattle.graph.specs.Graph.{graph};
-ghost use Rattle.text.specs.Text.{decimal, Put};
-ghost use Rattle.market.specs.Layout.{banner, stopped};
-ghost use Rattle.market.specs.Export.{lineOf, pairsFrom, countsLine, exported};
-ghost use Rattle.market.specs.Steps.{Exportable, Printable, Listable, pairAt, short};
+ghost use Rattle.slices.specs.Put.{Put};
+ghost use Rattle.text.specs.Text.{decimal};
+ghost use Rattle.matrix.specs.Layout.{banner, stopped};
+ghost use Rattle.matrix.specs.Export.{lineOf, pairsFrom, countsLine, exported};
+ghost use Rattle.matrix.specs.Steps.{Exportable, Printable, Listable, pairAt, short};
 use crate::BANNER;
 
 // The bytes that part numbers and lines, and the digit 0.
@@ -102,7 +102,7 @@ pub fn put_text(out: &mut [u8], offsets: &[u32], targets: &[u32])
     let n = offsets.len() - 1;
     let mut end = put_head(out, n as u64, targets.len() as u64);
     for v in 0..n {
-        let part = graph::references_of(offsets, targets, v as u32);
+        let part = graph::references(offsets, targets, v as u32);
         end = put_object(out, end, v as u32, part);
     }
 }
@@ -128,7 +128,7 @@ pub fn text_length(offsets: &[u32], targets: &[u32]) -> usize
     let n = offsets.len() - 1;
     let mut total = BANNER.len() + 2 * width(n as u64) + width(targets.len() as u64) + 3;
     for v in 0..n {
-        let part = graph::references_of(offsets, targets, v as u32);
+        let part = graph::references(offsets, targets, v as u32);
         total += object_length(v as u32, part);
     }
     total

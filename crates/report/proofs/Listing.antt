@@ -6,8 +6,8 @@ use native.Mathlib.Numerals.{add-one}
 use native.Mathlib.Omega.{arith}
 use lib.ListN.{length, getD, take}
 use lib.Seq.{take-suc, take-all}
-use Rattle.text.specs.Text.{PutIn}
-use Rattle.text.proofs.Written.{nothing, exactly, then-in, as-text-in}
+use Rattle.slices.specs.Put.{PutIn}
+use Rattle.slices.proofs.Written.{nothing, exactly, then-in, as-text-in}
 use Rattle.report.specs.Limits.{dead-room}
 use Rattle.report.specs.Lines.{deadLine, deadLines}
 

@@ -11,11 +11,11 @@ use Rattle.refusal.specs.declared.Refusal.{Refusal}
 use Rattle.refusal.specs.Number.{number}
 use Rattle.refusal.proofs.None.{first-none, raise-none, or-none}
 use Rattle.refusal.proofs.Numbers.{first-found}
-use Rattle.text.specs.Text.{Put}
-use Rattle.text.proofs.Written.{same-long}
-use Rattle.catalogue.specs.Layout.{header}
-use Rattle.catalogue.specs.Store.{objects, references}
-use Rattle.catalogue.specs.Reading.{storeOf, recordFault, n-field, m-field}
+use Rattle.slices.specs.Put.{Put}
+use Rattle.slices.proofs.Written.{same-long}
+use Rattle.records.specs.Layout.{header}
+use Rattle.records.specs.Store.{objects, references}
+use Rattle.records.specs.Reading.{storeOf, recordFault, n-field, m-field}
 use Rattle.catalogue.specs.declared.Answer.{Answer}
 use Rattle.catalogue.specs.declared.Answer.the-variants.{Read, Refused}
 use Rattle.catalogue.specs.Answer.{Row, row, headerRow, header-values}

@@ -3,32 +3,32 @@ use mathlib.Core.Path.{_≡_, refl, sym, subst, _∙_}
 use mathlib.Core.Bool.{Bool, true, false}
 use mathlib.Core.List.{List, _++_, append-nil}
 use mathlib.Core.Logic.{_⊎_, inl, inr, _↔_}
-use Prim.Native.Nat.{ℕ, _*_, _≤_, _<_}
+use Prim.Native.Nat.{ℕ, _≤_, _<_}
 use native.Mathlib.Omega.{arith}
 use lib.ListN.{length, take}
 use lib.Seq.{take-at}
 use Rattle.laws.specs.Words.{Bytes}
 use Rattle.laws.specs.Sum.{sum, hit}
 use Rattle.refusal.proofs.None.{first-none}
-use Rattle.catalogue.specs.Store.{Store, InRange, objects, startsOf}
-use Rattle.catalogue.specs.Reading.{catalogueFault, storeOf}
+use Rattle.records.specs.Store.{Store, InRange, objects, startsOf}
+use Rattle.records.specs.Reading.{catalogueFault, storeOf}
 use Rattle.catalogue.specs.Answer.{headerRow}
-use Rattle.catalogue.specs.ReadGraph.{readGraph}
-use Rattle.catalogue.specs.Chain.{Chain}
+use Rattle.records.specs.ReadGraph.{readGraph}
+use Rattle.records.specs.Chain.{Chain}
 use Rattle.catalogue.proofs.Accepted.{whole-bytes, whole-range}
-use Rattle.catalogue.proofs.ReadGraph.{read-graph}
+use Rattle.records.proofs.ReadGraph.{read-graph}
 use Rattle.catalogue.proofs.Accepting.{store-lies, laid-store}
-use Rattle.catalogue.proofs.Chain.{chain-is-reach}
+use Rattle.records.proofs.Chain.{chain-is-reach}
+use Rattle.records.proofs.Chain.{chain-is-reach}
+use Rattle.desk.specs.declared.Settings.{Settings}
 use Rattle.machine.specs.Call.{Call, settingOf, final}
-use Rattle.machine.specs.Machine.{result, entries, stretchLength}
-use Rattle.machine.specs.Tally.{tally-words}
+use Rattle.machine.specs.Machine.{result, entries}
 use Rattle.machine.specs.Demand2.{FinishedMarks}
 use Rattle.machine.specs.Accepted.{Accepted}
 use Rattle.machine.proofs.Accept.{checked}
 use Rattle.machine.proofs.Tallies.{tallies}
 use Rattle.sweep.specs.Sweep.{dead}
 use Rattle.sweep.proofs.Collection.{dead-upwards, dead-exactly}
-use Rattle.report.specs.declared.order.Order.{Order}
 use Rattle.report.specs.Limits.{text-room}
 use Rattle.report.specs.Lines.{countLines, tallyLines}
 use Rattle.report.specs.Report.{Files, contentsOf, orderOf, scheduleOf, callOf, filesFault, headerFault, orderFault, callFault, programFault, resultText, programText}
@@ -38,7 +38,7 @@ use Rattle.report.proofs.Printed.{beside, passing-fault}
 use Rattle.report.proofs.Reading.{passing}
 
 -- a collection of the store that these bytes tell
-module _ (b : List ℕ) (clear : catalogueFault b ≡ 0) (o : Order) (schedule : List ℕ) (fine : callFault o schedule ≡ 0) where
+module _ (b : List ℕ) (clear : catalogueFault b ≡ 0) (o : Settings) (schedule : List ℕ) (fine : callFault o schedule ≡ 0) where
   abbrev s : Store
   s = storeOf b
 
@@ -52,7 +52,7 @@ module _ (b : List ℕ) (clear : catalogueFault b ≡ 0) (o : Order) (schedule :
   accepted =
       let f = first-none (orderFault o) _ fine in
       let free = passing-fault o (passing b clear) (first-none _ _ (f .0) .0) refl refl refl schedule ∙ f .1 in
-      checked call (objects s) (o .workers * stretchLength (objects s)) (o .workers * tally-words) free .accepted
+      checked call _ free .accepted
 
   finished-marks : result (final call) .finished ≡ true → FinishedMarks (readGraph s) (startsOf s) (final call .marks)
   finished-marks e =

@@ -16,12 +16,12 @@ use Rattle.graph.specs.Graph.{objects as graph-objects, allBelow}
 use Rattle.graph.specs.Limits.{most-objects, most-references, largest-size, most-starts}
 use Rattle.catalogue.specs.declared.Found.{Found}
 use Rattle.catalogue.specs.declared.Found.the-variants.{Read, Refused}
-use Rattle.catalogue.specs.Store.{Store, InRange, objects, references, offsetsOf, targetsOf, startsOf}
-use Rattle.catalogue.specs.Reading.{Reading, accepted, judged, reading, catalogueFault, storeOf}
-use Rattle.catalogue.specs.ReadGraph.{ReadGraph, readGraph}
+use Rattle.records.specs.Store.{Store, InRange, objects, references, targetsOf, startsOf}
+use Rattle.records.specs.Reading.{Reading, accepted, judged, reading, catalogueFault, storeOf}
+use Rattle.records.specs.ReadGraph.{ReadGraph, readGraph}
 use Rattle.catalogue.specs.Answer.{ReadRow, foundRow, unread, lent, taken, readRow, offsetsAfter, targetsAfter, sizesAfter, startsAfter, Reads}
 use Rattle.catalogue.proofs.Accepted.{whole-bytes, whole-range}
-use Rattle.catalogue.proofs.ReadGraph.{read-graph}
+use Rattle.records.proofs.ReadGraph.{read-graph}
 use Rattle.sweep.specs.Sweep.{allFit}
 use Rattle.report.specs.Lines.{refusalLine}
 use Rattle.report.specs.Report.{contents, contentsOf, Contents, orderOf, scheduleOf, orderText, laterText}
@@ -46,7 +46,7 @@ passing b z =
     record {
       counts =
           rw (
-            le-ltb (length (offsetsOf (storeOf b))) 2 (omega arith),
+            le-ltb (graph-objects (readGraph (storeOf b))) 1 (omega arith),
             le-ltb most-objects (graph-objects (readGraph (storeOf b))) (omega arith),
             le-ltb most-references (length (targetsOf (storeOf b))) (omega arith),
           );

@@ -1,14 +1,17 @@
 -- What a sweep of buffers that it takes leaves: the dead numbers in front of the list, their count and their sum.
 use mathlib.Core.Path.{_≡_, refl, ap}
-use mathlib.Core.Bool.{true}
+use mathlib.Core.Bool.{true, false}
 use mathlib.Core.List.{List, [], _∷_, _++_}
 use Prim.Native.Nat.{ℕ, zero, suc, _+_, _≤_, _<_}
 use native.Mathlib.Omega.{arith}
 use lib.ListN.{length, getD, take, length-append}
 use lib.Seq.{take-at}
+use borrow.Author.Tests.{le-ltb}
 use Rattle.refusal.specs.declared.Refusal.{Refusal}
 use Rattle.refusal.specs.Number.{number}
 use Rattle.refusal.proofs.Numbers.{numbered}
+use Rattle.graph.specs.Limits.{most-objects}
+use Rattle.desk.specs.Checks.{outside}
 use Rattle.sweep.specs.declared.Swept.{Swept}
 use Rattle.sweep.specs.declared.Swept.the-variants.{Dead, Refused}
 use Rattle.sweep.specs.Sweep.{Row, deadFrom, dead, sizesOf, row, sweeping, listAfter, fault}
@@ -40,7 +43,10 @@ pub record SweptTo (sizes marks list out : List ℕ) (at count freed : ℕ) : Ty
 
 module _ {sizes marks list out : List ℕ} {at : ℕ} (s : Sweepable sizes marks list out at) where
   free : fault marks sizes list ≡ 0
-  free = fault-free marks sizes list (s .some) (omega (arith, s .few)) (s .all-marks) (s .all-list) (s .sizes-fit)
+  free =
+      let few : length sizes ≤ most-objects = omega (arith, s .few) in
+      let inside : outside most-objects (length sizes) ≡ false = rw (le-ltb (length sizes) 1 (s .some), le-ltb most-objects (length sizes) few) refl in
+      fault-free marks sizes list inside (s .all-marks) (s .all-list) (s .sizes-fit)
 
   pub swept-to : {w : Swept} {count freed : ℕ} {list′ : List ℕ} → w ≡ Dead count freed → row w ≡ sweeping marks sizes list
       → list′ ≡ listAfter marks sizes list → SweptTo sizes marks list′ out at count freed

@@ -1,16 +1,16 @@
 -- The tally lines, one worker after the other; by the words of the tallies they are those of the tallies.
 use mathlib.Core.Path.{_≡_, refl, sym, ap, subst, _∙_}
 use mathlib.Core.List.{List, [], _∷_, _++_, append-assoc, append-nil}
-use Prim.Native.Nat.{ℕ, zero, suc, _+_, _*_, _/_, _≤_, _<_}
+use Prim.Native.Nat.{ℕ, zero, suc, _+_, _*_, _/_, _≤_}
 use native.Mathlib.Numerals.{add-one}
 use native.Mathlib.Omega.{arith}
 use lib.ListN.{length, getD, take, drop}
 use lib.Seq.{take-suc, take-all, getD-drop, length-take-le}
 use Rattle.laws.specs.Blocks.{laid}
 use Rattle.laws.proofs.Blocks.{length-laid}
+use Rattle.slices.specs.Put.{PutIn}
+use Rattle.slices.proofs.Written.{nothing, exactly, then-in}
 use Rattle.machine.specs.Tally.{Tally, noTally, tallyWords, talliesWords}
-use Rattle.text.specs.Text.{PutIn}
-use Rattle.text.proofs.Written.{nothing, exactly, then-in}
 use Rattle.report.specs.Limits.{tally-room}
 use Rattle.report.specs.Lines.{tallyLine, tallyLines, tallyAt, wordLines}
 

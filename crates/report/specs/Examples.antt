@@ -8,11 +8,11 @@ use Rattle.laws.specs.Words.{le, word}
 use Rattle.laws.specs.Sum.{hit}
 use Rattle.laws.specs.Grouping.{starts, below, under, grouped, part}
 use Rattle.graph.specs.Chain.{marksAt}
-use Rattle.catalogue.specs.Examples.{bytesOfS, bytesOfLeased}
-use Rattle.catalogue.specs.Signed.{bytesOfSigned, dropped}
-use Rattle.catalogue.specs.Layout.{layout}
+use Rattle.records.specs.Examples.{bytesOfS, bytesOfLeased}
+use Rattle.records.specs.Signed.{bytesOfSigned, dropped}
+use Rattle.records.specs.Layout.{layout}
 use Rattle.catalogue.specs.Answer.{headerRow}
-use Rattle.catalogue.specs.Reading.{catalogueFault, faults, leaseFaults, recordFault, storeOf, records}
+use Rattle.records.specs.Reading.{catalogueFault, faults, leaseFaults, recordFault, storeOf, records}
 use Rattle.machine.specs.Drawings.{turnsA, naming0}
 use Rattle.machine.specs.Run.{carried, keep, rest}
 use Rattle.machine.specs.Machine.{turns, start, startRuns, entries, allEnded, live}

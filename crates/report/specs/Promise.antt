@@ -7,10 +7,10 @@ use mathlib.Core.List.{List, _++_}
 use mathlib.Core.Logic.{_⊎_, _↔_}
 use Prim.Native.Nat.{ℕ, _+_, _<_}
 use Rattle.laws.specs.Sum.{sum, hit}
-use Rattle.catalogue.specs.Store.{Store, objects, startsOf}
+use Rattle.records.specs.Store.{Store, objects, startsOf}
 use Rattle.catalogue.specs.Acceptance.{Lays}
-use Rattle.catalogue.specs.ReadGraph.{readGraph}
-use Rattle.catalogue.specs.Chain.{Chain}
+use Rattle.records.specs.ReadGraph.{readGraph}
+use Rattle.records.specs.Chain.{Chain}
 use Rattle.machine.specs.declared.Counts.{Counts}
 use Rattle.machine.specs.Tally.{Tally}
 use Rattle.machine.specs.Sound.{distinctStarts}

@@ -1,19 +1,22 @@
 -- What the functions of the program hand to each other.
 use mathlib.Core.Path.{_≡_}
-use mathlib.Core.Bool.{true}
+use mathlib.Core.Bool.{true, false}
 use mathlib.Core.List.{List, _++_}
-use Prim.Native.Nat.{ℕ, _+_, _*_, _≤_, _<_}
+use Prim.Native.Nat.{ℕ, _+_, _/_, _≤_, _<_}
 use lib.ListN.{length, getD, drop}
+use Rattle.refusal.specs.Number.{number}
 use Rattle.graph.specs.Graph.{graph, objects as graph-objects}
-use Rattle.catalogue.specs.Store.{objects, references, start-words}
-use Rattle.catalogue.specs.Reading.{storeOf}
-use Rattle.machine.specs.Tally.{tally-words}
-use Rattle.machine.specs.Machine.{stretchLength}
-use Rattle.machine.specs.Call.{settingFault, countFault, graphFault, startsFault, objectFault}
-use Rattle.sweep.specs.Sweep.{allFit}
-use Rattle.report.specs.declared.order.Order.{Order}
-use Rattle.report.specs.Limits.{order-length, most-objects, most-references, most-workers, work-room, tallies-room, swept-room, text-room}
-use Rattle.report.specs.Report.{Contents}
+use Rattle.records.specs.Store.{objects, references, start-words}
+use Rattle.records.specs.Reading.{storeOf}
+use Rattle.desk.specs.Checks.{countFault, graphFault, startsFault, objectFault}
+use Rattle.sweep.specs.Sweep.{allFit, dead}
+use Rattle.report.specs.Limits.{order-length, most-objects, most-references, work-room, tallies-room, swept-room, text-room}
+use Rattle.report.specs.Report.{Contents, deadText}
+use Rattle.records.specs.Store.{objects, references, start-words}
+use Rattle.records.specs.Reading.{storeOf}
+use Rattle.marker.specs.declared.Marked.{Marked}
+use Rattle.marker.specs.declared.Marked.the-variants.{Finished, Unfinished, Refused}
+use Rattle.report.specs.Lines.{refusalLine, countLines, wordLines}
 
 -- every number of a list lies below n
 abbrev pub Below : List ℕ → ℕ → Type 0
@@ -57,14 +60,18 @@ pub record Sweepable (sizes marks list out : List ℕ) (at : ℕ) : Type 0 where
   pub sizes-fit : allFit sizes ≡ true
   pub room : at + swept-room ≤ length out
 
--- a call in which the marker can find no fault but in its schedule, and buffers that the sweep takes after it
-pub record Collectable (s : Contents) (o : Order) (l : Lent) : Type 0 where
-  pub passing : Passing s
-  pub fitting : Fitting (s .sizes) (l .marks) (l .list) (l .out)
-  pub settings : settingFault (o .workers) (o .batch) (o .cutoff) ≡ 0
-  pub few-workers : o .workers ≤ most-workers
-  pub all-work : length (l .work) ≡ o .workers * stretchLength (length (s .sizes))
-  pub all-tallies : length (l .tallies) ≡ o .workers * tally-words
+-- buffers that the sweep takes, the tallies of as many workers as the program takes at most, and room for the answer
+pub record Printable (sizes marks tallies list out : List ℕ) : Type 0 where
+  pub some : 1 ≤ length sizes
+  pub fitting : Fitting sizes marks list out
+  pub sizes-fit : allFit sizes ≡ true
+  pub few-tallies : length tallies ≤ tallies-room
+
+-- the lines of an answer of the marker
+abbrev pub answerText : Marked → List ℕ → List ℕ → List ℕ → List ℕ
+answerText (Finished c) sizes marks tallies = countLines true c ++ wordLines tallies (length tallies / 4) ++ deadText true sizes (dead marks)
+answerText (Unfinished c) sizes marks tallies = countLines false c ++ wordLines tallies (length tallies / 4)
+answerText (Refused r) sizes marks tallies = refusalLine (number r)
 
 -- contents that were read, whole settings, and words for every W that the program takes
 pub record Orderly (s : Contents) (order : List ℕ) (l : Lent) : Type 0 where

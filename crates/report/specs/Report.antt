@@ -8,17 +8,19 @@ use Rattle.laws.specs.Words.{word}
 use Rattle.refusal.specs.declared.Refusal.the-variants.{Large, File}
 use Rattle.refusal.specs.Number.{number}
 use Rattle.refusal.specs.Order.{raise, first}
-use Rattle.catalogue.specs.Store.{Store, offsetsOf, targetsOf, startsOf}
+use Rattle.records.specs.Store.{Store, offsetsOf, targetsOf, startsOf}
 use Rattle.catalogue.specs.Answer.{headerRow}
-use Rattle.catalogue.specs.Reading.{catalogueFault, storeOf}
+use Rattle.records.specs.Reading.{catalogueFault, storeOf}
+use Rattle.records.specs.Reading.{catalogueFault, storeOf}
+use Rattle.desk.specs.declared.Settings.{Settings}
+use Rattle.desk.specs.Checks.{settingFault}
 use Rattle.machine.specs.Row.{Row}
 use Rattle.machine.specs.Tally.{Tally}
 use Rattle.machine.specs.Machine.{result}
-use Rattle.machine.specs.Call.{Call, settingFault, scheduleFault, final}
+use Rattle.machine.specs.Call.{Call, scheduleFault, final}
 use Rattle.sweep.specs.Sweep.{dead, sizesOf}
 use Rattle.report.specs.declared.Loaded.{Loaded}
 use Rattle.report.specs.declared.Loaded.the-variants.{Whole, TooLong, Unreadable}
-use Rattle.report.specs.declared.order.Order.{Order}
 use Rattle.report.specs.Limits.{most-store-bytes, most-order-bytes, order-length, most-objects, most-references, most-workers}
 use Rattle.report.specs.Lines.{refusalLine, countLines, tallyLines, deadLines, freedLine}
 
@@ -36,7 +38,7 @@ abbrev pub files : Loaded → List ℕ → Loaded → List ℕ → Files
 files s store o order = record { store-file = s; store = store; order-file = o; order = order }
 
 -- the settings: one byte is W, the two words of two bytes behind it are D and K
-abbrev pub orderOf : List ℕ → Order
+abbrev pub orderOf : List ℕ → Settings
 orderOf order = record { workers = word 1 order; batch = word 2 (drop 1 order); cutoff = word 2 (drop 3 order) }
 
 -- the schedule stands behind the settings
@@ -73,12 +75,12 @@ abbrev pub headerFault : List ℕ → ℕ
 headerFault store = countsFault (headerRow store .n) (headerRow store .m)
 
 -- the settings: outside their ranges, or W too large for the program
-abbrev pub orderFault : Order → ℕ
+abbrev pub orderFault : Settings → ℕ
 orderFault o =
     first (settingFault (o .workers) (o .batch) (o .cutoff)) (raise (ltb most-workers (o .workers)) (number Large) 0)
 
 -- what the call of the marker is refused for once the store is read
-abbrev pub callFault : Order → List ℕ → ℕ
+abbrev pub callFault : Settings → List ℕ → ℕ
 callFault o schedule = first (orderFault o) (scheduleFault (o .workers) schedule)
 
 -- the number of the first fault behind the header, or 0
@@ -109,7 +111,7 @@ abbrev pub contentsOf : Store → Contents
 contentsOf s = contents (offsetsOf s) (targetsOf s) (s .sizes) (startsOf s)
 
 -- the marker's call on it
-abbrev pub callOf : Contents → Order → List ℕ → Call
+abbrev pub callOf : Contents → Settings → List ℕ → Call
 callOf s o schedule =
     record {
       offsets = s .offsets;
@@ -132,14 +134,10 @@ resultText r ts sizes marks =
     countLines (r .finished) (r .counts) ++ tallyLines 0 ts ++ deadText (r .finished) sizes (dead marks)
 
 -- what is printed where the first fault has this number, 0 for none
-abbrev pub printed : ℕ → Contents → Order → List ℕ → List ℕ
+abbrev pub printed : ℕ → Contents → Settings → List ℕ → List ℕ
 printed zero s o schedule =
     resultText (result (final (callOf s o schedule))) (final (callOf s o schedule) .tallies) (s .sizes) (final (callOf s o schedule) .marks)
 printed (suc k) s o schedule = refusalLine (suc k)
-
--- what is printed where only the schedule can be refused
-abbrev pub collectionText : Contents → Order → List ℕ → List ℕ
-collectionText s o schedule = printed (scheduleFault (o .workers) schedule) s o schedule
 
 -- what is printed once the store is read
 abbrev pub orderText : Contents → List ℕ → List ℕ

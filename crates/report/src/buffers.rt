@@ -2,7 +2,7 @@
 use crate::limits;
 use crate::store;
 use catalogue::STARTS;
-ghost use Rattle.text.specs.Text.{Put};
+ghost use Rattle.slices.specs.Put.{Put};
 ghost use Rattle.report.specs.Report.{laterText};
 ghost use Rattle.report.specs.Ready.{Holding};
 

@@ -2,7 +2,7 @@
 use crate::lines;
 use sweep::Swept;
 ghost use mathlib.Core.Bool.{true};
-ghost use Rattle.text.specs.Text.{Put};
+ghost use Rattle.slices.specs.Put.{Put};
 ghost use Rattle.sweep.specs.Sweep.{dead};
 ghost use Rattle.report.specs.Report.{deadText};
 ghost use Rattle.report.specs.Ready.{Sweepable};

@@ -14,7 +14,7 @@ use limits::TEXT_ROOM;
 use refusal::Verdict;
 ghost use Prim.Native.Nat.{_≤_};
 ghost use lib.ListN.{length, take};
-ghost use Rattle.text.specs.Text.{Put};
+ghost use Rattle.slices.specs.Put.{Put};
 ghost use Rattle.report.specs.Limits.{text-room};
 ghost use Rattle.report.specs.Report.{files, programText};
 ghost use Rattle.report.specs.Ready.{Prints};

@@ -4,7 +4,7 @@ use machine::Counts;
 ghost use Prim.Native.Nat.{_+_, _*_, _/_, _≤_, _<_};
 ghost use mathlib.Core.List.{_++_};
 ghost use lib.ListN.{length};
-ghost use Rattle.text.specs.Text.{PutIn};
+ghost use Rattle.slices.specs.Put.{PutIn};
 ghost use Rattle.report.specs.Limits.{counts-room, tally-room, dead-room};
 ghost use Rattle.report.specs.Lines.{refusalLine, stateLine, foundLines, workerLines, countLines, tallyLine, tallyAt, wordLines, deadLine, deadLines, freedLine};
 ghost use Rattle.report.specs.Ready.{Below};

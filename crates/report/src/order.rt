@@ -1,5 +1,6 @@
 // The settings at the front of `order.run`.
 use crate::limits::MOST_WORKERS;
+use desk::Settings;
 use refusal::Refusal;
 use refusal::Verdict;
 ghost use mathlib.Core.Path.{_≡_};
@@ -9,19 +10,12 @@ ghost use Rattle.refusal.specs.Number.{numberOf};
 ghost use Rattle.report.specs.Limits.{order-length};
 ghost use Rattle.report.specs.Report.{orderOf, orderFault};
 
-// W, D and K.
-pub struct Order {
-    pub workers: u32,
-    pub batch: u32,
-    pub cutoff: u32,
-}
-
 // One byte, then two words of two bytes.
-pub fn order_of(order: &[u8]) -> Order
+pub fn order_of(order: &[u8]) -> Settings
     requires { ⌜ order-length ≤ length (now order) ⌝ }
     ensures { λ r. ⌜ r ≡ orderOf (now (order .entry)) ⌝ }
 {
-    Order {
+    Settings {
         workers: order[0] as u32,
         batch: slices::word2(order, 1) as u32,
         cutoff: slices::word2(order, 3) as u32,
@@ -29,14 +23,13 @@ pub fn order_of(order: &[u8]) -> Order
 }
 
 // Whether the settings are in their ranges, and W is one that the program takes.
-pub fn check(settings: Order) -> Verdict
+pub fn check(settings: Settings) -> Verdict
     ensures { λ r. ⌜ numberOf r ≡ orderFault settings ⌝ }
 {
-    let workers = settings.workers;
-    if marker::setting_outside(workers, settings.batch, settings.cutoff) {
+    if desk::settings_outside(settings) {
         return Verdict::Faulty(Refusal::Setting);
     }
-    if MOST_WORKERS < workers {
+    if MOST_WORKERS < settings.workers {
         return Verdict::Faulty(Refusal::Large);
     }
     Verdict::Fine

@@ -4,8 +4,9 @@ use crate::limits::ORDER_LENGTH;
 use crate::lines;
 use crate::order;
 use catalogue::Found;
+use desk::places;
 use refusal::Verdict;
-ghost use Rattle.text.specs.Text.{Put};
+ghost use Rattle.slices.specs.Put.{Put};
 ghost use Rattle.report.specs.Report.{contents, orderText, laterText};
 ghost use Rattle.report.specs.Ready.{lent, Orderly, Readable};
 
@@ -32,21 +33,20 @@ fn put_ordered(
         return lines::put_refusal(out, 0, refusal::number_of(refusal));
     }
     let workers = settings.workers as usize;
-    let words = workers * (2 * sizes.len() + 4);
-    let tallied = workers * machine::TALLY;
-    collection::put_collection(
+    let words = workers * places::stretch(sizes.len());
+    let tallied = workers * places::TALLY;
+    let counted = &mut tallies[..tallied];
+    let marked = marker::mark(
         offsets,
         targets,
-        sizes,
         starts,
         settings,
         &order[ORDER_LENGTH..],
         marks,
         &mut work[..words],
-        &mut tallies[..tallied],
-        list,
-        out,
-    )
+        counted,
+    );
+    collection::put_collection(marked, sizes, marks, counted, list, out)
 }
 
 // Reads the store into buffers of exactly its lengths, and collects in buffers that are long

@@ -2,178 +2,201 @@
 use mathlib.Core.Path.{_≡_, refl, ap, sym, _∙_, subst}
 use mathlib.Core.Bool.{Bool, true, false}
 use mathlib.Core.List.{List, _++_}
-use mathlib.Core.Logic.{_⊎_, ⊎-elim}
-use Prim.Native.Nat.{ℕ, zero, suc, _*_, _<_}
+use mathlib.Core.Logic.{⊎-elim}
+use Prim.Native.Nat.{ℕ, zero, suc, _*_}
 use native.Mathlib.Omega.{arith}
 use lib.ListN.{length, take, replicate}
-use borrow.Author.Tests.{not-false}
+use borrow.Author.Tests.{eqb-true, not-false}
 use Rattle.laws.specs.Decides.{Decides}
 use Rattle.laws.proofs.Test.{tested}
 use Rattle.refusal.specs.declared.Refusal.{Refusal}
 use Rattle.refusal.specs.declared.Verdict.{Verdict}
 use Rattle.refusal.specs.declared.Verdict.the-variants.{Fine, Faulty}
-use Rattle.refusal.specs.Number.{number, numberOf}
-use Rattle.refusal.specs.Order.{first}
+use Rattle.refusal.specs.Number.{number}
 use Rattle.refusal.proofs.None.{raise-none}
-use Rattle.refusal.proofs.Numbers.{numbered, when-fine, when-faulty}
+use Rattle.refusal.proofs.Numbers.{numbered, when-fine, when-faulty, first-found}
 use Rattle.graph.specs.Graph.{objects}
+use Rattle.desk.specs.Lengths.{savedLength}
 use Rattle.machine.specs.Row.{Row, refusedRow}
 use Rattle.machine.specs.Machine.{State, Entry, entries}
-use Rattle.machine.specs.Sound as state
 use Rattle.machine.specs.Accepted.{Accepted}
 use Rattle.machine.specs.Demand2.{outcome}
-use Rattle.machine.specs.Call.{Call, graphOf, settingOf, final}
-use Rattle.machine.proofs.Accept.{Checked, checked}
+use Rattle.machine.specs.Call.{Call, graphOf, settingOf, scheduleFits, final}
+use Rattle.machine.specs.Checked.{Checked}
+use Rattle.machine.proofs.Start.{sound, sound-turns}
+use Rattle.worker.specs.Registers.{block-words, register-words}
+use Rattle.turns.specs.declared.Setup.{Setup}
+use Rattle.turns.specs.declared.Progress.{Progress}
+use Rattle.turns.specs.Counting.{Countable}
+use Rattle.turns.specs.Held.{Memory, memory}
 use Rattle.marker.specs.declared.Marked.{Marked}
 use Rattle.marker.specs.declared.Marked.the-variants.{Refused}
-use Rattle.marker.specs.Stages.{setupOf, Faultless}
-use Rattle.marker.proofs.Stages.{collectable, registers-long}
-use Rattle.saved.specs.Layout.{savedLength, stateOf}
+use Rattle.marker.specs.Answer.{row, Finds}
+use Rattle.marker.specs.Stages.{scheduled, setupOf, Leaves, Runs, rowOf}
+use Rattle.marker.proofs.Stages.{registers-long, passed, row-left}
+use Rattle.saved.specs.Layout.{savedWords, stateOf}
 use Rattle.saved.specs.Sound.{SavedRun}
 use Rattle.saved.specs.Test.{saved?}
-use Rattle.saved.specs.Calls.{beginFault, savedFault, resumeFault, resumed}
+use Rattle.saved.specs.Calls.{savingLengths, savedFault, resumeFault, resumed}
 use Rattle.saved.proofs.Kept.{from-saved, to-saved, fresh-run}
 use Rattle.saved.proofs.Joined.{afresh, resumed-afresh, sound-finished}
 use Rattle.validate.specs.Checked as validated
-use Rattle.resume.specs.Answer.{Collects, Beginning, Resuming, BeginFaultless, ResumeFaultless, Answers, Begun, Continued}
-use Rattle.resume.proofs.Checking.{begin-none, starts-few}
+use Rattle.resume.specs.Answer.{Answers, Begun, Continued}
+use Rattle.resume.specs.Restoring.{Resumable}
+use Rattle.resume.specs.Saving.{Savable, Saves}
+use Rattle.resume.proofs.Finishing.{save-ready, state-saved}
 
 -- ---- what the checks establish
 
-module _ {c : Call} {marks work tallies w : List ℕ} (x : BeginFaultless c marks work tallies w) where
-  pub faultless : Faultless c marks work tallies
-  faultless = record { none = begin-none c (length marks) (length work) (length tallies) (length w) (x .none) .0 }
+-- as many saved words as there must be
+pub long : {c : Call} {marks work tallies saved : ℕ} → Checked c (savingLengths marks work tallies saved)
+    → saved ≡ savedLength (objects (graphOf c)) (c .workers)
+long x = eqb-true _ _ (not-false _ (x .saved-exact))
 
-  pub long : length w ≡ savedLength (objects (graphOf c)) (c .workers)
-  long = begin-none c (length marks) (length work) (length tallies) (length w) (x .none) .1
-
-  pub facts : Checked c (length marks) (length work) (length tallies)
-  facts = checked c (length marks) (length work) (length tallies) (faultless .none)
-
-  pub beginning : Beginning c (setupOf c) marks work tallies (take (9 * c .workers) (replicate 144 0)) w
-  beginning = record { collectable = collectable faultless; long = long }
-
-  pub testable : validated.Checked (graphOf c) (c .starts) (c .workers) (settingOf c) w
-  testable =
-      record {
-        accepted = facts .accepted;
-        objects-limit = facts .objects-limit;
-        references-limit = facts .references-limit;
-        starts-limit = starts-few c (length marks) (length work) (length tallies) (faultless .none);
-        long = long;
-      }
-
-abbrev pub resuming : {c : Call} {marks work tallies w : List ℕ} → ResumeFaultless c marks work tallies w
-    → Resuming (setupOf c) (c .offsets) (c .targets) (c .schedule) marks work tallies (take (9 * c .workers) (replicate 144 0)) w
-resuming {c} x =
+pub testable : {c : Call} {marks work tallies : ℕ} (w : List ℕ) → Checked c (savingLengths marks work tallies (length w))
+    → validated.Checked (graphOf c) (c .starts) (c .workers) (settingOf c) w
+testable w x =
     record {
-      resumable =
-          record {
-            graph = graphOf c;
-            starts = c .starts;
-            state = _;
-            accepted = facts (x .faultless) .accepted;
-            run = x .run;
-            targets-are = refl;
-            objects-limit = facts (x .faultless) .objects-limit;
-            references-limit = facts (x .faultless) .references-limit;
-            stretch-is = refl;
-            marks-long = facts (x .faultless) .marks-exact;
-            work-long = facts (x .faultless) .work-exact;
-            tallies-long = facts (x .faultless) .tallies-exact;
-            regs-long = registers-long (faultless (x .faultless));
-          };
-      graph-is = refl;
-      fits = facts (x .faultless) .schedule-fits;
+      accepted = x .accepted;
+      objects-limit = x .objects-limit;
+      references-limit = x .references-limit;
+      starts-limit = x .starts-few;
+      long = long x;
     }
 
 -- ---- answers
 
 module _ {c : Call} {s : State} {marks work tallies w : List ℕ} where
   -- a state that is reached
-  pub answers-fine : {k : ℕ} {r : Marked} {marks′ work′ tallies′ w′ : List ℕ} → k ≡ 0 → Collects (objects (graphOf c)) s r marks′ work′ tallies′ w′
+  pub answers-fine : {k : ℕ} {g : Setup} {marks′ work′ tallies′ regs′ : List ℕ} {p : Progress} {w′ : List ℕ} → k ≡ 0
+      → Leaves (graphOf c) g s (memory marks′ work′ tallies′ regs′ p) → w′ ≡ savedWords (objects (graphOf c)) s
+      → (r : Marked) → ((x : Countable tallies′ (g .workers) p) → row r ≡ rowOf p (x .tallies))
       → Answers c k s marks work tallies w r marks′ work′ tallies′ w′
-  answers-fine e d =
+  answers-fine e l d r f =
       rw e
-      (record { row-is = d .row-is; marks-are = d .marks-are; work-is = d .work-is; tallies-are = d .tallies-are; saved-is = d .saved-is })
+      (record { row-is = row-left l r f; marks-are = l .held .marks-are; work-is = l .work-is; tallies-are = l .held .tallies-are; saved-is = d })
 
   -- a refusal
   pub answers-refused : (cause : Refusal) (k : ℕ) → number cause ≡ k → Answers c k s marks work tallies w (Refused cause) marks work tallies w
   answers-refused cause zero e = absurd (omega (arith, numbered cause))
   answers-refused cause (suc k) e = record { row-is = ap refusedRow e; marks-are = refl; work-is = refl; tallies-are = refl; saved-is = refl }
 
--- ---- the test
-
-module _ {c : Call} {marks work tallies w : List ℕ} (x : BeginFaultless c marks work tallies w) where
-  abbrev Run : Type 0
-  Run = SavedRun (graphOf c) (c .starts) (c .workers) (settingOf c) w (stateOf (objects (graphOf c)) (c .workers) w)
-
-  module _ {r : Bool} (d : Decides r Run) where
-    pub test-right : r ≡ true → (savedFault c w ≡ 0) × ResumeFaultless c marks work tallies w
-    test-right e = (rw (to-saved (facts x .accepted) (d .right e)) refl, record { faultless = x; run = d .right e })
-
-    pub test-wrong : r ≡ false → 14 ≡ savedFault c w
-    test-wrong e =
-        ⊎-elim
-        (λ (t : saved? (graphOf c) (c .starts) (c .workers) (settingOf c) w ≡ true).
-        let z : true ≡ false = sym (d .known (from-saved (facts x .accepted) w (long x) t)) ∙ e in
-        let y : _≡_ {A = ℕ} 0 1 = cc in absurd (omega arith))
-        (λ (t : saved? (graphOf c) (c .starts) (c .workers) (settingOf c) w ≡ false). rw t refl)
-        (tested (saved? (graphOf c) (c .starts) (c .workers) (settingOf c) w))
-
 -- ---- the call that begins
 
-module _ {c : Call} {marks work tallies w : List ℕ} {v : Verdict}
-    (found : numberOf v ≡ beginFault c (length marks) (length work) (length tallies) (length w)) where
-  pub begin-found : v ≡ Fine → BeginFaultless c marks work tallies w
-  begin-found e = record { none = when-fine found e }
+-- a run that has ended can be saved
+module _ {c : Call} {marks work tallies : ℕ} {w : List ℕ} (x : Checked c (savingLengths marks work tallies (length w))) {μ : Memory} (l : Runs c μ) where
+  pub begin-savable : Savable (c .workers) μ w
+  begin-savable = save-ready (x .accepted) (sound (x .accepted) (entries (c .schedule))) l (x .objects-limit) (long x)
 
+  begin-saved : {w′ : List ℕ} → Saves (c .workers) μ w w′ → w′ ≡ savedWords (objects (graphOf c)) (final c)
+  begin-saved v = state-saved (x .accepted) (sound (x .accepted) (entries (c .schedule))) l (x .objects-limit) (long x) v
+
+module _ {c : Call} {marks work tallies w : List ℕ} {v : Verdict}
+    (found : Finds v c (savingLengths (length marks) (length work) (length tallies) (length w))) where
   pub begun-refused : {cause : Refusal} → v ≡ Faulty cause → Begun c marks work tallies w (Refused cause) marks work tallies w
   begun-refused {cause} e =
-      record {
-        answers = answers-refused cause (beginFault c (length marks) (length work) (length tallies) (length w)) (when-faulty found e);
-        afresh = λ z. absurd (omega (arith, numbered cause, when-faulty found e, z));
-      }
+      let k = when-faulty (found .number-is) e in
+      record { answers = answers-refused cause _ k; afresh = λ z. absurd (omega (arith, numbered cause, k, z)) }
 
-  pub begun-fine : v ≡ Fine → {r : Marked} {marks′ work′ tallies′ w′ : List ℕ} → Collects (objects (graphOf c)) (final c) r marks′ work′ tallies′ w′
+  pub begun-fine : v ≡ Fine → {marks′ work′ tallies′ regs′ : List ℕ} {p : Progress} → Runs c (memory marks′ work′ tallies′ regs′ p)
+      → {w′ : List ℕ} → Saves (c .workers) (memory marks′ work′ tallies′ regs′ p) w w′
+      → (r : Marked) → ((x : Countable tallies′ (c .workers) p) → row r ≡ rowOf p (x .tallies))
       → Begun c marks work tallies w r marks′ work′ tallies′ w′
-  begun-fine e d =
+  begun-fine e l v r f =
+      let x = passed found e in
+      let saved = begin-saved x l v in
       record {
-        answers = answers-fine (when-fine found e) d;
-        afresh = λ z. rw (d .row-is, d .marks-are, d .work-is, d .tallies-are, d .saved-is) (afresh c (entries (c .schedule)) (facts (begin-found e) .accepted));
+        answers = answers-fine (when-fine (found .number-is) e) l saved r f;
+        afresh = λ z.
+            rw (row-left l r f, l .held .marks-are, l .work-is, l .held .tallies-are, saved) (afresh c (entries (c .schedule)) (x .accepted));
       }
 
-  -- ---- the call that goes on
+-- ---- the call that goes on
 
+module _ {c : Call} {marks work tallies : ℕ} {w : List ℕ} (x : Checked c (savingLengths marks work tallies (length w))) where
+  -- the test of the saved words
+  pub test-right : SavedRun (graphOf c) (c .starts) (c .workers) (settingOf c) w (stateOf (objects (graphOf c)) (c .workers) w) → savedFault c w ≡ 0
+  test-right X = rw (to-saved (x .accepted) X) refl
+
+  pub test-wrong : {r : Bool}
+      → Decides r (SavedRun (graphOf c) (c .starts) (c .workers) (settingOf c) w (stateOf (objects (graphOf c)) (c .workers) w))
+      → r ≡ false → 14 ≡ savedFault c w
+  test-wrong d e =
+      ⊎-elim
+      (λ (t : saved? (graphOf c) (c .starts) (c .workers) (settingOf c) w ≡ true).
+      let z : true ≡ false = sym (d .known (from-saved (x .accepted) w (long x) t)) ∙ e in
+      let y : _≡_ {A = ℕ} 0 1 = cc in absurd (omega arith))
+      (λ (t : saved? (graphOf c) (c .starts) (c .workers) (settingOf c) w ≡ false). rw t refl)
+      (tested (saved? (graphOf c) (c .starts) (c .workers) (settingOf c) w))
+
+  module _ (X : SavedRun (graphOf c) (c .starts) (c .workers) (settingOf c) w (stateOf (objects (graphOf c)) (c .workers) w))
+      {g : Setup} (is : g ≡ setupOf c) where
+    pub resume-fits : scheduleFits (g .workers) (c .schedule) ≡ true
+    resume-fits = rw is (x .schedule-fits)
+
+    -- the state after the turns is the call's
+    pub resume-leaves : {μ : Memory} → Leaves (graphOf c) g (scheduled g (c .schedule) (graphOf c) (stateOf (objects (graphOf c)) (c .workers) w)) μ
+        → Leaves (graphOf c) (setupOf c) (resumed c w) μ
+    resume-leaves l = rw is at l
+
+  -- and that state can be saved
+  module _ (X : SavedRun (graphOf c) (c .starts) (c .workers) (settingOf c) w (stateOf (objects (graphOf c)) (c .workers) w)) {μ : Memory}
+      (l : Leaves (graphOf c) (setupOf c) (resumed c w) μ) where
+    pub resume-savable : Savable (c .workers) μ w
+    resume-savable = save-ready (x .accepted) (sound-turns (x .accepted) (X .saved .sound) (entries (c .schedule))) l (x .objects-limit) (long x)
+
+    pub resume-saved : {w′ : List ℕ} → Saves (c .workers) μ w w′ → w′ ≡ savedWords (objects (graphOf c)) (resumed c w)
+    resume-saved v = state-saved (x .accepted) (sound-turns (x .accepted) (X .saved .sound) (entries (c .schedule))) l (x .objects-limit) (long x) v
+
+-- words that pass it can be taken up, with the call's setup
+module _ {c : Call} {marks work tallies w : List ℕ} (x : Checked c (savingLengths (length marks) (length work) (length tallies) (length w)))
+    (X : SavedRun (graphOf c) (c .starts) (c .workers) (settingOf c) w (stateOf (objects (graphOf c)) (c .workers) w)) {g : Setup} (is : g ≡ setupOf c) where
+  unfoldable pub resumable : Resumable (c .targets) g w marks work tallies (take (block-words * c .workers) (replicate register-words 0))
+  resumable =
+      record {
+        graph = graphOf c;
+        starts = c .starts;
+        state = stateOf (objects (graphOf c)) (c .workers) w;
+        accepted = rw is (x .accepted);
+        run = rw is X;
+        targets-are = refl;
+        objects-limit = x .objects-limit;
+        references-limit = x .references-limit;
+        stretch-is = ap (λ (h : Setup). h .stretch) is;
+        marks-long = x .marks-exact;
+        work-long = rw is (x .work-exact);
+        tallies-long = rw is (x .tallies-exact);
+        regs-long = rw is (registers-long x);
+      }
+
+module _ {c : Call} {marks work tallies w : List ℕ} {v : Verdict}
+    (found : Finds v c (savingLengths (length marks) (length work) (length tallies) (length w))) where
   pub continued-refused : {cause : Refusal} → v ≡ Faulty cause → Continued c marks work tallies w (Refused cause) marks work tallies w
   unfolding resumeFault
   continued-refused {cause} e =
-      let k = when-faulty found e in
+      let k = when-faulty (found .number-is) e in
+      let i = first-found cause _ (savedFault c w) k in
       record {
-        answers = answers-refused cause (resumeFault c (length marks) (length work) (length tallies) w) (first-is (number cause) k (numbered cause));
+        answers = answers-refused cause _ i;
         exactly = λ z. absurd (omega (arith, numbered cause, k, z));
-        all-marked = λ z. absurd (omega (arith, numbered cause, first-is (number cause) k (numbered cause), z));
+        all-marked = λ z. absurd (omega (arith, numbered cause, i, z));
         afresh = λ xs q z. absurd (omega (arith, numbered cause, k, z));
       }
-    where
-      first-is : (i : ℕ) {k : ℕ} → i ≡ k → 0 < i → i ≡ first k (savedFault c w)
-      first-is zero e h = absurd (omega arith)
-      first-is (suc i) e h = rw (← e) refl
 
   module _ (e : v ≡ Fine) {r : Marked} {marks′ work′ tallies′ w′ : List ℕ}
       (d : Answers c (savedFault c w) (resumed c w) marks work tallies w r marks′ work′ tallies′ w′) where
     abbrev A : Accepted (graphOf c) (c .starts) (c .workers) (settingOf c)
-    A = facts (begin-found e) .accepted
+    A = passed found e .accepted
 
     same-fault : resumeFault c (length marks) (length work) (length tallies) w ≡ savedFault c w
     unfolding resumeFault
-    same-fault = rw (when-fine found e) refl
+    same-fault = rw (when-fine (found .number-is) e) refl
 
     passes : savedFault c w ≡ 0 → saved? (graphOf c) (c .starts) (c .workers) (settingOf c) w ≡ true
     passes z = not-false (saved? (graphOf c) (c .starts) (c .workers) (settingOf c) w) (raise-none _ 13 0 z .0)
 
     run-of : savedFault c w ≡ 0 → SavedRun (graphOf c) (c .starts) (c .workers) (settingOf c) w (stateOf (objects (graphOf c)) (c .workers) w)
-    run-of z = from-saved A w (long (begin-found e)) (passes z)
+    run-of z = from-saved A w (long (passed found e)) (passes z)
 
     no-fault : (s : State) → SavedRun (graphOf c) (c .starts) (c .workers) (settingOf c) w s → savedFault c w ≡ 0
     no-fault s X = rw (to-saved A X) refl

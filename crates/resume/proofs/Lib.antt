@@ -1,5 +1,4 @@
 pub mod Calling
-pub mod Checking
 pub mod Finishing
 pub mod Numbers
 pub mod Parts

@@ -8,10 +8,11 @@ use native.Mathlib.Nat.{mul-le-mul, mul-le-mul-right, suc-mul}
 use native.Mathlib.Omega.{arith}
 use lib.ListN.{length, getD, take, drop, replicate}
 use lib.Seq.{getD-append-add, getD-at, take-at}
-use Rattle.graph.specs.Graph.{Graph, objects, references, target}
+use Rattle.graph.specs.Graph.{Graph, objects}
+use Rattle.desk.specs.Lengths.{stretchLength}
 use Rattle.machine.specs.Run.{Run, run, carried, pairs}
-use Rattle.machine.specs.Machine.{Worker, idle, asking, denied, ended, given, busy, poll, look, claim, runsOf, carriedBy, stretchLength, stretch}
-use Rattle.machine.specs.Sound.{sinceOf}
+use Rattle.machine.specs.Machine.{Worker, idle, asking, denied, ended, given, busy, poll, look, claim, runsOf, carriedBy, stretch}
+use Rattle.machine.specs.Sound.{sinceOf, batchIn, Supplied}
 use Rattle.worker.specs.declared.registers.Block.{Block}
 use Rattle.worker.specs.Registers.{status-given, storeAt}
 use Rattle.worker.specs.Stretch.{topWith, Told}
@@ -19,7 +20,6 @@ use Rattle.worker.proofs.Blocks.{store-stored}
 use Rattle.worker.proofs.Pairs.{length-pairs}
 use Rattle.turns.specs.Held.{stretchAt, BlockIs, RestIs}
 use Rattle.saved.specs.Layout.{workerWords, runsIn}
-use Rattle.saved.specs.Sound.{batchIn, Supplied}
 use Rattle.saved.proofs.RoundTrip.{runs-stretch, stretch-length}
 use Rattle.resume.specs.declared.workers.Saved.{Saved}
 use Rattle.resume.specs.Workers.{listed, Measured, Restorable, SomeRestorable, Restores, savedAt, AllRestorable, Restored}

@@ -11,10 +11,12 @@ use Rattle.laws.specs.Sum.{sum}
 use Rattle.laws.proofs.Blocks.{laid-part}
 use Rattle.laws.proofs.Sum.{sum-share}
 use Rattle.graph.specs.Graph.{objects}
+use Rattle.desk.specs.Limits.{most-workers}
+use Rattle.desk.specs.Lengths.{stretchLength, counts-number, counts-place, workers-place, worker-words, tallies-place, marks-place, stretches-place, savedLength}
 use Rattle.machine.specs.declared.Counts.{Counts}
 use Rattle.machine.specs.Row.{countWords}
 use Rattle.machine.specs.Tally.{Tally, talliesWords}
-use Rattle.machine.specs.Machine.{State, Worker, idle, asking, denied, ended, given, busy, poll, look, claim, worker, stretchLength, stretch, memory as laidMemory}
+use Rattle.machine.specs.Machine.{State, Worker, idle, asking, denied, ended, given, busy, poll, look, claim, worker, stretch, memory as laidMemory}
 use Rattle.machine.specs.Sound.{sinceOf, Sound}
 use Rattle.machine.proofs.Facts.{runs-room, runs-limit, carried-limit, followed-limit, live-below}
 use Rattle.turns.specs.declared.Setup.{Setup}
@@ -23,9 +25,9 @@ use Rattle.turns.specs.declared.ring.Ring.{Ring}
 use Rattle.turns.specs.Ringing.{ringOf}
 use Rattle.turns.specs.Counting.{running?, countsOf}
 use Rattle.turns.specs.Held.{memory, stretchAt, settingOf, Holds}
-use Rattle.saved.specs.Layout.{workerWords, workersWords, savedWords, savedLength}
-use Rattle.saved.proofs.Kept.{run-sound, shaped}
-use Rattle.saved.proofs.RoundTrip.{Shaped, saved-length, records-told, tallies-told, tallies-count, counts-told, marks-told, stretches-told, stretches-long, workers-word, workers-long, stretch-length}
+use Rattle.saved.specs.Layout.{workerWords, workersWords, savedWords, Shaped}
+use Rattle.saved.proofs.Kept.{shaped}
+use Rattle.saved.proofs.RoundTrip.{saved-length, records-told, tallies-told, tallies-count, counts-told, marks-told, stretches-told, stretches-long, workers-word, workers-long, stretch-length}
 use Rattle.resume.specs.Copies.{numbersOf, Bytes}
 use Rattle.resume.specs.Restoring.{runs?, runningIn, ringFrom, Telling, progressFrom, partOf, Resumable}
 use Rattle.resume.specs.Workers.{listed, savedAt, Restorable, AllRestorable, AllRestored}
@@ -81,7 +83,7 @@ module _ {targets : List ℕ} {g : Setup} {w marks work tallies regs : List ℕ}
   s = x .state
 
   pub S : Sound (x .graph) (x .starts) (g .workers) (settingOf g) (x .state)
-  S = run-sound (x .accepted) (x .run)
+  S = x .run .saved .sound
 
   pub shape : Shaped (objects (x .graph)) (g .workers) (x .state)
   shape = shaped (x .accepted) S
@@ -89,42 +91,36 @@ module _ {targets : List ℕ} {g : Setup} {w marks work tallies regs : List ℕ}
   pub long : length w ≡ savedLength (objects (x .graph)) (g .workers)
   long = ap length (x .run .words-are) ∙ saved-length shape
 
-  pub few : g .workers ≤ 16
+  pub few : g .workers ≤ most-workers
   few = x .accepted .workers-limit
 
   -- ---- the parts
 
-  pub numbers-are : numbersOf (partOf 1 12 w) 6 ≡ countWords (x .state .counts)
-  numbers-are = rw (x .run .words-are, counts-told shape) (numbers-back (countWords (s .counts)) 6 refl)
+  pub numbers-are : numbersOf (partOf counts-place (2 * counts-number) w) counts-number ≡ countWords (x .state .counts)
+  numbers-are = rw (x .run .words-are, counts-told shape) (numbers-back (countWords (s .counts)) counts-number refl)
 
-  pub tallies-are : numbersOf (partOf (16 + 4 * g .workers) (2 * length tallies) w) (length tallies) ≡ talliesWords (x .state .tallies)
-  tallies-are =
+  pub tallies-are : {at : ℕ} → at ≡ tallies-place (g .workers) → numbersOf (partOf at (2 * length tallies) w) (length tallies) ≡ talliesWords (x .state .tallies)
+  tallies-are p =
       let e : 2 * length tallies ≡ 8 * W = omega (arith, x .tallies-long) in
-      rw (e, x .run .words-are, tallies-told shape) (numbers-back (talliesWords (s .tallies)) (length tallies) (omega (arith, tallies-count shape, x .tallies-long)))
+      rw (p, e, x .run .words-are, tallies-told shape) (numbers-back (talliesWords (s .tallies)) (length tallies) (omega (arith, tallies-count shape, x .tallies-long)))
 
-  pub marks-are : partOf (16 + 4 * g .workers + 8 * g .workers) (length marks) w ≡ x .state .marks
-  marks-are = rw (x .marks-long, x .run .words-are) (marks-told shape)
+  pub marks-are : {at : ℕ} → at ≡ marks-place (g .workers) → partOf at (length marks) w ≡ x .state .marks
+  marks-are p = rw (p, x .marks-long, x .run .words-are) (marks-told shape)
 
-  pub marks-bytes : Bytes (partOf (16 + 4 * g .workers + 8 * g .workers) (length marks) w)
-  marks-bytes i = rw marks-are (omega (arith, S .marks-limit i, few))
+  pub marks-bytes : {at : ℕ} → at ≡ marks-place (g .workers) → Bytes (partOf at (length marks) w)
+  marks-bytes p i = rw (marks-are p) (omega (arith, S .marks-limit i, few))
 
-  pub work-is : drop (16 + 4 * g .workers + 8 * g .workers + length marks) w ≡ laidMemory (objects (x .graph)) (x .state .workers)
-  work-is = rw (x .marks-long, x .run .words-are) (stretches-told shape)
+  -- the stretches stand last
+  pub work-room : length w - length work ≡ stretches-place (objects (x .graph)) (g .workers)
+  work-room = omega (arith, long, x .work-long, ap (λ (l : ℕ). W * l) (x .stretch-is))
 
-  -- the same behind marks that were taken
-  pub work-there : {marks′ : List ℕ} → marks′ ≡ partOf (16 + 4 * g .workers + 8 * g .workers) (length marks) w
-      → drop (16 + 4 * g .workers + 8 * g .workers + length marks′) w ≡ laidMemory (objects (x .graph)) (x .state .workers)
-  work-there e =
-      let m = ap length (e ∙ marks-are) ∙ S .marks-length ∙ sym (x .marks-long) in
-      ap (λ (k : ℕ). drop (16 + 4 * W + 8 * W + k) w) m ∙ work-is
-
-  pub work-room : {marks′ : List ℕ} → marks′ ≡ partOf (16 + 4 * g .workers + 8 * g .workers) (length marks) w
-      → 16 + 4 * g .workers + 8 * g .workers + length marks′ + length work ≡ length w
-  work-room e = omega (arith, long, ap length (e ∙ marks-are), S .marks-length, x .work-long, ap (λ (l : ℕ). W * l) (x .stretch-is))
+  pub work-is : drop (length w - length work) w ≡ laidMemory (objects (x .graph)) (x .state .workers)
+  work-is = rw (work-room, x .run .words-are) (stretches-told shape)
 
   -- the workers' words, as they are lent
-  pub records-lent : take (16 + 4 * g .workers - 16) (drop 16 w) ≡ workersWords (x .state .workers) (x .state .rested)
-  records-lent = part-lent w 16 (4 * W) ∙ rw (x .run .words-are) (records-told shape)
+  pub records-lent : {at : ℕ} → at ≡ tallies-place (g .workers)
+      → take (at - workers-place) (drop workers-place w) ≡ workersWords (x .state .workers) (x .state .rested)
+  records-lent p = rw p (part-lent w workers-place (worker-words * W) ∙ rw (x .run .words-are) (records-told shape))
 
   ring-told : ringFrom w ≡ ringOf (x .state .ring)
   unfolding savedWords laid
@@ -133,8 +129,8 @@ module _ {targets : List ℕ} {g : Setup} {w marks work tallies regs : List ℕ}
   -- ---- the registers
 
   module _ {words stretches : List ℕ} (ew : words ≡ workersWords (s .workers) (s .rested)) (es : stretches ≡ laidMemory n (s .workers)) where
-    word-at : (b k : ℕ) → b < W → k < 4 → getD words (4 * b + k) 0 ≡ getD (workerWords (worker s b) (getD (s .rested) b 0)) k 0
-    word-at b k h i = rw ew (workers-word (s .workers) (s .rested) b k (omega (arith, S .workers-length)) i)
+    word-at : (b k : ℕ) → b < W → k < worker-words → getD words (worker-words * b + k) 0 ≡ getD (workerWords (worker s b) (getD (s .rested) b 0)) k 0
+    word-at b k h i = rw ew (workers-word (s .workers) (s .rested) b k (omega (arith, S .sized .workers-length)) i)
 
     listed-are : (b : ℕ) → b < W → listed (savedAt words b) ≡ workerWords (worker s b) (getD (s .rested) b 0)
     listed-are b h =
@@ -148,7 +144,7 @@ module _ {targets : List ℕ} {g : Setup} {w marks work tallies regs : List ℕ}
     stretch-are b h =
         let here : stretchAt (stretchLength n) b (laidMemory n (s .workers)) ≡ stretch n (worker s b) =
         laid-part (stretch n) (stretchLength n) ended (s .workers) b (λ (i : ℕ). stretch-length n (worker s i) (runs-room (x .accepted) S i))
-        (omega (arith, S .workers-length)) in
+        (omega (arith, S .sized .workers-length)) in
         ap (λ (l : ℕ). stretchAt l b stretches) (x .stretch-is) ∙ ap (λ (l : List ℕ). stretchAt (stretchLength n) b l) es ∙ here
 
     one : (b : ℕ) → b < W
@@ -159,10 +155,10 @@ module _ {targets : List ℕ} {g : Setup} {w marks work tallies regs : List ℕ}
           stretch-is = stretch-are b h;
           targets-are = x .targets-are;
           few = x .objects-limit;
-          supplied = x .run .sound .supplied b;
+          supplied = S .supplied b;
           room = runs-room (x .accepted) S b;
           inside = runs-limit (x .accepted) S b;
-          batch-carried = x .run .sound .batch-carried b;
+          batch-carried = S .batch-carried b;
           carried-limit = omega (arith, carried-limit (x .accepted) S b, x .references-limit);
           since-limit =
               omega (
@@ -192,11 +188,11 @@ module _ {targets : List ℕ} {g : Setup} {w marks work tallies regs : List ℕ}
 
     pub running-is : runningIn words (g .workers) ≡ sum running? (x .state .workers)
     running-is =
-        rw (← S .workers-length)
+        rw (← S .sized .workers-length)
         (span-sum running? (λ (b : ℕ). runs? (getD words (4 * b) 0)) (s .workers) 0
         (λ b h.
         let z : 4 * b + 0 ≡ 4 * b = omega arith in
-        let first = rw z at (word-at b 0 (omega (arith, S .workers-length)) (omega arith)) in
+        let first = rw z at (word-at b 0 (omega (arith, S .sized .workers-length)) (omega arith)) in
         rw (zero-add b, first) (runs-told (worker s b) (getD (s .rested) b 0))))
 
     module _ {numbers tallies′ : List ℕ} (en : numbers ≡ countWords (s .counts)) (et : tallies′ ≡ talliesWords (s .tallies)) where
@@ -205,7 +201,7 @@ module _ {targets : List ℕ} {g : Setup} {w marks work tallies regs : List ℕ}
           record {
             tallies = s .tallies;
             words-are = et;
-            count = S .tallies-length;
+            count = S .sized .tallies-length;
             few = few;
             numbers-long = ap length en;
             small = rw en (omega (arith, live-below (x .accepted) S, S .live-is, x .objects-limit));

@@ -6,15 +6,18 @@ use native.Mathlib.Omega.{arith}
 use lib.ListN.{length, set, take, drop, length-append, length-set, length-drop}
 use lib.Seq.{take-at, take-all, take-suc-set}
 use Rattle.laws.specs.Blocks.{laid}
+use Rattle.desk.specs.Lengths.{stretchLength, tally-words, saved-form, counts-place, ring-place, workers-place, tallies-place, marks-place, stretches-place, savedLength}
 use Rattle.machine.specs.declared.Counts.{Counts}
 use Rattle.machine.specs.Row.{countWords}
 use Rattle.machine.specs.Tally.{talliesWords}
-use Rattle.machine.specs.Machine.{State, Worker, memory, stretchLength}
-use Rattle.saved.specs.Layout.{saved-form, twoWords, workersWords, savedWords, savedLength}
+use Rattle.machine.specs.Machine.{State, Worker, memory}
+use Rattle.saved.specs.Layout.{twoWords, workersWords, savedWords}
 use Rattle.saved.proofs.RoundTrip.{saved-length, workers-long, tallies-count, tallies-long, stretches-long}
 use Rattle.machine.proofs.Colours.{shade-limit, set-limit}
 use Rattle.turns.specs.declared.ring.Ring.{Ring}
 use Rattle.turns.specs.Ringing.{ringOf}
+use Rattle.turns.specs.Counting.{Countable, countsOf}
+use Rattle.turns.specs.Held.{Memory}
 use Rattle.resume.specs.Saving.{placed, Begins, headWords, Narrow, Savable}
 use lib.Pow.{pow-mono}
 
@@ -62,22 +65,24 @@ begins-word {n} {pre} {l} b x a at room =
     }
 
 -- the head: the form, the counts, and the ring's three words
-pub begins-counts : (w : List ℕ) {l numbers : List ℕ} (c : Counts) → 16 ≤ length w → l ≡ placed 1 (laid twoWords numbers) (set w 0 saved-form)
+pub begins-counts : (w : List ℕ) {l numbers : List ℕ} (c : Counts) → workers-place ≤ length w → l ≡ placed counts-place (laid twoWords numbers) (set w 0 saved-form)
     → numbers ≡ countWords c → Begins (length w) (saved-form ∷ laid twoWords (countWords c)) l
 unfolding laid
 begins-counts w c long e q =
-    begins-next (begins-one (length w) saved-form w refl (omega arith)) (laid twoWords (countWords c)) 1 e (ap (laid twoWords) q) refl (omega arith)
+    begins-next (begins-one (length w) saved-form w refl (omega arith)) (laid twoWords (countWords c)) counts-place e (ap (laid twoWords) q) refl (omega arith)
 
-pub begins-head : (w : List ℕ) {l numbers : List ℕ} (c : Counts) (r : Ring) → 16 ≤ length w → l ≡ placed 1 (laid twoWords numbers) (set w 0 saved-form)
-    → numbers ≡ countWords c → Begins (length w) (headWords c r) (set (set (set l 13 (r .holder)) 14 (r .token)) 15 (r .black))
+pub begins-head : (w : List ℕ) {l numbers : List ℕ} (c : Counts) (r : Ring) → workers-place ≤ length w → l ≡ placed counts-place (laid twoWords numbers) (set w 0 saved-form)
+    → numbers ≡ countWords c → Begins (length w) (headWords c r) (set (set (set l ring-place (r .holder)) (ring-place + 1) (r .token)) (ring-place + 2) (r .black))
 unfolding laid
 begins-head w c r long e q =
     let counted = begins-counts w c long e q in
-    begins-word (begins-word (begins-word counted (r .holder) 13 refl (omega arith)) (r .token) 14 refl (omega arith)) (r .black) 15 refl (omega arith)
+    let holder = begins-word counted (r .holder) ring-place refl (omega arith) in
+    let token = begins-word holder (r .token) (ring-place + 1) refl (omega arith) in
+    begins-word token (r .black) (ring-place + 2) refl (omega arith)
 
 -- ---- the parts, one after the other
 
-module _ {W : ℕ} {marks work tallies regs : List ℕ} {c : Counts} {r : Ring} {w : List ℕ} (x : Savable W marks work tallies regs c r w) where
+module _ {W : ℕ} {μ : Memory} {w : List ℕ} (x : Savable W μ w) where
   abbrev n : ℕ
   n = x .objects
 
@@ -100,33 +105,33 @@ module _ {W : ℕ} {marks work tallies regs : List ℕ} {c : Counts} {r : Ring} 
   A₃ = A₂ ++ s .marks
 
   -- where each part ends, with so many marks
-  pub marks-long : length marks ≡ n
-  marks-long = ap length (x .marks-are) ∙ x .shaped .marks-length
+  pub marks-long : length (μ .marks) ≡ n
+  marks-long = ap length (x .marks-are) ∙ x .shaped .sized .marks-length
 
-  pub tallies-many : length tallies ≡ 4 * W
+  pub tallies-many : length (μ .tallies) ≡ tally-words * W
   tallies-many = ap length (x .tallies-are) ∙ tallies-count (x .shaped)
 
-  pub work-long : length work ≡ W * stretchLength n
+  pub work-long : length (μ .work) ≡ W * stretchLength n
   work-long = ap length (x .work-is) ∙ stretches-long (x .shaped)
 
-  pub room : 16 + 4 * W + 8 * W + n ≤ length w
+  pub room : stretches-place n W ≤ length w
   room = omega (arith, x .long)
 
-  A₀-long : length A₀ ≡ 16
+  A₀-long : length A₀ ≡ workers-place
   unfolding laid
   A₀-long = refl
 
-  A₁-long : length A₁ ≡ 16 + 4 * W
+  A₁-long : length A₁ ≡ tallies-place W
   A₁-long = rw length-append (omega (arith, A₀-long, workers-long (x .shaped)))
 
-  A₂-long : length A₂ ≡ 16 + 4 * W + 8 * W
+  A₂-long : length A₂ ≡ marks-place W
   A₂-long = rw length-append (omega (arith, A₁-long, tallies-long (x .shaped)))
 
-  A₃-long : length A₃ ≡ 16 + 4 * W + 8 * W + n
-  A₃-long = rw length-append (omega (arith, A₂-long, x .shaped .marks-length))
+  A₃-long : length A₃ ≡ stretches-place n W
+  A₃-long = rw length-append (omega (arith, A₂-long, x .shaped .sized .marks-length))
 
   -- the ring's numbers are words
-  pub narrow : Narrow r
+  pub narrow : Narrow (μ .progress .ring)
   narrow =
       rw (x .ring-is)
       (record {
@@ -136,7 +141,7 @@ module _ {W : ℕ} {marks work tallies regs : List ℕ} {c : Counts} {r : Ring} 
             omega (
               arith,
               set-limit (s .ring .colours),
-              pow-mono {i = length (s .ring .colours)} {j = 32} (omega (arith, x .shaped .colours-length, x .few)),
+              pow-mono {i = length (s .ring .colours)} {j = 32} (omega (arith, x .shaped .sized .colours-length, x .few)),
             );
       })
 
@@ -146,20 +151,21 @@ module _ {W : ℕ} {marks work tallies regs : List ℕ} {c : Counts} {r : Ring} 
   pub same-long : {l : List ℕ} → l ≡ savedWords n s → length l ≡ length w
   same-long e = ap length e ∙ saved-length (x .shaped) ∙ sym (x .long)
 
-  module _ {l₁ : List ℕ} (b₁ : Begins (length w) (headWords c r) l₁) where
+  module _ {c : Counts} (made : (y : Countable (μ .tallies) W (μ .progress)) → c ≡ countsOf (μ .progress) (y .tallies)) {l₁ : List ℕ}
+      (b₁ : Begins (length w) (headWords c (μ .progress .ring)) l₁) where
     counted : Begins N A₀ l₁
     counted =
-        let heads : headWords c r ≡ A₀ =
-        ap (λ (d : Counts). headWords d r) (x .counts-are) ∙ ap (λ (q : Ring). headWords (s .counts) q) (x .ring-is) in
+        let heads : headWords c (μ .progress .ring) ≡ A₀ =
+        ap (λ (d : Counts). headWords d (μ .progress .ring)) (made (x .countable) ∙ x .counts-are) ∙ ap (λ (q : Ring). headWords (s .counts) q) (x .ring-is) in
         subst (λ (k : ℕ). Begins k A₀ l₁) (x .long) (subst (λ (pre : List ℕ). Begins (length w) pre l₁) heads b₁)
 
     pub long₁ : length l₁ ≡ length w
     long₁ = omega (arith, counted .long, x .long)
 
-    module _ {l₂ : List ℕ} (e₂ : l₂ ≡ placed 16 (workersWords (x .recorded .workers) (x .recorded .rested)) l₁) where
+    module _ {l₂ : List ℕ} (e₂ : l₂ ≡ placed workers-place (workersWords (x .recorded .workers) (x .recorded .rested)) l₁) where
       recorded : Begins N A₁ l₂
       recorded =
-          begins-next counted (workersWords (s .workers) (s .rested)) 16 e₂
+          begins-next counted (workersWords (s .workers) (s .rested)) workers-place e₂
           (ap (λ (ws : List Worker). workersWords ws (x .recorded .rested)) (x .workers-are)
           ∙ ap (λ (ns : List ℕ). workersWords (s .workers) ns) (x .rested-are))
           A₀-long
@@ -168,27 +174,26 @@ module _ {W : ℕ} {marks work tallies regs : List ℕ} {c : Counts} {r : Ring} 
       pub long₂ : length l₂ ≡ length w
       long₂ = omega (arith, recorded .long, x .long)
 
-      module _ {l₃ : List ℕ} (e₃ : l₃ ≡ placed (16 + 4 * W) (laid twoWords tallies) l₂) where
+      module _ {a₃ : ℕ} (p₃ : a₃ ≡ tallies-place W) {l₃ : List ℕ} (e₃ : l₃ ≡ placed a₃ (laid twoWords (μ .tallies)) l₂) where
         tallied : Begins N A₂ l₃
         tallied =
-            begins-next recorded (laid twoWords (talliesWords (s .tallies))) (16 + 4 * W) e₃ (ap (laid twoWords) (x .tallies-are)) A₁-long
-            (omega (arith, tallies-long (x .shaped)))
+            begins-next recorded (laid twoWords (talliesWords (s .tallies))) a₃ e₃ (ap (laid twoWords) (x .tallies-are)) (A₁-long ∙ sym p₃)
+            (omega (arith, p₃, tallies-long (x .shaped)))
 
         pub long₃ : length l₃ ≡ length w
         long₃ = omega (arith, tallied .long, x .long)
 
-        module _ {l₄ : List ℕ} (e₄ : l₄ ≡ placed (16 + 4 * W + 8 * W) marks l₃) where
+        module _ {a₄ : ℕ} (p₄ : a₄ ≡ marks-place W) {l₄ : List ℕ} (e₄ : l₄ ≡ placed a₄ (μ .marks) l₃) where
           marked : Begins N A₃ l₄
-          marked = begins-next tallied (s .marks) (16 + 4 * W + 8 * W) e₄ (x .marks-are) A₂-long (omega (arith, x .shaped .marks-length))
+          marked = begins-next tallied (s .marks) a₄ e₄ (x .marks-are) (A₂-long ∙ sym p₄) (omega (arith, p₄, x .shaped .sized .marks-length))
 
           pub long₄ : length l₄ ≡ length w
           long₄ = omega (arith, marked .long, x .long)
 
           -- the last part
-          pub all-written : {l₅ : List ℕ} → l₅ ≡ placed (16 + 4 * W + 8 * W + length marks) work l₄ → l₅ ≡ savedWords n s
+          pub all-written : {l₅ : List ℕ} → l₅ ≡ placed (length l₄ - length (μ .work)) (μ .work) l₄ → l₅ ≡ savedWords n s
           unfolding savedWords
           all-written e₅ =
-              let last = 16 + 4 * W + 8 * W + length marks in
-              let b = begins-next marked (memory n (s .workers)) last e₅ (x .work-is) (omega (arith, A₃-long, marks-long))
-              (omega (arith, marks-long, stretches-long (x .shaped))) in
+              let last : length l₄ - length (μ .work) ≡ stretches-place n W = omega (arith, long₄, x .long, work-long) in
+              let b = begins-next marked (memory n (s .workers)) _ e₅ (x .work-is) (A₃-long ∙ sym last) (omega (arith, last, stretches-long (x .shaped))) in
               begins-all b (rw length-append (omega (arith, A₃-long, stretches-long (x .shaped)))) ∙ simp append-assoc

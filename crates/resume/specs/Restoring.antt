@@ -1,5 +1,5 @@
 -- What taking a saved collection up asks and leaves: the words hold a sound state, and afterwards the memories hold it.
-use Prim.Native.Nat.{ℕ, _-_, _*_, _≤_, _<_, _^_}
+use Prim.Native.Nat.{ℕ, _+_, _-_, _*_, _≤_, _<_, _^_}
 use mathlib.Core.Path.{_≡_}
 use mathlib.Core.List.{List}
 use lib.ListN.{length, getD, take, drop}
@@ -9,10 +9,10 @@ use Rattle.laws.specs.Span.{span}
 use Rattle.laws.specs.Sum.{sum}
 use Rattle.graph.specs.Graph.{Graph, graph, objects, references}
 use Rattle.graph.specs.Limits.{most-objects, most-references}
-use Rattle.machine.specs.Row.{counts-number}
-use Rattle.machine.specs.Limits.{most-workers}
-use Rattle.machine.specs.Tally.{Tally, tally-words, talliesWords}
-use Rattle.machine.specs.Machine.{State, stretchLength}
+use Rattle.desk.specs.Lengths.{counts-number, tally-words, stretchLength, ring-place, worker-words}
+use Rattle.desk.specs.Limits.{most-workers}
+use Rattle.machine.specs.Tally.{Tally, talliesWords}
+use Rattle.machine.specs.Machine.{State}
 use Rattle.machine.specs.Accepted.{Accepted}
 use Rattle.worker.specs.Registers.{block-words, status-ended}
 use Rattle.turns.specs.declared.Setup.{Setup}
@@ -28,7 +28,7 @@ runs? status = pick (eqb status status-ended) 0 1
 
 -- how many of W workers have not ended, by their words
 abbrev pub runningIn : List ℕ → ℕ → ℕ
-runningIn words W = span (λ (b : ℕ). runs? (getD words (4 * b) 0)) 0 W
+runningIn words W = span (λ (b : ℕ). runs? (getD words (worker-words * b) 0)) 0 W
 
 -- six counts and the tallies of W workers, with no more claims won than marks set
 pub record Telling (numbers words : List ℕ) (W : ℕ) : Type 0 where
@@ -46,7 +46,7 @@ partOf at k l = take k (drop at l)
 
 -- the ring of saved words
 abbrev pub ringFrom : List ℕ → Ring
-ringFrom w = ringWith (getD w 13 0) (getD w 14 0) (getD w 15 0)
+ringFrom w = ringWith (getD w ring-place 0) (getD w (ring-place + 1) 0) (getD w (ring-place + 2) 0)
 
 -- how far the collection is
 abbrev pub progressFrom : List ℕ → List Tally → ℕ → Ring → Progress

@@ -4,16 +4,19 @@ use mathlib.Core.Path.{_≡_}
 use mathlib.Core.List.{List, [], _∷_, _++_}
 use lib.ListN.{length, take, drop}
 use Rattle.graph.specs.Limits.{most-objects}
+use Rattle.desk.specs.Limits.{most-workers}
+use Rattle.desk.specs.Lengths.{saved-form, savedLength}
 use Rattle.machine.specs.declared.Counts.{Counts}
 use Rattle.laws.specs.Blocks.{laid}
 use Rattle.machine.specs.Row.{countWords}
-use Rattle.machine.specs.Limits.{most-workers}
 use Rattle.machine.specs.Tally.{talliesWords}
-use Rattle.machine.specs.Machine.{State, memory}
-use Rattle.saved.specs.Layout.{saved-form, twoWords, savedWords, savedLength}
+use Rattle.machine.specs.Machine.{State}
+use Rattle.saved.specs.Layout.{twoWords, savedWords, Shaped}
 use Rattle.turns.specs.declared.ring.Ring.{Ring}
 use Rattle.turns.specs.Ringing.{ringOf}
-use Rattle.saved.proofs.RoundTrip.{Shaped}
+use Rattle.machine.specs.Machine as machine
+use Rattle.turns.specs.Counting.{Countable, countsOf}
+use Rattle.turns.specs.Held.{Memory}
 use Rattle.resume.specs.Workers.{Recorded}
 
 -- the list with a part written from a place on
@@ -35,23 +38,24 @@ pub record Narrow (r : Ring) : Type 0 where
   pub token : r .token < 2 ^ 32
   pub black : r .black < 2 ^ 32
 
--- the buffers, the registers, the ring and the counts are those of a state, and there is room for its words
-pub record Savable (W : ℕ) (marks work tallies regs : List ℕ) (c : Counts) (r : Ring) (w : List ℕ) : Type 0 where
+-- the buffers, the registers and the progress are those of a state, and there is room for its words
+pub record Savable (W : ℕ) (μ : Memory) (w : List ℕ) : Type 0 where
   pub objects : ℕ
   pub state : State
   pub few : W ≤ most-workers
   pub objects-limit : objects ≤ most-objects
   pub shaped : Shaped objects W state
   pub long : length w ≡ savedLength objects W
-  pub marks-are : marks ≡ state .marks
-  pub work-is : work ≡ memory objects (state .workers)
-  pub tallies-are : tallies ≡ talliesWords (state .tallies)
-  pub counts-are : c ≡ state .counts
-  pub ring-is : r ≡ ringOf (state .ring)
+  pub marks-are : μ .marks ≡ state .marks
+  pub work-is : μ .work ≡ machine.memory objects (state .workers)
+  pub tallies-are : μ .tallies ≡ talliesWords (state .tallies)
+  pub countable : Countable (μ .tallies) W (μ .progress)
+  pub counts-are : countsOf (μ .progress) (countable .tallies) ≡ state .counts
+  pub ring-is : μ .progress .ring ≡ ringOf (state .ring)
   pub holder-low : state .ring .holder < W
-  pub recorded : Recorded regs W
+  pub recorded : Recorded (μ .regs) W
   pub workers-are : recorded .workers ≡ state .workers
   pub rested-are : recorded .rested ≡ state .rested
 
-abbrev pub Saves : ℕ → List ℕ → List ℕ → List ℕ → List ℕ → Counts → Ring → List ℕ → List ℕ → Type 0
-Saves W marks work tallies regs c r w w′ = (x : Savable W marks work tallies regs c r w) → w′ ≡ savedWords (x .objects) (x .state)
+abbrev pub Saves : ℕ → Memory → List ℕ → List ℕ → Type 0
+Saves W μ w w′ = (x : Savable W μ w) → w′ ≡ savedWords (x .objects) (x .state)

@@ -8,16 +8,15 @@ use Rattle.laws.specs.Choice.{pick}
 use Rattle.laws.specs.Every.{Every}
 use Rattle.graph.specs.Graph.{Graph, objects}
 use Rattle.graph.specs.Limits.{most-objects, most-references}
-use Rattle.machine.specs.Limits.{most-workers}
+use Rattle.desk.specs.Limits.{most-workers}
+use Rattle.desk.specs.Lengths.{stretchLength, worker-words}
 use Rattle.machine.specs.Run.{carried}
-use Rattle.machine.specs.Machine.{Worker, ended, runsOf, carriedBy, stretchLength, stretch}
-use Rattle.machine.specs.Sound.{sinceOf}
-use Rattle.machine.proofs.Facts.{InTargets}
+use Rattle.machine.specs.Machine.{Worker, ended, runsOf, carriedBy, stretch}
+use Rattle.machine.specs.Sound.{sinceOf, InTargets, batchIn, Supplied}
 use Rattle.worker.specs.declared.registers.Block.{Block}
 use Rattle.worker.specs.Registers.{blockAt, block-words, status-poll}
 use Rattle.turns.specs.Held.{stretchAt, BlockIs, RestIs}
 use Rattle.saved.specs.Layout.{workerWords, workersWords, runsIn}
-use Rattle.saved.specs.Sound.{batchIn, Supplied}
 use Rattle.resume.specs.declared.workers.Saved.{Saved}
 use Rattle.resume.specs.declared.workers.Extent.{Extent}
 
@@ -83,7 +82,8 @@ Restores targets s w r = (G : Graph) (u : Worker) (n : ℕ) → Restorable G u n
 
 -- the saved words of worker b
 abbrev pub savedAt : List ℕ → ℕ → Saved
-savedAt words b = savedWith (getD words (4 * b) 0) (getD words (4 * b + 1) 0) (getD words (4 * b + 2) 0) (getD words (4 * b + 3) 0)
+savedAt words b =
+    let at = worker-words * b in savedWith (getD words at 0) (getD words (at + 1) 0) (getD words (at + 2) 0) (getD words (at + 3) 0)
 
 -- the saved words and stretches of W workers, and registers for them
 pub record AllRestorable (targets words stretches regs : List ℕ) (W L : ℕ) : Type 0 where
@@ -92,7 +92,7 @@ pub record AllRestorable (targets words stretches regs : List ℕ) (W L : ℕ) :
   pub rested : List ℕ
   pub few : W ≤ most-workers
   pub small : L ≤ stretchLength most-objects
-  pub words-long : length words ≡ 4 * W
+  pub words-long : length words ≡ worker-words * W
   pub stretches-long : length stretches ≡ W * L
   pub regs-long : length regs ≡ block-words * W
   pub each : (b : ℕ) → b < W

@@ -1,15 +1,17 @@
 // A collection from saved words: marks, stretches, tallies and registers, and how far it is.
 use crate::words;
 use crate::workers;
+use desk::places;
 use turns::Progress;
 use turns::Setup;
 use turns::counts;
 use turns::ring::Ring;
 use worker::registers;
 ghost use mathlib.Core.Path.{_≡_};
-ghost use Prim.Native.Nat.{_+_, _*_, _≤_};
+ghost use Prim.Native.Nat.{_+_, _-_, _*_, _≤_};
 ghost use lib.ListN.{length, drop};
-ghost use Rattle.machine.specs.Limits.{most-workers};
+ghost use Rattle.desk.specs.Limits.{most-workers};
+ghost use Rattle.desk.specs.Lengths.{counts-number, counts-place, ring-place, workers-place, worker-words};
 ghost use Rattle.resume.specs.Restoring.{runs?, runningIn, ringFrom, Telling, progressFrom, partOf, Resumable, Resumes};
 ghost use Rattle.resume.specs.Copies.{numbersOf, Bytes};
 
@@ -25,12 +27,12 @@ fn runs(status: u32) -> u64
 
 // How many of the workers whose words these are have not ended.
 fn running(words: &[u32], workers: u32) -> u64
-    requires { ⌜ (length (now words) ≡ 4 * workers) × (workers ≤ most-workers) ⌝ }
+    requires { ⌜ (length (now words) ≡ worker-words * workers) × (workers ≤ most-workers) ⌝ }
     ensures { λ r. ⌜ r ≡ runningIn (now (words .entry)) workers ⌝ }
 {
     let mut count: u64 = 0;
     for b in 0..workers {
-        count += runs(words[4 * b as usize]);
+        count += runs(words[places::WORKER * b as usize]);
     }
     count
 }
@@ -52,22 +54,22 @@ fn progress(numbers: &[u64], tallies: &[u64], workers: u32, running: u64, ring: 
 
 // The token ring.
 fn ring_from(saved: &[u32]) -> Ring
-    requires { ⌜ 16 ≤ length (now saved) ⌝ }
+    requires { ⌜ workers-place ≤ length (now saved) ⌝ }
     ensures { λ r. ⌜ r ≡ ringFrom (now (saved .entry)) ⌝ }
 {
     Ring {
-        holder: saved[13] as u64,
-        token: saved[14] as u64,
-        black: saved[15] as u64,
+        holder: saved[places::RING] as u64,
+        token: saved[places::RING + 1] as u64,
+        black: saved[places::RING + 2] as u64,
     }
 }
 
-// The six counts.
+// The counts.
 fn counts_from(saved: &[u32], numbers: &mut [u64])
-    requires { ⌜ (13 ≤ length (now saved)) × (length (now numbers) ≡ 6) ⌝ }
-    ensures { λ _. ⌜ now (numbers .exit) ≡ numbersOf (partOf 1 12 (now (saved .entry))) 6 ⌝ }
+    requires { ⌜ (ring-place ≤ length (now saved)) × (length (now numbers) ≡ counts-number) ⌝ }
+    ensures { λ _. ⌜ now (numbers .exit) ≡ numbersOf (partOf counts-place (2 * counts-number) (now (saved .entry))) counts-number ⌝ }
 {
-    words::take_numbers(&saved[1..13], numbers);
+    words::take_numbers(&saved[places::COUNTS_PLACE..places::RING], numbers);
 }
 
 // The tallies, from a place on.
@@ -88,11 +90,12 @@ fn marks_from(saved: &[u32], at: usize, marks: &mut [u8])
     words::take_bytes(&saved[at..end], marks);
 }
 
-// The stretches, up to the end.
-fn work_from(saved: &[u32], at: usize, work: &mut [u32])
-    requires { ⌜ at + length (now work) ≡ length (now saved) ⌝ }
-    ensures { λ _. ⌜ now (work .exit) ≡ drop at (now (saved .entry)) ⌝ }
+// The stretches, which stand last.
+fn work_from(saved: &[u32], work: &mut [u32])
+    requires { ⌜ length (now work) ≤ length (now saved) ⌝ }
+    ensures { λ _. ⌜ now (work .exit) ≡ drop (length (now (saved .entry)) - length (now (work .entry))) (now (saved .entry)) ⌝ }
 {
+    let at = saved.len() - work.len();
     words::copy(&saved[at..], work);
 }
 
@@ -110,15 +113,20 @@ pub fn restore(
     ensures { λ p. ⌜ Resumes (now (targets .entry)) setup (now (saved .entry)) (now (marks .entry)) (now (work .entry)) (now (tallies .entry)) (now (regs .entry))
         (now (marks .exit)) (now (work .exit)) (now (tallies .exit)) (now (regs .exit)) p ⌝ }
 {
-    let w = setup.workers;
-    let tallies_place = 16 + 4 * w as usize;
-    let marks_place = tallies_place + 8 * w as usize;
-    let mut numbers = [0u64; 6];
+    let workers = setup.workers;
+    let tallies_place = places::tallies(workers);
+    let mut numbers = [0u64; places::COUNTS];
     counts_from(saved, &mut numbers);
     tallies_from(saved, tallies_place, tallies);
-    marks_from(saved, marks_place, marks);
-    work_from(saved, marks_place + marks.len(), work);
-    let words = &saved[16..tallies_place];
-    workers::take_workers(targets, words, work, w, setup.stretch, regs);
-    progress(&numbers, tallies, w, running(words, w), ring_from(saved))
+    marks_from(saved, places::marks(workers), marks);
+    work_from(saved, work);
+    let words = &saved[places::WORKERS..tallies_place];
+    workers::take_workers(targets, words, work, workers, setup.stretch, regs);
+    progress(
+        &numbers,
+        tallies,
+        workers,
+        running(words, workers),
+        ring_from(saved),
+    )
 }

@@ -1,10 +1,12 @@
 // Each worker's words: from its block of the registers to the saved words, and back.
+use desk::places;
 use worker::registers;
 use worker::registers::Block;
 ghost use mathlib.Core.Path.{_≡_};
 ghost use Prim.Native.Nat.{_+_, _*_, _≤_, _<_, _^_};
 ghost use lib.ListN.{length};
-ghost use Rattle.machine.specs.Limits.{most-workers};
+ghost use Rattle.desk.specs.Limits.{most-workers};
+ghost use Rattle.desk.specs.Lengths.{worker-words};
 ghost use Rattle.machine.specs.Run.{carried};
 ghost use Rattle.worker.specs.Registers.{status-poll};
 ghost use Rattle.saved.specs.Layout.{runsIn};
@@ -43,12 +45,12 @@ fn saved_of(r: Block) -> Saved
 
 // Writes those of all workers.
 pub fn put_workers(regs: &[u32], workers: u32, out: &mut [u32])
-    requires { ⌜ Recorded (now regs) workers × (length (now out) ≡ 4 * workers) ⌝ }
+    requires { ⌜ Recorded (now regs) workers × (length (now out) ≡ worker-words * workers) ⌝ }
     ensures { λ _. ⌜ Records (now (regs .entry)) workers (now (out .exit)) ⌝ }
 {
     for b in 0..workers {
         let w = saved_of(registers::load(regs, b));
-        let at = 4 * b as usize;
+        let at = places::WORKER * b as usize;
         out[at] = w.status;
         out[at + 1] = w.cell;
         out[at + 2] = w.since;
@@ -125,10 +127,10 @@ fn block_of(targets: &[u32], s: &[u32], w: Saved) -> Block
 
 // The saved words of worker b.
 fn saved_at(words: &[u32], b: u32) -> Saved
-    requires { ⌜ (4 * b + 4 ≤ length (now words)) × (b < most-workers) ⌝ }
+    requires { ⌜ (worker-words * b + worker-words ≤ length (now words)) × (b < most-workers) ⌝ }
     ensures { λ w. ⌜ w ≡ savedAt (now (words .entry)) b ⌝ }
 {
-    let at = 4 * b as usize;
+    let at = places::WORKER * b as usize;
     Saved {
         status: words[at],
         cell: words[at + 1],

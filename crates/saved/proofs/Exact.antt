@@ -24,10 +24,10 @@ use Rattle.machine.specs.Ring.{blackBelow}
 use Rattle.machine.specs.Run.{Run, run, carried}
 use Rattle.machine.specs.Tally.{noTally}
 use Rattle.machine.specs.Machine.{Setting, State, Worker, idle, asking, denied, ended, given, busy, empty, from, worker, runsOf, carriedBy, carries?, carriedAll, live, stopped}
-use Rattle.machine.specs.Sound.{Marked, Within, Whole, WholeButLast, WholeInside, holds, waits, sinceOf, heldSum, carriedTimes, followedSum, handedSum, wonSum, distinctStarts}
+use Rattle.machine.specs.Sound.{Marked, Within, Whole, WholeButLast, WholeInside, batchIn, Supplied, holds, waits, sinceOf, heldSum, carriedTimes, followedSum, handedSum, wonSum, distinctStarts, Sized}
 use Rattle.machine.specs.Demand3.{movedBound, handedBound}
 use Rattle.machine.proofs.Runs.{within-source}
-use Rattle.saved.specs.Sound.{batchIn, Supplied, SavedSound}
+use Rattle.saved.specs.Sound.{SavedSound}
 use Rattle.saved.specs.Test.{marked?, withinAt?, wholeAt?, within?, whole?, wholeButLast?, wholeInside?, leaves?, targetMarked?, supplied?, cellKnown?, claims?, clear?, conditions, sound?}
 
 -- one test holds, and those behind it
@@ -153,10 +153,10 @@ none-known W (busy (from b) n p rs) h =
 
 -- ---- the state
 
-module _ {G : Graph} (F : Formed G) (starts : List ℕ) (W : ℕ) (g : Setting) (s : State) (long : length (s .workers) ≡ W) where
+module _ {G : Graph} (F : Formed G) (starts : List ℕ) (W : ℕ) (g : Setting) (s : State) (z : Sized (objects G) W s) where
   -- a worker that is not there has ended
   beyond : (b : ℕ) → W ≤ b → worker s b ≡ ended
-  beyond b h = past (s .workers) b (omega (arith, long))
+  beyond b h = past (s .workers) b (omega (arith, z .workers-length))
     where
       past : (l : List Worker) (i : ℕ) → length l ≤ i → getD l i ended ≡ ended
       past [] i q = refl
@@ -315,41 +315,46 @@ module _ {G : Graph} (F : Formed G) (starts : List ℕ) (W : ℕ) (g : Setting) 
       let t = all-at (λ (t : Bool). t) true refl (conditions G starts W g s) h in
       let within = within-each (t 4) in
       record {
-        marks-limit = λ (v : ℕ). leb-true (getD (s .marks) v 0) W (all-at (λ (x : ℕ). leb x W) 0 (le-leb 0 W (omega arith)) (s .marks) (t 0) v);
-        starts-marked = λ (v : ℕ) (p : 0 < sum (hit v) starts). ltb-true 0 (getD (s .marks) v 0) (all-hit (marked? (s .marks)) starts (t 1) v p);
-        live-is = eqb-true (s .counts .live) (live (s .marks)) (t 2);
-        carrying-is = eqb-true (s .counts .carrying) (sum carries? (s .workers)) (t 3);
-        runs-within = within;
-        runs-whole = λ (b : ℕ). inside-from G (runsOf (worker s b)) (at-workers (λ (w : Worker). wholeInside? G (runsOf w)) refl (t 5) b);
-        carried-once = once-from within (t 6);
-        total = eqb-true (s .counts .followed + carriedAll s + leavingUnmarked G (s .marks)) (references G) (t 7);
-        targets-marked = targets-from (t 8);
-        supplied = λ (b : ℕ). supplied-from (worker s b) (at-workers supplied? refl (t 9) b);
-        cells = cells-from (t 10) (t 11);
-        batch-limit = λ (b : ℕ).
-            leb-true (batchIn (worker s b)) (g .batch) (at-workers (λ (w : Worker). leb (batchIn w) (g .batch)) (le-leb 0 (g .batch) (omega arith)) (t 12) b);
-        batch-carried = λ (b : ℕ).
-            leb-true (batchIn (worker s b)) (carriedBy (worker s b)) (at-workers (λ (w : Worker). leb (batchIn w) (carriedBy w)) refl (t 13) b);
-        stopped-empty = stopped-from (t 14);
+        sound =
+            record {
+              sized = z;
+              marks-limit = λ (v : ℕ). leb-true (getD (s .marks) v 0) W (all-at (λ (x : ℕ). leb x W) 0 (le-leb 0 W (omega arith)) (s .marks) (t 0) v);
+              starts-marked = λ (v : ℕ) (p : 0 < sum (hit v) starts). ltb-true 0 (getD (s .marks) v 0) (all-hit (marked? (s .marks)) starts (t 1) v p);
+              live-is = eqb-true (s .counts .live) (live (s .marks)) (t 2);
+              carrying-is = eqb-true (s .counts .carrying) (sum carries? (s .workers)) (t 3);
+              runs-within = within;
+              runs-whole = λ (b : ℕ). inside-from G (runsOf (worker s b)) (at-workers (λ (w : Worker). wholeInside? G (runsOf w)) refl (t 5) b);
+              carried-once = once-from within (t 6);
+              total = eqb-true (s .counts .followed + carriedAll s + leavingUnmarked G (s .marks)) (references G) (t 7);
+              targets-marked = targets-from (t 8);
+              supplied = λ (b : ℕ). supplied-from (worker s b) (at-workers supplied? refl (t 9) b);
+              cells = cells-from (t 10) (t 11);
+              batch-limit = λ (b : ℕ).
+                  leb-true (batchIn (worker s b)) (g .batch) (at-workers (λ (w : Worker). leb (batchIn w) (g .batch)) (le-leb 0 (g .batch) (omega arith)) (t 12) b);
+              batch-carried = λ (b : ℕ).
+                  leb-true (batchIn (worker s b)) (carriedBy (worker s b)) (at-workers (λ (w : Worker). leb (batchIn w) (carriedBy w)) refl (t 13) b);
+              stopped-empty = stopped-from (t 14);
+              since-followed = leb-true (sum sinceOf (s .workers) + sum itself (s .rested)) (s .counts .followed) (t 17);
+              rested-carrying = rested-from (t 18);
+              refused-moved = leb-true (s .counts .refused) (s .counts .moved) (t 19);
+              tallies-followed = eqb-true (followedSum s) (s .counts .followed) (t 20);
+              tallies-handed = eqb-true (handedSum s) (s .counts .handed) (t 21);
+              tallies-won = eqb-true (wonSum s + distinctStarts G starts) (s .counts .live) (t 22);
+              tallies-claims = λ (b : ℕ).
+                  let y = getD (s .tallies) b noTally in leb-true (y .won + y .lost) (y .followed) (all-at claims? noTally refl (s .tallies) (t 23) b);
+              holder-below = ltb-true (s .ring .holder) W (t 24);
+              above-holder = above-from (t 25);
+              first-ended = first-from (t 26);
+            };
         moved-limit = leb-true (s .counts .moved) (movedBound (references G) W) (t 15);
         handed-limit = leb-true (s .counts .handed * g .cutoff) (handedBound (references G)) (t 16);
-        since-followed = leb-true (sum sinceOf (s .workers) + sum itself (s .rested)) (s .counts .followed) (t 17);
-        rested-carrying = rested-from (t 18);
-        refused-moved = leb-true (s .counts .refused) (s .counts .moved) (t 19);
-        tallies-followed = eqb-true (followedSum s) (s .counts .followed) (t 20);
-        tallies-handed = eqb-true (handedSum s) (s .counts .handed) (t 21);
-        tallies-won = eqb-true (wonSum s + distinctStarts G starts) (s .counts .live) (t 22);
-        tallies-claims = λ (b : ℕ).
-            let y = getD (s .tallies) b noTally in leb-true (y .won + y .lost) (y .followed) (all-at claims? noTally refl (s .tallies) (t 23) b);
-        holder-below = ltb-true (s .ring .holder) W (t 24);
-        above-holder = above-from (t 25);
-        first-ended = first-from (t 26);
       }
 
   -- and the conditions the test
   pub to-test : SavedSound G starts W g s → sound? G starts W g s ≡ true
   unfolding sound? conditions
-  to-test S =
+  to-test X =
+      let S = X .sound in
       at-all (λ (x : ℕ). leb x W) 0 (s .marks) (λ (v : ℕ). le-leb (getD (s .marks) v 0) W (S .marks-limit v))
       & hit-all (marked? (s .marks)) starts (λ (v : ℕ) (p : 0 < sum (hit v) starts). lt-ltb 0 (getD (s .marks) v 0) (S .starts-marked v p))
       & eq-eqb (s .counts .live) (live (s .marks)) (S .live-is)
@@ -368,8 +373,8 @@ module _ {G : Graph} (F : Formed G) (starts : List ℕ) (W : ℕ) (g : Setting) 
       & at-all (λ (w : Worker). leb (batchIn w) (carriedBy w)) ended (s .workers)
       (λ (b : ℕ). le-leb (batchIn (worker s b)) (carriedBy (worker s b)) (S .batch-carried b))
       & stopped-to (S .stopped-empty)
-      & le-leb (s .counts .moved) (movedBound (references G) W) (S .moved-limit)
-      & le-leb (s .counts .handed * g .cutoff) (handedBound (references G)) (S .handed-limit)
+      & le-leb (s .counts .moved) (movedBound (references G) W) (X .moved-limit)
+      & le-leb (s .counts .handed * g .cutoff) (handedBound (references G)) (X .handed-limit)
       & le-leb (sum sinceOf (s .workers) + sum itself (s .rested)) (s .counts .followed) (S .since-followed)
       & rested-to (S .rested-carrying)
       & le-leb (s .counts .refused) (s .counts .moved) (S .refused-moved)

@@ -1,18 +1,17 @@
 -- Calls in a row are one call: a schedule that is cut into parts and taken call by call leads to what the whole schedule leads to.
 use mathlib.Core.Path.{_≡_, refl, ap, sym, _∙_}
-use mathlib.Core.Bool.{Bool, true, false}
+use mathlib.Core.Bool.{true}
 use mathlib.Core.List.{List, [], _∷_, _++_, append-assoc, append-nil}
 use Prim.Native.Nat.{ℕ}
 use native.Mathlib.Omega.{arith}
 use lib.Dec.{ltb}
-use Rattle.laws.specs.Choice.{both}
 use Rattle.laws.proofs.Test.{both-true, both-is}
-use Rattle.graph.specs.Graph.{Graph, objects}
+use Rattle.graph.specs.Graph.{objects}
 use Rattle.graph.specs.Chain.{Reach}
 use Rattle.machine.specs.Tally.{talliesWords}
-use Rattle.machine.specs.Machine.{Setting, State, Entry, turns, entries, allEnded, result, memory}
+use Rattle.machine.specs.Machine.{State, Entry, turns, entries, allEnded, result, memory}
 use Rattle.machine.specs.Accepted.{Accepted}
-use Rattle.machine.specs.Sound.{Marked, Sound}
+use Rattle.machine.specs.Sound.{Marked}
 use Rattle.machine.specs.Call.{Call, scheduledBy, graphOf, settingOf, scheduleFits, final}
 use Rattle.machine.specs.Demand2.{outcome}
 use Rattle.machine.proofs.Demand2.{demand2, all-marked}
@@ -22,11 +21,10 @@ use Rattle.machine.proofs.Owners.{owners}
 use Rattle.machine.proofs.Progress.{turns-append}
 use Rattle.machine.proofs.Start.{sound, sound-turns}
 use Rattle.machine.proofs.Tallies.{tallies}
-use Rattle.saved.specs.Layout.{savedWords, stateOf}
+use Rattle.saved.specs.Layout.{savedWords}
 use Rattle.saved.specs.Sound.{SavedRun}
-use Rattle.saved.specs.Test.{saved?}
 use Rattle.saved.specs.Calls.{resumed, Afresh, whole, resumedAll, allFit}
-use Rattle.saved.proofs.Kept.{run-sound, told-back, fresh-run, to-saved}
+use Rattle.saved.proofs.Kept.{told-back, fresh-run, to-saved}
 
 -- entries of schedules laid end to end, the first of whole entries
 pub entries-append : (W : ℕ) (l k : List ℕ) → scheduleFits W l ≡ true → entries (l ++ k) ≡ entries l ++ entries k
@@ -75,7 +73,7 @@ module _ (c : Call) (A : Accepted (graphOf c) (c .starts) (c .workers) (settingO
   pub sound-finished : {w : List ℕ} {s : State} → SavedRun (graphOf c) (c .starts) (c .workers) (settingOf c) w s → (xs : List Entry)
       → allEnded (turns (graphOf c) (settingOf c) s xs .workers) ≡ true → {v : ℕ} → Reach (graphOf c) (c .starts) v
       → Marked (turns (graphOf c) (settingOf c) s xs .marks) v
-  sound-finished X xs done r = all-marked (sound-turns A (run-sound A X) xs) done r
+  sound-finished X xs done r = all-marked (sound-turns A (X .saved .sound) xs) done r
 
 -- over any parts, empty ones too
 pub joined : (c : Call) → Accepted (graphOf c) (c .starts) (c .workers) (settingOf c) → (l : List ℕ) (ls : List (List ℕ))

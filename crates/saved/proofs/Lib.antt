@@ -1,5 +1,4 @@
 pub mod Exact
 pub mod Joined
 pub mod Kept
-pub mod Room
 pub mod RoundTrip

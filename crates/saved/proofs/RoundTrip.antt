@@ -4,25 +4,23 @@ use mathlib.Core.List.{List, [], _∷_, _++_, append-assoc, append-nil}
 use Prim.Native.Nat.{ℕ, zero, suc, _+_, _-_, _*_, _/_, _%_, _^_, _≤_, _<_}
 use native.Mathlib.Nat.{div-add-mod, zero-add}
 use native.Mathlib.Omega.{arith}
-use lib.ListN.{length, getD, take, drop, replicate, length-append, length-replicate, List·getD-append}
-use lib.Seq.{getD-append-add, getD-drop, drop-at, take-at, drop-append-add}
-use borrow.Author.Tests.{lt-ltb, le-ltb}
+use lib.ListN.{length, getD, take, drop, replicate, length-append, length-drop, length-replicate, List·getD-append}
+use lib.Seq.{getD-append-add, getD-drop, drop-at, take-at, drop-append-add, length-take-le}
+use borrow.Author.Tests.{lt-ltb}
 use Rattle.laws.specs.Blocks.{laid}
-use Rattle.laws.specs.Span.{listing}
 use Rattle.laws.proofs.Blocks.{length-laid, laid-part, laid-at}
 use Rattle.laws.proofs.Span.{listing-is, listing-length}
-use Rattle.machine.specs.declared.Counts.{Counts}
+use Rattle.desk.specs.Lengths.{stretchLength, saved-form, workers-place, worker-words, tallies-place, marks-place, stretches-place, savedLength}
 use Rattle.machine.specs.Row.{countWords}
 use Rattle.machine.specs.Ring.{Colour, white, black, shade, blackSet}
-use Rattle.machine.specs.Run.{Run, run, carried, pairs}
-use Rattle.machine.specs.Tally.{Tally, noTally, tallyWords, talliesWords}
-use Rattle.machine.specs.Machine.{State, Worker, idle, asking, denied, ended, given, busy, Cell, empty, from, Phase, poll, look, claim, worker, runsOf, carriedBy, stretchLength, stretch, memory}
+use Rattle.machine.specs.Run.{Run, run, pairs}
+use Rattle.machine.specs.Tally.{noTally, tallyWords, talliesWords}
+use Rattle.machine.specs.Machine.{State, Worker, idle, asking, denied, ended, given, busy, empty, from, poll, look, claim, worker, runsOf, carriedBy, stretch, memory}
 use Rattle.machine.proofs.Colours.{set-at}
 use Rattle.machine.proofs.Runs.{length-carried}
 use Rattle.worker.proofs.Pairs.{length-pairs}
-use Rattle.saved.specs.Layout.{saved-form, twoWords, ringWords, workerWords, workersWords, savedWords, workers-place, worker-words, tallies-place, marks-place, stretches-place, savedLength}
-use Rattle.saved.specs.Layout.{numberAt, runsIn, cellFrom, workerFrom, restedFrom, workerWord, stretchIn, workerIn, restedIn, tallyNumber, tallyIn, countIn, countsIn, colourFrom, ringIn, stateOf}
-use Rattle.saved.specs.Sound.{Supplied}
+use Rattle.saved.specs.Layout.{twoWords, ringWords, workerWords, workersWords, savedWords, numberAt, runsIn, workerFrom, restedFrom, workerWord, stretchIn, workerIn, restedIn, tallyNumber, tallyIn, countsIn, colourFrom, ringIn, stateOf, Shaped, colourIn}
+use Rattle.machine.specs.Sound.{Supplied, Sized}
 
 -- ---- numbers
 
@@ -129,14 +127,17 @@ colour-back black = refl
 
 -- ---- the state
 
--- so many objects and workers, and stretches that hold the runs
-pub record Shaped (n W : ℕ) (s : State) : Type 0 where
-  pub marks-length : length (s .marks) ≡ n
-  pub workers-length : length (s .workers) ≡ W
-  pub rested-length : length (s .rested) ≡ W
-  pub colours-length : length (s .ring .colours) ≡ W
-  pub tallies-length : length (s .tallies) ≡ W
-  pub room : (b : ℕ) → length (runsOf (worker s b)) ≤ suc n
+-- what words tell of has so many objects and workers, whether they hold a state or not
+pub state-sized : (n W : ℕ) (w : List ℕ) → length w ≡ savedLength n W → Sized n W (stateOf n W w)
+unfolding stateOf
+state-sized n W w long =
+    record {
+      marks-length = length-take-le n (drop (marks-place W) w) (rw length-drop (omega (arith, long)));
+      workers-length = listing-length (workerIn n W w) 0 W;
+      rested-length = listing-length (restedIn w) 0 W;
+      colours-length = listing-length (colourIn w) 0 W;
+      tallies-length = listing-length (tallyIn W w) 0 W;
+    }
 
 module _ {n W : ℕ} {s : State} (X : Shaped n W s) where
   -- the parts
@@ -161,11 +162,11 @@ module _ {n W : ℕ} {s : State} (X : Shaped n W s) where
   counts-long = refl
 
   pub workers-long : length A₁ ≡ worker-words * W
-  workers-long = workers-length (s .workers) (s .rested) ∙ ap (λ (m : ℕ). worker-words * m) (X .workers-length)
+  workers-long = workers-length (s .workers) (s .rested) ∙ ap (λ (m : ℕ). worker-words * m) (X .sized .workers-length)
 
   numbers-long : length (talliesWords (s .tallies)) ≡ W * 4
   unfolding talliesWords
-  numbers-long = length-laid tallyWords 4 noTally (s .tallies) (λ (i : ℕ). refl) ∙ ap (λ (m : ℕ). m * 4) (X .tallies-length)
+  numbers-long = length-laid tallyWords 4 noTally (s .tallies) (λ (i : ℕ). refl) ∙ ap (λ (m : ℕ). m * 4) (X .sized .tallies-length)
 
   pub tallies-count : length (talliesWords (s .tallies)) ≡ 4 * W
   tallies-count = omega (arith, numbers-long)
@@ -177,13 +178,13 @@ module _ {n W : ℕ} {s : State} (X : Shaped n W s) where
   unfolding memory
   stretches-long =
       length-laid (stretch n) (stretchLength n) ended (s .workers) (λ (b : ℕ). stretch-length n (worker s b) (X .room b))
-      ∙ ap (λ (m : ℕ). m * stretchLength n) (X .workers-length)
+      ∙ ap (λ (m : ℕ). m * stretchLength n) (X .sized .workers-length)
 
   pub saved-length : length (savedWords n s) ≡ savedLength n W
   unfolding laid
   saved-length =
       rw (parts, length-append, length-append, length-append, length-append)
-      (omega (arith, counts-long, workers-long, tallies-long, X .marks-length, stretches-long))
+      (omega (arith, counts-long, workers-long, tallies-long, X .sized .marks-length, stretches-long))
 
   -- count number k
   pub count-told : countsIn (savedWords n s) ≡ s .counts
@@ -200,7 +201,7 @@ module _ {n W : ℕ} {s : State} (X : Shaped n W s) where
       rw (parts, place)
       (getD-append-add A₀ (A₁ ++ (A₂ ++ (s .marks ++ A₄))) (worker-words * b + k) 0
       ∙ List·getD-append A₁ (A₂ ++ (s .marks ++ A₄)) 0 (worker-words * b + k) (omega (arith, workers-long))
-      ∙ workers-word (s .workers) (s .rested) b k (omega (arith, X .workers-length)) i)
+      ∙ workers-word (s .workers) (s .rested) b k (omega (arith, X .sized .workers-length)) i)
 
   -- word j of the tallies' part
   tallies-word : (j : ℕ) → j < 8 * W → getD (savedWords n s) (tallies-place W + j) 0 ≡ getD A₂ j 0
@@ -235,18 +236,13 @@ module _ {n W : ℕ} {s : State} (X : Shaped n W s) where
   unfolding savedWords laid
   counts-told = refl
 
-  -- the words of the ring
-  pub ring-words-told : take 3 (drop 13 (savedWords n s)) ≡ ringWords (s .ring)
-  unfolding savedWords laid
-  ring-words-told = refl
-
   ring-back : ringIn W (savedWords n s) ≡ s .ring
   unfolding savedWords laid
   ring-back =
       let r = s .ring in
       rw (
         colour-back (r .token),
-        listing-is (λ (b : ℕ). colourFrom (blackSet (r .colours) / 2 ^ b % 2)) white 0 W (r .colours) (X .colours-length)
+        listing-is (λ (b : ℕ). colourFrom (blackSet (r .colours) / 2 ^ b % 2)) white 0 W (r .colours) (X .sized .colours-length)
             (λ (b : ℕ) (h : b < W). rw (zero-add b, set-at (r .colours) b) (colour-back (getD (r .colours) b white))),
       )
       refl
@@ -258,7 +254,7 @@ module _ {n W : ℕ} {s : State} (X : Shaped n W s) where
       let head = A₀ ++ (A₁ ++ A₂) in
       let e : savedWords n s ≡ head ++ (s .marks ++ A₄) = parts ∙ simp append-assoc in
       let long : length head ≡ marks-place W = rw (length-append, length-append) (omega (arith, counts-long, workers-long, tallies-long)) in
-      rw (e, drop-at head (s .marks ++ A₄) (marks-place W) long) (take-at (s .marks) A₄ n (X .marks-length))
+      rw (e, drop-at head (s .marks ++ A₄) (marks-place W) long) (take-at (s .marks) A₄ n (X .sized .marks-length))
 
   -- worker b's stretch
   pub stretch-told : (b : ℕ) → b < W → stretchIn n W (savedWords n s) b ≡ stretch n (worker s b)
@@ -267,9 +263,9 @@ module _ {n W : ℕ} {s : State} (X : Shaped n W s) where
       let head = A₀ ++ (A₁ ++ (A₂ ++ s .marks)) in
       let e : savedWords n s ≡ head ++ A₄ = parts ∙ simp append-assoc in
       let long : stretches-place n W + b * stretchLength n ≡ length head + b * stretchLength n =
-      rw (length-append, length-append, length-append) (omega (arith, counts-long, workers-long, tallies-long, X .marks-length)) in
+      rw (length-append, length-append, length-append) (omega (arith, counts-long, workers-long, tallies-long, X .sized .marks-length)) in
       rw (e, long, drop-append-add head A₄ (b * stretchLength n))
-      (laid-part (stretch n) (stretchLength n) ended (s .workers) b (λ (i : ℕ). stretch-length n (worker s i) (X .room i)) (omega (arith, X .workers-length)))
+      (laid-part (stretch n) (stretchLength n) ended (s .workers) b (λ (i : ℕ). stretch-length n (worker s i) (X .room i)) (omega (arith, X .sized .workers-length)))
 
   -- all stretches, laid end to end
   pub stretches-told : drop (stretches-place n W) (savedWords n s) ≡ memory n (s .workers)
@@ -278,7 +274,7 @@ module _ {n W : ℕ} {s : State} (X : Shaped n W s) where
       let head = A₀ ++ (A₁ ++ (A₂ ++ s .marks)) in
       let e : savedWords n s ≡ head ++ A₄ = parts ∙ simp append-assoc in
       let long : length head ≡ stretches-place n W =
-      rw (length-append, length-append, length-append) (omega (arith, counts-long, workers-long, tallies-long, X .marks-length)) in
+      rw (length-append, length-append, length-append) (omega (arith, counts-long, workers-long, tallies-long, X .sized .marks-length)) in
       rw e (drop-at head A₄ (stretches-place n W) long)
 
   module _ (supplied : (b : ℕ) → Supplied (worker s b)) (none : (b : ℕ) → 0 < carriedBy (worker s b) → getD (s .rested) b 0 ≡ 0) where
@@ -299,7 +295,7 @@ module _ {n W : ℕ} {s : State} (X : Shaped n W s) where
         let place : tallies-place W + 8 * b + 2 * k ≡ tallies-place W + 2 * (b * 4 + k) = omega arith in
         rw place
         (number-told (b * 4 + k) (omega arith)
-        ∙ laid-at tallyWords 4 noTally 0 (s .tallies) b k (λ (j : ℕ). refl) (omega (arith, X .tallies-length)) i)
+        ∙ laid-at tallyWords 4 noTally 0 (s .tallies) b k (λ (j : ℕ). refl) (omega (arith, X .sized .tallies-length)) i)
 
     tally-back : (b : ℕ) → b < W → tallyIn W (savedWords n s) (0 + b) ≡ getD (s .tallies) b noTally
     tally-back b h =
@@ -312,10 +308,10 @@ module _ {n W : ℕ} {s : State} (X : Shaped n W s) where
     state-told =
         rw (
           marks-told,
-          listing-is (workerIn n W (savedWords n s)) ended 0 W (s .workers) (X .workers-length) worker-back,
-          listing-is (restedIn (savedWords n s)) 0 0 W (s .rested) (X .rested-length) rested-back,
+          listing-is (workerIn n W (savedWords n s)) ended 0 W (s .workers) (X .sized .workers-length) worker-back,
+          listing-is (restedIn (savedWords n s)) 0 0 W (s .rested) (X .sized .rested-length) rested-back,
           ring-back,
-          listing-is (tallyIn W (savedWords n s)) noTally 0 W (s .tallies) (X .tallies-length) tally-back,
+          listing-is (tallyIn W (savedWords n s)) noTally 0 W (s .tallies) (X .sized .tallies-length) tally-back,
           count-told,
         )
         refl

@@ -1,58 +1,42 @@
 -- SPECIFICATION 8.3: the calls that begin a collection and save it, and that take a saved one up: their checks, what they leave,
 -- and what calls in a row come to.
 use mathlib.Core.Path.{_≡_}
-use Prim.Native.Nat.{ℕ, zero, suc, _+_, _*_}
-use mathlib.Core.Bool.{Bool, true, false, not, _||_}
+use Prim.Native.Nat.{ℕ, zero, suc}
+use mathlib.Core.Bool.{Bool, true, not}
 use mathlib.Core.List.{List, [], _∷_, _++_}
 use lib.ListN.{length}
-use lib.Dec.{eqb}
 use Rattle.laws.specs.Choice.{both}
 use Rattle.refusal.specs.Order.{raise, first}
-use Rattle.graph.specs.Graph.{Graph, objects}
-use Rattle.graph.specs.Chain.{Reach}
+use Rattle.graph.specs.Graph.{objects}
+use Rattle.desk.specs.declared.Lengths.{Lengths}
+use Rattle.desk.specs.declared.SavedWords.the-variants.{Lent}
 use Rattle.machine.specs.Row.{Row, refusedRow}
-use Rattle.machine.specs.Tally.{tally-words, talliesWords}
-use Rattle.machine.specs.Machine.{Setting, State, Entry, turns, entries, result, stretchLength, memory}
-use Rattle.machine.specs.Call.{Call, scheduledBy, graphOf, settingOf, settingFault, countFault, graphFault, startsFault, objectFault, scheduleFits, scheduleFault, final}
+use Rattle.machine.specs.Tally.{talliesWords}
+use Rattle.machine.specs.Machine.{State, Entry, turns, entries, result, memory}
+use Rattle.machine.specs.Call.{Call, scheduledBy, graphOf, settingOf, scheduleFits, firstFault}
 use Rattle.machine.specs.Demand2.{outcome, Demand2}
 use Rattle.machine.specs.Demand3.{Demand3}
 use Rattle.machine.specs.Lamp.{Lamp}
 use Rattle.machine.specs.Owners.{Owners}
 use Rattle.machine.specs.Tallies.{Tallies}
-use Rattle.saved.specs.Layout.{savedWords, savedLength, stateOf}
+use Rattle.saved.specs.Layout.{savedWords, stateOf}
 use Rattle.saved.specs.Test.{saved?}
 
--- ---- the checks: 8, 4, 7, 10, 13, 5, 9, and 14 where a saved collection is taken up
+-- ---- the checks: those of a call whose saved words are lent too, and 14 where a saved collection is taken up
 
--- 7: not n marks, not W × (2n + 4) work words, not 4 × W tally words, or another number of saved words than the layout has
-abbrev pub savedBufferFault : ℕ → ℕ → ℕ → ℕ → ℕ → ℕ → ℕ
-savedBufferFault n W marks work tallies saved =
-    raise
-    (not (eqb marks n)
-    || not (eqb work (W * stretchLength n))
-    || not (eqb tallies (W * tally-words))
-    || not (eqb saved (savedLength n W)))
-    7
-    0
+-- so many marks, work words, tally words and saved words
+abbrev pub savingLengths : ℕ → ℕ → ℕ → ℕ → Lengths
+savingLengths marks work tallies saved = record { marks = marks; work = work; tallies = tallies; saved = Lent saved }
 
--- the number of the first fault of a call with so many marks, work words, tally words and saved words
-unfoldable pub beginFault : Call → ℕ → ℕ → ℕ → ℕ → ℕ
-unfolding scheduleFits
-beginFault c marks work tallies saved =
-    first (settingFault (c .workers) (c .batch) (c .cutoff))
-    (first (countFault (c .offsets) (c .targets))
-    (first (savedBufferFault (objects (graphOf c)) (c .workers) marks work tallies saved)
-    (first (graphFault (graphOf c))
-    (first (startsFault (c .starts))
-    (first (objectFault (objects (graphOf c)) (c .starts))
-    (scheduleFault (c .workers) (c .schedule)))))))
+-- the number of the first fault of a call whose buffers are so long
+abbrev pub beginFault : Call → ℕ → ℕ → ℕ → ℕ → ℕ
+beginFault c marks work tallies saved = firstFault c (savingLengths marks work tallies saved)
 
 -- 14: the saved words hold no sound collection of this graph, these starts and these settings
 abbrev pub savedFault : Call → List ℕ → ℕ
 savedFault c w = raise (not (saved? (graphOf c) (c .starts) (c .workers) (settingOf c) w)) 14 0
 
 unfoldable pub resumeFault : Call → ℕ → ℕ → ℕ → List ℕ → ℕ
-unfolding beginFault
 resumeFault c marks work tallies w = first (beginFault c marks work tallies (length w)) (savedFault c w)
 
 -- ---- what a call leaves
@@ -61,14 +45,10 @@ resumeFault c marks work tallies w = first (beginFault c marks work tallies (len
 abbrev pub resumed : Call → List ℕ → State
 resumed c w = turns (graphOf c) (settingOf c) (stateOf (objects (graphOf c)) (c .workers) w) (entries (c .schedule))
 
--- by the number of the fault: the row, and a lent buffer, which is as before beside a refusal
+-- the row, by the number of the fault
 abbrev pub rowFor : ℕ → State → Row
 rowFor zero s = result s
 rowFor (suc k) s = refusedRow (suc k)
-
-abbrev pub bufferFor : ℕ → List ℕ → List ℕ → List ℕ
-bufferFor zero new old = new
-bufferFor (suc k) new old = old
 
 -- ---- a collection begun afresh, in one call or several, whose turns so far are xs: what the last call reports and leaves
 pub record Afresh (c : Call) (xs : List Entry) (r : Row) (marks work tallies w : List ℕ) : Type 0 where

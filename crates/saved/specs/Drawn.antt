@@ -10,7 +10,7 @@ use Rattle.graph.specs.Chain.{marksAt, overMarked}
 use Rattle.machine.specs.Run.{carried, keep, rest}
 use Rattle.machine.specs.Machine.{Setting, State, start, startRuns, turns, entries, live}
 use Rattle.machine.specs.Sound.{runsSum}
-use Rattle.machine.specs.Call.{Call}
+use Rattle.machine.specs.Call.{Call, scheduleFits, firstFault}
 use Rattle.machine.specs.Demand2.{outcome}
 use Rattle.machine.specs.Drawings.{S, turnsA}
 use Rattle.saved.specs.Layout.{savedWords, stateOf}
@@ -54,5 +54,5 @@ pub faults-A :
     ∷ resumeFault (callA []) 6 32 8 (replicate 77 0)
     ∷ []
     ≡ 9 ∷ 14 ∷ 0 ∷ 7 ∷ []
-unfolding resumeFault wellFormed saved? savedWords stateOf hit marksAt overMarked carried keep rest start startRuns turns entries live runsSum turnsA
+unfolding resumeFault firstFault scheduleFits wellFormed saved? savedWords stateOf hit marksAt overMarked carried keep rest start startRuns turns entries live runsSum turnsA
 faults-A = refl

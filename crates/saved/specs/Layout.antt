@@ -1,26 +1,23 @@
 -- SPECIFICATION 8.1: a collection that was stopped, as words of 32 bits. In order: the number of the form; the counts; the token
 -- ring; status, cell, since and batch of each worker; the tallies; the marks; each worker's stretch. Counts and tallies take two
 -- words each.
-use Prim.Native.Nat.{ℕ, zero, suc, _+_, _-_, _*_, _/_, _%_, _^_}
+use Prim.Native.Nat.{ℕ, zero, suc, _+_, _-_, _*_, _/_, _%_, _^_, _≤_}
 use mathlib.Core.List.{List, [], _∷_, _++_}
-use lib.ListN.{getD, take, drop}
+use lib.ListN.{length, getD, take, drop}
 use lib.Dec.{ltb}
 use Rattle.laws.specs.Blocks.{laid}
 use Rattle.laws.specs.Choice.{pick}
 use Rattle.laws.specs.Span.{listing}
+use Rattle.desk.specs.Lengths.{tally-words, stretchLength, saved-form, counts-place, ring-place, workers-place, worker-words, tallies-place, marks-place, stretches-place}
 use Rattle.machine.specs.declared.Counts.{Counts}
-use Rattle.machine.specs.Row.{counts-number, countWords}
+use Rattle.machine.specs.Row.{countWords}
 use Rattle.machine.specs.Ring.{Colour, white, black, shade, Ring, blackSet}
-use Rattle.machine.specs.Run.{Run, run, carried}
-use Rattle.machine.specs.Tally.{Tally, tally, tally-words, talliesWords}
-use Rattle.machine.specs.Machine.{State, Worker, idle, asking, denied, ended, given, busy, Cell, empty, from, Phase, poll, look, claim, stretchLength, memory}
-use Rattle.machine.specs.Sound.{batchOf}
-use Rattle.worker.specs.Registers.{status-idle, status-asking, status-denied, status-ended, status-given, status-poll, status-look, status-claim}
+use Rattle.machine.specs.Run.{Run, run}
+use Rattle.machine.specs.Tally.{Tally, tally, talliesWords}
+use Rattle.machine.specs.Machine.{State, Worker, idle, asking, denied, ended, given, busy, Cell, empty, from, poll, look, claim, memory, worker, runsOf}
+use Rattle.machine.specs.Sound.{batchOf, Sized}
+use Rattle.worker.specs.Registers.{status-idle, status-asking, status-denied, status-ended, status-given, status-poll}
 use Rattle.worker.specs.Status.{cellWord, phaseWord}
-
--- the first word of a saved collection; it was 1 before there was a ring
-abbrev pub saved-form : ℕ
-saved-form = 2
 
 -- ---- from a state to words
 
@@ -56,37 +53,10 @@ savedWords n s =
     ++ (s .marks
     ++ memory n (s .workers))))
 
--- ---- where each part begins, with W workers and n objects
-
-abbrev pub counts-place : ℕ
-counts-place = 1
-
-abbrev pub ring-place : ℕ
-ring-place = counts-place + 2 * counts-number
-
--- the words of the ring
-abbrev pub ring-words : ℕ
-ring-words = 3
-
-abbrev pub workers-place : ℕ
-workers-place = ring-place + ring-words
-
--- the words of one worker
-abbrev pub worker-words : ℕ
-worker-words = 4
-
-abbrev pub tallies-place : ℕ → ℕ
-tallies-place W = workers-place + worker-words * W
-
-abbrev pub marks-place : ℕ → ℕ
-marks-place W = tallies-place W + 2 * tally-words * W
-
-abbrev pub stretches-place : ℕ → ℕ → ℕ
-stretches-place n W = marks-place W + n
-
--- how many words there are
-abbrev pub savedLength : ℕ → ℕ → ℕ
-savedLength n W = stretches-place n W + W * stretchLength n
+-- a state of n objects and W workers whose runs have room in the stretches
+pub record Shaped (n W : ℕ) (s : State) : Type 0 where
+  pub sized : Sized n W s
+  pub room : (b : ℕ) → length (runsOf (worker s b)) ≤ suc n
 
 -- ---- from words to a state
 

@@ -1,6 +1,6 @@
 -- SPECIFICATION 8.2 as a test that can be computed, condition by condition. `proofs/Exact` shows that it is exactly `SavedRun`.
-use Prim.Native.Nat.{ℕ, zero, suc, _+_, _*_}
-use mathlib.Core.Bool.{Bool, true, false, not}
+use Prim.Native.Nat.{ℕ, suc, _+_, _*_}
+use mathlib.Core.Bool.{Bool, true, not}
 use mathlib.Core.List.{List, [], _∷_}
 use lib.ListN.{length, getD}
 use lib.Dec.{leb, ltb, eqb}
@@ -12,13 +12,12 @@ use Rattle.laws.specs.Test.{all, allUpTo, someUpTo, same}
 use Rattle.graph.specs.Graph.{Graph, objects, references, first, after, target}
 use Rattle.graph.specs.Leaving.{leavingUnmarked}
 use Rattle.machine.specs.Ring.{blackBelow}
-use Rattle.machine.specs.Run.{Run, run, carried}
+use Rattle.machine.specs.Run.{Run, run}
 use Rattle.machine.specs.Tally.{Tally}
-use Rattle.machine.specs.Machine.{Setting, State, Worker, idle, asking, denied, ended, given, busy, Cell, empty, from, worker, runsOf, carriedBy, carries?, carriedAll, live, stopped}
-use Rattle.machine.specs.Sound.{holds, waits, sinceOf, carriedTimes, followedSum, handedSum, wonSum, distinctStarts}
+use Rattle.machine.specs.Machine.{Setting, State, Worker, idle, asking, denied, ended, given, busy, empty, from, worker, runsOf, carriedBy, carries?, carriedAll, live, stopped}
+use Rattle.machine.specs.Sound.{batchIn, holds, waits, sinceOf, carriedTimes, followedSum, handedSum, wonSum, distinctStarts}
 use Rattle.machine.specs.Demand3.{movedBound, handedBound}
 use Rattle.saved.specs.Layout.{savedWords, stateOf}
-use Rattle.saved.specs.Sound.{batchIn}
 
 -- object v is marked
 abbrev pub marked? : List ℕ → ℕ → Bool

@@ -10,8 +10,8 @@ use lib.ListN.{length}
 use borrow.Author.Tests.{lt-ltb, le-ltb, eq-eqb, ne-eqb}
 use Rattle.refusal.specs.declared.Refusal.{Refusal}
 use Rattle.refusal.specs.Number.{number}
-use Rattle.machine.specs.Limits.{most-workers}
-use Rattle.machine.specs.Call.{outside}
+use Rattle.desk.specs.Limits.{most-workers}
+use Rattle.desk.specs.Checks.{outside}
 use Rattle.cards.specs.Deck.{card-workers}
 use Rattle.cards.specs.Hand.{turnsOf, bytesOf}
 use Rattle.cards.proofs.Stretches.{rounds-of}

@@ -13,8 +13,8 @@ use mathlib.Core.List.{append-nil}
 use borrow.Author.Tests.{lt-ltb}
 use Rattle.laws.specs.Blocks.{laid}
 use Rattle.graph.specs.Graph.{allBelow}
-use Rattle.text.specs.Text.{Put}
-use Rattle.text.proofs.Written.{nothing, then, same-long}
+use Rattle.slices.specs.Put.{Put}
+use Rattle.slices.proofs.Written.{nothing, then, same-long}
 use Rattle.cards.specs.Deck.{deck-size}
 use Rattle.cards.specs.Hand.{roundOf, turnsOf}
 use Rattle.cards.specs.Rounding.{Roomy, Rounded}

@@ -6,8 +6,10 @@ use lib.ListN.{length, getD}
 use lib.Dec.{eqb}
 use Rattle.refusal.specs.Number.{number}
 use Rattle.refusal.specs.Order.{raise, first}
+use Rattle.desk.specs.Checks.{workersFault}
+use Rattle.desk.specs.Kept.{unlessRefused}
 use Rattle.cards.specs.Deck.{card-workers, deck}
-use Rattle.cards.specs.Hand.{turnsOf, bytesOf, workersFault, widthFault, scheduleFault, scheduleFor, Rounds}
+use Rattle.cards.specs.Hand.{turnsOf, bytesOf, widthFault, scheduleFault, Rounds}
 use Rattle.seed.specs.declared.Seed.{Seed}
 use Rattle.seed.specs.declared.Drawn.the-variants.{Card}
 use Rattle.seed.specs.declared.Dealt.{Dealt}
@@ -46,17 +48,12 @@ abbrev pub seedLeft : Seed → Dealt → Seed
 seedLeft s (Moved t) = t
 seedLeft s (Refused r) = s
 
--- by the number of the fault: moved by the draws, or as it was
-abbrev pub seedFor : ℕ → Seed → Seed → Seed
-seedFor zero moved s = moved
-seedFor (suc k) moved s = s
-
 -- the promise of the call, for all inputs
 pub record Deals (s : Seed) (k W : ℕ) (before : List ℕ) (r : Dealt) (after : List ℕ) : Type 0 where
   pub number-is : refusalOf r ≡ fault s k W (length before)
   -- the schedule of the cards drawn, and the seed as those draws leave it; both unchanged beside a refusal
-  pub schedule-is : after ≡ scheduleFor (fault s k W (length before)) (turnsOf W (handOf k s)) before
-  pub seed-is : seedLeft s r ≡ seedFor (fault s k W (length before)) (afterDraws k s) s
+  pub schedule-is : after ≡ unlessRefused (fault s k W (length before)) (turnsOf W (handOf k s)) before
+  pub seed-is : seedLeft s r ≡ unlessRefused (fault s k W (length before)) (afterDraws k s) s
   -- the cards are those that k draws answer, one after the other
   pub draws : fault s k W (length before) ≡ 0 → (i : ℕ) → i < k → drawn (afterDraws i s) ≡ Card (getD (handOf k s) i 0)
   -- each draw is a stretch, so enough rounds finish, whatever the seed

@@ -104,11 +104,11 @@ fn put_draws(
 }
 
 // The schedule of so many draws for W workers, in a lent schedule of exactly its length.
-pub fn deal(seed: Seed, rounds: usize, workers: u32, schedule: &mut [u8]) -> Dealt
+pub fn deal_seed(seed: Seed, rounds: usize, workers: u32, schedule: &mut [u8]) -> Dealt
     ensures { λ r. ⌜ Deals seed rounds workers (now (schedule .entry)) r (now (schedule .exit)) ⌝ }
 {
     let first = seed.first;
-    if hand::workers_outside(workers) {
+    if desk::workers_outside(workers) {
         return Dealt::Refused(Refusal::Setting);
     }
     if first == 0 {

@@ -5,7 +5,7 @@ use Prim.Native.Nat.{ℕ, suc, _+_, _-_, _≤_, _<_}
 use native.Mathlib.Nat.{sub-zero}
 use native.Mathlib.Numerals.{add-one}
 use native.Mathlib.Omega.{arith}
-use lib.ListN.{length, getD, set, take, drop, replicate, length-set, length-append, length-drop, length-replicate, replicate-append-replicate, take-append-drop}
+use lib.ListN.{length, getD, set, take, drop, replicate, length-set, length-append, length-replicate, replicate-append-replicate, take-append-drop}
 use lib.Seq.{drop-cons, drop-length, set-at, length-take-le}
 use Rattle.slices.specs.Slices.{cleared}
 
@@ -17,10 +17,6 @@ pub cleared-all : (w : List ℕ) → cleared w 0 (length w) ≡ replicate (lengt
 cleared-all w = rw (sub-zero, drop-length w, append-nil)
 
 module _ (w : List ℕ) (from i : ℕ) (low : from ≤ i) where
-  pub length-cleared : i ≤ length w → length (cleared w from i) ≡ length w
-  length-cleared h =
-      rw (length-append, length-take-le from w (omega arith), length-append, length-replicate, length-drop) (omega arith)
-
   pub cleared-next : i < length w → set (cleared w from i) i 0 ≡ cleared w from (i + 1)
   cleared-next h =
       let p : List ℕ = take from w ++ replicate (i - from) 0 in

@@ -1,3 +1,4 @@
 pub mod Clearing
 pub mod BitWords
 pub mod Filling
+pub mod Written

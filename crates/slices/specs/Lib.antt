@@ -1,3 +1,4 @@
 pub mod Slices
 pub mod Bits
 pub mod Filling
+pub mod Put

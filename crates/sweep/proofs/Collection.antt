@@ -84,7 +84,7 @@ is-listed ms v h z = rw zero-add at (place-dead 0 ms v h (zero-or (getD ms v 0) 
 -- the dead after a finished marking; of the machine this needs only that there is a mark for each object, and demand 2
 module _ {G : Graph} {starts marks : List ℕ} (m : FinishedMarks G starts marks) where
   all-marks : length marks ≡ objects G
-  all-marks = ap length (m .marks-are) ∙ sound (m .accepted) (m .turns) .marks-length
+  all-marks = ap length (m .marks-are) ∙ sound (m .accepted) (m .turns) .sized .marks-length
 
   pub dead-exactly : (v : ℕ) → (0 < sum (hit v) (dead marks)) ↔ ((v < objects G) × (Reach G starts v → ⊥))
   dead-exactly v = (

@@ -1,15 +1,18 @@
 -- SPECIFICATION 5: an object is dead where its mark is 0. The list gets the numbers of the dead upwards, then zeros;
 -- the answer is their count and the sum of their sizes. The checks are 4 (n is how many sizes there are), 7 and 6.
 use mathlib.Core.Path.{_≡_}
-use mathlib.Core.Bool.{Bool, true}
+use mathlib.Core.Bool.{Bool, true, not, _||_}
 use mathlib.Core.List.{List, [], _∷_, _++_}
 use Prim.Native.Nat.{ℕ, zero, suc, _-_, _≤_}
 use lib.ListN.{length, getD, take, replicate}
 use lib.Dec.{leb, eqb}
-use Rattle.laws.specs.Choice.{pick, both}
+use Rattle.laws.specs.Choice.{both}
 use Rattle.laws.specs.Sum.{sum}
 use Rattle.refusal.specs.Number.{number}
+use Rattle.refusal.specs.Order.{raise, first}
 use Rattle.graph.specs.Limits.{most-objects, largest-size}
+use Rattle.desk.specs.Checks.{objectsFault}
+use Rattle.desk.specs.Kept.{unlessRefused}
 use Rattle.sweep.specs.declared.Swept.{Swept}
 use Rattle.sweep.specs.declared.Swept.the-variants.{Dead, Refused}
 
@@ -48,15 +51,21 @@ abbrev pub row : Swept → Row
 row (Dead c f) = record { number = 0; count = c; freed = f }
 row (Refused k) = refusedRow (number k)
 
--- the number of the first check that finds a fault, or 0: 4, 7 (marks and list have n places), 6
+-- 7: not n marks, or a list of another length
+abbrev pub bufferFault : ℕ → ℕ → ℕ → ℕ
+bufferFault n marks list = raise (not (eqb marks n) || not (eqb list n)) 7 0
+
+-- 6: a size above the largest
+abbrev pub sizeFault : List ℕ → ℕ
+sizeFault sizes = raise (not (allFit sizes)) 6 0
+
+-- the number of the first fault, or 0
 unfoldable pub fault : List ℕ → List ℕ → List ℕ → ℕ
 unfolding allFit
 fault marks sizes list =
-    pick (both (leb 1 (length sizes)) (leb (length sizes) most-objects))
-    (pick (both (eqb (length marks) (length sizes)) (eqb (length list) (length sizes)))
-    (pick (allFit sizes) 0 6)
-    7)
-    4
+    first (objectsFault (length sizes))
+    (first (bufferFault (length sizes) (length marks) (length list))
+    (sizeFault sizes))
 
 -- what the sweep answers, by the fault found
 abbrev pub answerFor : ℕ → List ℕ → List ℕ → Row
@@ -67,14 +76,10 @@ answerFor (suc k) marks sizes = refusedRow (suc k)
 abbrev pub sweeping : List ℕ → List ℕ → List ℕ → Row
 sweeping marks sizes list = answerFor (fault marks sizes list) marks sizes
 
--- the list afterwards, by the fault found: the dead numbers, then zeros; unchanged beside a refusal
-abbrev pub listFor : ℕ → List ℕ → List ℕ → List ℕ
-listFor zero marks list = dead marks ++ replicate (length list - length (dead marks)) 0
-listFor (suc k) marks list = list
-
--- the list afterwards
+-- the list afterwards: the dead numbers, then zeros
 abbrev pub listAfter : List ℕ → List ℕ → List ℕ → List ℕ
-listAfter marks sizes list = listFor (fault marks sizes list) marks list
+listAfter marks sizes list =
+    unlessRefused (fault marks sizes list) (dead marks ++ replicate (length list - length (dead marks)) 0) list
 
 -- what the pass over the marks asks
 pub record Listable (marks sizes list : List ℕ) : Type 0 where

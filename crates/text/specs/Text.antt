@@ -1,10 +1,10 @@
--- Text as lists of ASCII codes: words, decimal numbers, lines, and what a buffer holds once text is written to it.
+-- Text as lists of ASCII codes: words, decimal numbers, lines.
 use mathlib.Core.Path.{_≡_}
 use mathlib.Core.List.{List, [], _∷_, _++_}
 use Prim.Native.Nat.{ℕ, zero, suc, _+_, _/_, _%_, _≤_}
 use Prim.Native.Char.{code}
 use Prim.Native.String.{String, [] as []ˢ, _∷_ as _∷ˢ_}
-use lib.ListN.{length, take, drop}
+use lib.ListN.{length, drop}
 use lib.Dec.{ltb}
 use Rattle.laws.specs.Choice.{pick}
 
@@ -30,18 +30,6 @@ spaced n = codes " " ++ decimal n
 -- a line ends in a line feed
 abbrev pub line : List ℕ → List ℕ
 line t = t ++ codes "\n"
-
--- `text` written behind the first `at` bytes of a buffer that was `before` and is `after`, and `end` bytes then: the
--- bytes in front of the text and those behind it are as they were
-pub record Put (before : List ℕ) (at : ℕ) (text after : List ℕ) (end : ℕ) : Type 0 where
-  pub ends : end ≡ at + length text
-  pub fits : end ≤ length before
-  pub holds : after ≡ take at before ++ (text ++ drop end before)
-
--- the same, with a text of at most so many bytes
-pub record PutIn (most : ℕ) (before : List ℕ) (at : ℕ) (text after : List ℕ) (end : ℕ) : Type 0 where
-  pub put : Put before at text after end
-  pub low : end ≤ at + most
 
 -- the digits of v at the end of 20 bytes, beginning at `from`
 pub record Aligned (v : ℕ) (bytes : List ℕ) (from : ℕ) : Type 0 where

@@ -4,7 +4,8 @@
 ghost use Prim.Native.Nat.{_+_, _≤_};
 ghost use mathlib.Core.List.{_++_};
 ghost use lib.ListN.{length};
-ghost use Rattle.text.specs.Text.{Aligned, decimal, spaced, line, Put, PutIn};
+ghost use Rattle.slices.specs.Put.{Put, PutIn};
+ghost use Rattle.text.specs.Text.{Aligned, decimal, spaced, line};
 
 // Decimal digits, right-aligned: those of the number begin at `from`.
 struct Digits {

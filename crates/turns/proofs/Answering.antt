@@ -58,7 +58,7 @@ phase-look (suc k) h = refl
 
 module _ {G : Graph} {g : Setup} {s : State} {marks work tallies regs : List ℕ} {p : Progress} (c : Scene G g s) (h : Holds G g s (memory marks work tallies regs p)) where
   long : length (s .workers) ≡ g .workers
-  long = c .sound .workers-length
+  long = c .sound .sized .workers-length
 
   module _ (b : ℕ) {cell : Cell} {n : ℕ} {rs : List Run} (e : worker s b ≡ busy cell n poll rs) where
     pub poll-low : b < g .workers

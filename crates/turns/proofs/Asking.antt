@@ -8,13 +8,13 @@ use lib.ListN.{length}
 use lib.Dec.{eqb}
 use borrow.Author.Tests.{eq-eqb, ne-eqb}
 use Rattle.laws.specs.Every.{Every}
-use Rattle.laws.specs.Sum.{sum}
 use Rattle.laws.proofs.Sum.{sum-at}
 use Rattle.graph.specs.Graph.{Graph, references, target}
 use Rattle.machine.specs.Ring.{Colour, white, black, shade, colourOf, passedOn}
 use Rattle.machine.specs.Run.{Run, run}
 use Rattle.machine.specs.Machine.{State, Worker, idle, asking, denied, ended, given, busy, empty, from, Phase, poll, look, claim, worker, runsOf, stopped, turn, becomes, passes, asks, homeTurn, holderTurn, idleTurn, workerTurn}
-use Rattle.machine.proofs.Facts.{below-workers, busy-below, busy-some, given-below, given-carries, given-runs-limit, InTargets}
+use Rattle.machine.specs.Sound.{InTargets}
+use Rattle.machine.proofs.Facts.{below-workers, busy-below, busy-some, given-below, given-sound, given-runs-limit}
 use Rattle.worker.specs.declared.registers.Block.{Block}
 use Rattle.worker.specs.declared.stretch.Top.{Top}
 use Rattle.worker.specs.Stretch.{TopIs}
@@ -55,7 +55,7 @@ first-told G (run f j ∷ rs) t some l e =
 
 module _ {G : Graph} {g : Setup} {s : State} {marks work tallies regs : List ℕ} {p : Progress} (c : Scene G g s) (h : Holds G g s (memory marks work tallies regs p)) where
   long : length (s .workers) ≡ g .workers
-  long = c .sound .workers-length
+  long = c .sound .sized .workers-length
 
   -- a block with another status and no more to say
   stays : (b : ℕ) → SameBut (g .workers) (g .stretch) b work work
@@ -261,7 +261,7 @@ module _ {G : Graph} {g : Setup} {s : State} {marks work tallies regs : List ℕ
     -- the first reference is there, and where it leads
     pub first-given : (blockAt regs b .first < references G) × (target G (blockAt regs b .first) ≡ nextTarget G rs)
     first-given =
-        first-told G rs (topOf (blockAt regs b)) (given-carries (c .accepted) (c .sound) b e .some)
+        first-told G rs (topOf (blockAt regs b)) (given-sound (c .accepted) (c .sound) b e .supplied)
         (given-runs-limit (c .accepted) (c .sound) b e) (given-is .1 .told .top)
 
     pub holds-taken : (v t : ℕ) → t ≡ target G (blockAt regs b .first)
@@ -308,7 +308,7 @@ module _ {g : Setup} {marks work tallies regs : List ℕ} {p : Progress} {b : �
       by zero q = refl
       by (suc k) q =
           let S = x .scene .sound in
-          let there : 0 < length (x .state .workers) = omega (arith, S .workers-length, first-there) in
+          let there : 0 < length (x .state .workers) = omega (arith, S .sized .workers-length, first-there) in
           let first = S .first-ended (omega (arith, q, sum-at stopped ended (x .state .workers) 0 (worker (x .state) 0) refl there)) in
           absurd (omega (arith, q, ap (λ (i : ℕ). stopped (worker (x .state) i)) (sym (e ∙ first .1)) ∙ ap stopped (x .here)))
 

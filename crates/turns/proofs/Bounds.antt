@@ -55,6 +55,6 @@ module _ {G : Graph} {g : Setup} {s : State} (c : Scene G g s) where
         record {
           ring = s .ring;
           words-are = h .ring-is;
-          low = omega (arith, n .colours-length);
-          few = omega (arith, n .colours-length, workers-limit);
+          low = omega (arith, n .sized .colours-length);
+          few = omega (arith, n .sized .colours-length, workers-limit);
         }

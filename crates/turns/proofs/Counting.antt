@@ -1,6 +1,6 @@
 -- The counts that a progress and the tallies make: after a turn they are the machine's, and at the end each is what a word
 -- holds.
-use mathlib.Core.Path.{_≡_, refl, ap, _∙_}
+use mathlib.Core.Path.{_≡_, refl, ap}
 use mathlib.Core.List.{List}
 use Prim.Native.Nat.{ℕ, _+_, _*_, _≤_, _<_, _^_}
 use native.Mathlib.Omega.{arith}
@@ -10,9 +10,10 @@ use lib.Seq.{drop-cons}
 use Rattle.laws.specs.Sum.{sum}
 use Rattle.graph.specs.Graph.{Graph, objects, references}
 use Rattle.graph.specs.Limits.{most-objects, most-references}
+use Rattle.desk.specs.Lengths.{tally-words}
 use Rattle.machine.specs.declared.Counts.{Counts}
 use Rattle.machine.specs.Row.{countMove, countFollow}
-use Rattle.machine.specs.Tally.{Tally, tally, noTally, tallied, tally-words}
+use Rattle.machine.specs.Tally.{Tally, tally, noTally, tallied}
 use Rattle.machine.specs.Machine.{State}
 use Rattle.machine.specs.Accepted.{Accepted}
 use Rattle.machine.specs.Sound.{Sound}
@@ -103,7 +104,7 @@ countable {s = s} a n o r d h =
     record {
       tallies = s .tallies;
       words-are = h .tallies-are;
-      count = n .tallies-length;
+      count = n .sized .tallies-length;
       few = a .workers-limit;
       live-fits = omega (arith, ap (λ (c : Counts). c .live) (h .counts-are), live-below a n, o);
       followed-fits = omega (arith, ap (λ (c : Counts). c .followed) (h .counts-are), followed-limit a n, r);

@@ -1,14 +1,14 @@
 -- A hand-over in the work memory: the first k references end in the run being followed, or in a pair of the stretch.
 use mathlib.Core.Path.{_≡_, refl, sym, ap, _∙_, subst}
 use mathlib.Core.Logic.{_≢_, inl, inr, ⊎-elim}
-use mathlib.Core.List.{List, [], _∷_, _++_}
+use mathlib.Core.List.{List, _∷_, _++_}
 use Prim.Native.Nat.{ℕ, suc, _+_, _-_, _*_, _≤_, _<_, _^_}
 use native.Mathlib.Omega.{arith}
-use borrow.Author.Tests.{lt-ltb, le-ltb}
+use borrow.Author.Tests.{lt-ltb}
 use lib.ListN.{length, getD, set, take, drop, length-set}
 use lib.Seq.{paste, paste-zero}
 use Rattle.laws.specs.Sum.{sum}
-use Rattle.machine.specs.Run.{Run, run, runFrom, carried, keep, rest}
+use Rattle.machine.specs.Run.{Run, run, carried, keep, rest}
 use Rattle.machine.specs.declared.frontier.Held.{Held}
 use Rattle.machine.specs.Split.{held, lastSize}
 use Rattle.machine.proofs.Split.{keep-first}

@@ -8,12 +8,12 @@ use native.Mathlib.Numerals.{add-one}
 use native.Mathlib.Omega.{arith}
 use lib.ListN.{length, getD, set}
 use Rattle.laws.proofs.Sum.{default}
-use Rattle.graph.specs.Graph.{Graph, graph, objects, references, first, after, target}
+use Rattle.graph.specs.Graph.{Graph, objects, references, first, after, target}
 use Rattle.graph.proofs.OverMarked.{after-limit}
+use Rattle.desk.specs.Limits.{most-workers}
 use Rattle.machine.specs.Run.{Run, run, runFrom, leaving}
 use Rattle.machine.specs.Tally.{Tally, tally, tallied, talliesWords}
 use Rattle.machine.specs.Machine.{busy, look, claim, worker, markOf, claimMark, lookTurn, Claimed, claims, notClaimed, onwardRuns, follows}
-use Rattle.machine.specs.Limits.{most-workers}
 use Rattle.machine.specs.Owners.{claimTells}
 use Rattle.machine.proofs.Facts.{busy-below, busy-some, first-target}
 use Rattle.worker.specs.Registers.{blockAt, putAt}
@@ -68,13 +68,13 @@ module _ {g : Setup} {targets : List ℕ} {b : ℕ} {marks work tallies regs : L
         held .target,
         ap (λ (l : List ℕ). length l) (x .holds .marks-are),
         first-target (x .scene .accepted) (x .scene .sound) b is,
-        x .scene .sound .marks-length,
+        x .scene .sound .sized .marks-length,
       )
 
   mark-read : markOf (x .state) (target (x .graph) (f .first)) ≡ getD marks (blockAt regs b .target) 0
   mark-read =
       default (x .state .marks) (target (x .graph) (f .first)) 1 0
-      (omega (arith, first-target (x .scene .accepted) (x .scene .sound) b is, x .scene .sound .marks-length))
+      (omega (arith, first-target (x .scene .accepted) (x .scene .sound) b is, x .scene .sound .sized .marks-length))
       ∙ ap (λ (l : List ℕ). getD l (target (x .graph) (f .first)) 0) (sym (x .holds .marks-are))
       ∙ ap (λ (i : ℕ). getD marks i 0) (sym (held .target))
 
@@ -121,7 +121,7 @@ module _ {g : Setup} {targets : List ℕ} {b : ℕ} {marks work tallies regs : L
       → Holds (x .graph) g (turned g b v (x .graph) (x .state)) (memory marks work tallies (putAt regs b 0 7) (movedOn p 0 0))
   holds-claims z v =
       rw (look-as v, z)
-      (hold-one (x .holds) (x .scene .sound .workers-length) b look-low is
+      (hold-one (x .holds) (x .scene .sound .sized .workers-length) b look-low is
       (busy (x .here .cell) (x .here .since) (claim (x .here .left)) (run (f .first) (f .more) ∷ f .below)) work
       (put-stored regs b (block-room (x .scene) (x .holds) b look-low .long) 0 7 (omega arith))
       refl
@@ -172,7 +172,7 @@ module _ {g : Setup} {offsets targets : List ℕ} {b : ℕ} {marks work tallies 
         arith,
         target-word,
         is-object,
-        x .scene .sound .marks-length,
+        x .scene .sound .sized .marks-length,
         ap (λ (l : List ℕ). length l) (x .holds .marks-are),
         claim-low,
         x .scene .accepted .workers-limit,
@@ -192,7 +192,7 @@ module _ {g : Setup} {offsets targets : List ℕ} {b : ℕ} {marks work tallies 
 
   read : markOf (x .state) t ≡ getD marks t 0
   read =
-      default (x .state .marks) t 1 0 (omega (arith, is-object, x .scene .sound .marks-length))
+      default (x .state .marks) t 1 0 (omega (arith, is-object, x .scene .sound .sized .marks-length))
       ∙ ap (λ (l : List ℕ). getD l t 0) (sym (x .holds .marks-are))
 
   -- what opens, as the words tell it

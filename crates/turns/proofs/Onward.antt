@@ -13,13 +13,14 @@ use Rattle.laws.specs.Choice.{pick}
 use Rattle.laws.specs.Every.{Every}
 use Rattle.laws.specs.Sum.{sum}
 use Rattle.laws.proofs.Every.{every-append}
-use Rattle.graph.specs.Graph.{Graph, references, target}
+use Rattle.graph.specs.Graph.{Graph, references}
 use Rattle.machine.specs.Row.{countFollow}
 use Rattle.machine.specs.declared.Counts.{Counts}
 use Rattle.machine.specs.Run.{Run, run, runFrom, carried}
 use Rattle.machine.specs.Tally.{tally, tallied}
 use Rattle.machine.specs.Machine.{Worker, idle, denied, busy, Cell, empty, from, phase, worker, onward, dismiss, dismissed, emptied, resting, onwardRuns, follows}
-use Rattle.machine.proofs.Facts.{busy-below, busy-working, busy-carried, busy-carried-limit, busy-room, busy-runs-limit, first-run-limit, asker-asking, asker-below, asker-other, InTargets, carrying-at}
+use Rattle.machine.specs.Sound.{InTargets}
+use Rattle.machine.proofs.Facts.{busy-below, busy-sound, busy-carried, busy-carried-limit, busy-room, busy-runs-limit, first-run-limit, asker-asking, asker-below, asker-other, carrying-at}
 use Rattle.machine.proofs.Runs.{carried-append, carried-from}
 use Rattle.machine.proofs.Step.{phase-batch}
 use Rattle.worker.specs.declared.registers.Block.{Block}
@@ -263,7 +264,7 @@ module _ {g : Setup} {targets marks′ tallies′ : List ℕ} {o : Opened} {b : 
       let on = gone-on (x .state .workers) b (suc (y .since)) (y .left) (y .cell) runs some in
       let k : block .batch - 1 ≡ y .left = omega (arith, is .batch, y .batch-is) in
       rw (state v)
-      (hold-one (x .holds) (c .sound .workers-length) b follow-low (y .is) (busy (y .cell) (suc (y .since)) (phase (y .left)) runs) after
+      (hold-one (x .holds) (c .sound .sized .workers-length) b follow-low (y .is) (busy (y .cell) (suc (y .since)) (phase (y .left)) runs) after
       st
       after-long
       others
@@ -295,11 +296,11 @@ module _ {g : Setup} {targets marks′ tallies′ : List ℕ} {o : Opened} {b : 
   last-since : goesOn (topOf block) (o .first) (o .end) ≡ false → block .since ≡ suc (y .since)
   last-since l =
       let none = onward-none (y .first) (y .more) (runFrom (o .first) (o .end - o .first)) (y .below) (no-runs runs (sym left-is ∙ l)) in
-      let w = busy-working (c .accepted) (c .sound) b (y .is) in
+      let w = busy-sound (c .accepted) (c .sound) b (y .is) in
       omega (arith, is .since, y .batch-is, w .batch-carried, single (y .first) (y .more) (y .below) none)
 
   rested-room : b < length (x .state .rested)
-  rested-room = omega (arith, c .sound .rested-length, follow-low)
+  rested-room = omega (arith, c .sound .sized .rested-length, follow-low)
 
   -- nothing is left
   pub holds-stopped : goesOn (topOf block) (o .first) (o .end) ≡ false → (v : ℕ) → {work′ regs′ : List ℕ} {q : Progress} → work′ ≡ after
@@ -318,7 +319,7 @@ module _ {g : Setup} {targets marks′ tallies′ : List ℕ} {o : Opened} {b : 
           (memory marks′ after tallies′ (stoppedAt regs b (block .cell)) (followedOn p (stoppedCount (block .cell)) 1))
       by empty e q =
           rw q
-          (hold-one (x .holds) (c .sound .workers-length) b follow-low (y .is) idle after
+          (hold-one (x .holds) (c .sound .sized .workers-length) b follow-low (y .is) idle after
           (put-stored regs b (block-room c (x .holds) b follow-low .long) 0 0 (omega arith))
           after-long
           others
@@ -338,7 +339,7 @@ module _ {g : Setup} {targets marks′ tallies′ : List ℕ} {o : Opened} {b : 
           let other = asker-other (c .accepted) (c .sound) b e in
           let asks = asker-asking (c .accepted) (c .sound) b e in
           rw (q, ne-eqb (suc a) 0 (λ z. omega (arith, z)), i)
-          (hold-two (x .holds) (c .sound .workers-length) b follow-low e idle st a la
+          (hold-two (x .holds) (c .sound .sized .workers-length) b follow-low e idle st a la
           other
           asks
           denied

@@ -1,17 +1,14 @@
 -- The words of a tally raised are those of the machine's tally raised, and none of them wraps.
 use mathlib.Core.Path.{_≡_, refl, sym, ap, _∙_}
 use mathlib.Core.List.{List, [], _∷_, _++_}
-use Prim.Native.Nat.{ℕ, zero, suc, _+_, _*_, _≤_, _<_, _^_}
+use Prim.Native.Nat.{ℕ, zero, suc, _+_, _≤_, _<_}
 use native.Mathlib.Omega.{arith}
 use lib.ListN.{length, getD, set}
-use Rattle.laws.specs.Blocks.{laid}
-use Rattle.laws.specs.Sum.{sum}
 use Rattle.laws.proofs.Blocks.{Around, around, length-laid}
 use Rattle.laws.proofs.Sum.{sum-share}
 use Rattle.graph.specs.Graph.{Graph}
-use Rattle.machine.specs.Tally.{Tally, tally, noTally, addTally, tallied, tallyWords, talliesWords}
+use Rattle.machine.specs.Tally.{Tally, noTally, addTally, tallied, tallyWords, talliesWords}
 use Rattle.machine.specs.Machine.{State}
-use Rattle.machine.specs.Sound.{tallyOf}
 use Rattle.machine.proofs.Facts.{followed-limit}
 use Rattle.turns.specs.declared.Setup.{Setup}
 use Rattle.turns.specs.Held.{Memory, Holds, Scene}
@@ -83,7 +80,7 @@ module _ (ts : List Tally) (b : ℕ) (low : b < length ts) where
 
 module _ {G : Graph} {g : Setup} {s : State} {μ : Memory} (c : Scene G g s) (h : Holds G g s μ) (b : ℕ) (low : b < g .workers) where
   pub there : b < length (s .tallies)
-  there = omega (arith, c .sound .tallies-length)
+  there = omega (arith, c .sound .sized .tallies-length)
 
   pub raisable : (y : Tally) → y .followed ≤ 1 → y .won ≤ 1 → y .lost ≤ 1 → y .handed ≤ 1 → Raisable (μ .tallies) b y
   raisable y f w l d =

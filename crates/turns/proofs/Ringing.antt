@@ -6,7 +6,7 @@ use Prim.Native.Nat.{ℕ, zero, suc, _+_, _-_, _*_, _/_, _%_, _^_, _≤_, _<_}
 use native.Mathlib.Omega.{arith}
 use lib.ListN.{length, getD, set, length-set}
 use lib.Pow.{shl-exact, pow-mono}
-use Rattle.machine.specs.Ring.{Colour, white, black, shade, Ring, colourOf, darkened, freshRing, blackened, passedOn, blackSet}
+use Rattle.machine.specs.Ring.{Colour, white, black, shade, colourOf, darkened, freshRing, blackened, passedOn, blackSet}
 use Rattle.machine.proofs.Colours.{shade-limit, set-at, set-limit, set-none, set-changed}
 use Rattle.turns.specs.declared.ring.Ring.{Ring as Words}
 use Rattle.turns.specs.Ringing.{ringWith, ringOf, RingAt}

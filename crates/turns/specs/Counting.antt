@@ -4,9 +4,10 @@ use mathlib.Core.Path.{_≡_}
 use mathlib.Core.List.{List}
 use lib.ListN.{length, getD}
 use Rattle.laws.specs.Sum.{sum}
+use Rattle.desk.specs.Limits.{most-workers}
+use Rattle.desk.specs.Lengths.{tally-words}
 use Rattle.machine.specs.declared.Counts.{Counts}
-use Rattle.machine.specs.Limits.{most-workers}
-use Rattle.machine.specs.Tally.{Tally, tally-words, tallyWords, talliesWords}
+use Rattle.machine.specs.Tally.{Tally, tallyWords, talliesWords}
 use Rattle.machine.specs.Machine.{Worker, idle, asking, denied, ended, given, busy}
 use Rattle.turns.specs.declared.Progress.{Progress}
 use Rattle.turns.specs.declared.ring.Ring.{Ring as Words}

@@ -1,14 +1,15 @@
 -- The state of the machine as the lent memories hold it.
-use Prim.Native.Nat.{ℕ, suc, _+_, _*_, _<_, _≤_, _^_}
+use Prim.Native.Nat.{ℕ, _+_, _*_, _<_, _≤_, _^_}
 use mathlib.Core.Path.{_≡_}
 use mathlib.Core.List.{List, [], _∷_}
 use lib.ListN.{length, getD, take, drop}
 use Rattle.laws.specs.Sum.{sum}
 use Rattle.graph.specs.Graph.{Graph, objects, references, target}
 use Rattle.graph.specs.Limits.{most-objects, most-references}
+use Rattle.desk.specs.Lengths.{stretchLength}
 use Rattle.machine.specs.Run.{Run, run, carried}
 use Rattle.machine.specs.Tally.{talliesWords}
-use Rattle.machine.specs.Machine.{Setting, State, Worker, idle, asking, denied, ended, given, busy, Cell, empty, from, Phase, poll, look, claim, stretchLength}
+use Rattle.machine.specs.Machine.{Setting, State, Worker, idle, asking, denied, ended, given, busy, Cell, Phase}
 use Rattle.machine.specs.Accepted.{Accepted}
 use Rattle.machine.specs.Sound.{Sound, batchOf}
 use Rattle.worker.specs.declared.registers.Block.{Block}

@@ -2,8 +2,9 @@
 use Prim.Native.Nat.{ℕ, _+_, _*_, _≤_, _<_, _^_}
 use mathlib.Core.List.{List}
 use lib.ListN.{length, getD, set}
-use Rattle.machine.specs.Limits.{most-workers}
-use Rattle.machine.specs.Tally.{Tally, tally-words}
+use Rattle.desk.specs.Limits.{most-workers}
+use Rattle.desk.specs.Lengths.{tally-words}
+use Rattle.machine.specs.Tally.{Tally}
 
 -- where worker b's tally begins
 abbrev pub tallyAt : ℕ → ℕ

@@ -2,7 +2,7 @@
 use mathlib.Core.Path.{_≡_}
 use Prim.Native.Nat.{ℕ, _≤_, _<_}
 use lib.ListN.{length}
-use Rattle.machine.specs.Limits.{most-workers}
+use Rattle.desk.specs.Limits.{most-workers}
 use Rattle.machine.specs.Ring.{Ring, shade, blackSet}
 use Rattle.turns.specs.declared.ring.Ring.{Ring as Words}
 

@@ -112,7 +112,7 @@ pub fn total(tallies: &[u64], workers: u32, k: usize) -> u64
 {
     let mut all: u64 = 0;
     for b in 0..workers {
-        all += tallies[machine::TALLY * b as usize + k];
+        all += tallies[desk::places::TALLY * b as usize + k];
     }
     all
 }

@@ -1,6 +1,6 @@
 // The turns of a worker that looks or claims, and following; and taking a hand-over up.
 use crate::Progress;
-use crate::Setup;
+use crate::Step;
 use crate::counts;
 use worker::registers;
 use worker::registers::Block;
@@ -8,10 +8,10 @@ ghost use mathlib.Core.Path.{_≡_};
 ghost use mathlib.Core.Logic.{_≢_};
 ghost use mathlib.Core.List.{List};
 ghost use Prim.Native.Nat.{ℕ, _+_, _-_, _<_};
-ghost use lib.ListN.{length};
-ghost use Rattle.machine.specs.Limits.{most-workers};
+ghost use lib.ListN.{length, getD};
+ghost use Rattle.desk.specs.Limits.{most-workers};
 ghost use Rattle.machine.specs.Machine.{claimMark};
-ghost use Rattle.worker.specs.Registers.{Room, blockAt};
+ghost use Rattle.worker.specs.Registers.{Room, blockAt, putsAt, stepWords};
 ghost use Rattle.turns.specs.Claiming.{openedNone, openedBy, claimRow, claimTally, Claims, nextWord, Advanceable, Advanced, stoppedCount, stoppedAt, takenBlock};
 ghost use Rattle.turns.specs.Held.{memory};
 ghost use Rattle.turns.specs.Raising.{Raisable, raisedWords};
@@ -97,6 +97,14 @@ fn phase(batch: u32) -> u32
     }
 }
 
+// The reference at `first` comes up for worker b, with so much of its batch left.
+fn come_up(targets: &[u32], regs: &mut [u32], b: u32, batch: u32, first: u32)
+    requires { ⌜ Room (now regs) b × (first < length (now targets)) ⌝ }
+    ensures { λ _. ⌜ now (regs .exit) ≡ putsAt (now (regs .entry)) b (stepWords (nextWord batch) batch first (getD (now (targets .entry)) first 0)) ⌝ }
+{
+    registers::step(regs, b, phase(batch), batch, first, targets[first as usize]);
+}
+
 // The block of a worker that takes up a hand-over.
 fn taken(r: Block, target: u32) -> Block
     ensures { λ q. ⌜ q ≡ takenBlock r target ⌝ }
@@ -140,16 +148,16 @@ fn advance(
             s[at + 1] = g;
             registers::put(regs, b, registers::USED, used + 2);
             registers::put(regs, b, registers::CARRIED, r.carried + (g - f));
-            registers::step(regs, b, phase(batch), batch, rest, targets[rest as usize]);
+            come_up(targets, regs, b, batch, rest);
             return true;
         }
-        registers::step(regs, b, phase(batch), batch, rest, targets[rest as usize]);
+        come_up(targets, regs, b, batch, rest);
         return true;
     }
     if f < g {
         registers::put(regs, b, registers::CARRIED, r.carried + (g - f));
         registers::put(regs, b, registers::END, g);
-        registers::step(regs, b, phase(batch), batch, f, targets[f as usize]);
+        come_up(targets, regs, b, batch, f);
         return true;
     }
     if used < 2 {
@@ -159,7 +167,7 @@ fn advance(
     let first = s[at];
     registers::put(regs, b, registers::USED, used - 2);
     registers::put(regs, b, registers::END, s[at + 1]);
-    registers::step(regs, b, phase(batch), batch, first, targets[first as usize]);
+    come_up(targets, regs, b, batch, first);
     true
 }
 
@@ -177,26 +185,27 @@ fn stop(regs: &mut [u32], b: u32, cell: u32) -> u64
     1
 }
 
-// Worker b, with the block r, follows its first reference, at whose target c opens. Who calls raises
+// The worker, with the block r, follows its first reference, at whose target c opens. Who calls raises
 // its tally.
 fn follow(
     targets: &[u32],
-    setup: Setup,
     work: &mut [u32],
     regs: &mut [u32],
-    p: Progress,
-    b: u32,
+    step: Step,
     r: Block,
     c: Opened,
 ) -> Progress
-    requires { ⌜ r ≡ blockAt (now regs) b ⌝ }
+    requires { ⌜ r ≡ blockAt (now regs) (step .entry .worker) ⌝ }
     requires { ⌜ ((marks : List ℕ) × ((marks′ : List ℕ) × ((tallies : List ℕ) × ((tallies′ : List ℕ)
-        × Ready (IsFollowing setup (now targets) marks′ tallies′ c b) setup (memory marks (now work) tallies (now regs) p))))) ⌝ }
-    ensures { λ q. ⌜ ((marks marks′ tallies tallies′ : List ℕ) → DoesAny (IsFollowing setup (now (targets .entry)) marks′ tallies′ c b) setup b
-        (memory marks (now (work .entry)) tallies (now (regs .entry)) p)
+        × Ready (IsFollowing (step .setup) (now targets) marks′ tallies′ c (step .entry .worker)) (step .setup)
+        (memory marks (now work) tallies (now regs) (step .progress)))))) ⌝ }
+    ensures { λ q. ⌜ ((marks marks′ tallies tallies′ : List ℕ)
+        → DoesAny (IsFollowing (step .setup) (now (targets .entry)) marks′ tallies′ c (step .entry .worker)) (step .setup) (step .entry .worker)
+        (memory marks (now (work .entry)) tallies (now (regs .entry)) (step .progress))
         (memory marks′ (now (work .exit)) tallies′ (now (regs .exit)) q)) ⌝ }
 {
-    let len = setup.stretch;
+    let b = step.entry.worker as u32;
+    let len = step.setup.stretch;
     let from = b as usize * len;
     if advance(
         targets,
@@ -207,58 +216,58 @@ fn follow(
         c.first,
         c.end,
     ) {
-        return counts::followed(p, 0, 0);
+        return counts::followed(step.progress, 0, 0);
     }
     let refused = stop(regs, b, r.cell);
-    counts::followed(p, refused, 1)
+    counts::followed(step.progress, refused, 1)
 }
 
 // A look: where the target is marked, the reference is followed; where not, the next turn is a claim.
 pub fn look(
     targets: &[u32],
-    setup: Setup,
     marks: &[u8],
     work: &mut [u32],
     tallies: &mut [u64],
     regs: &mut [u32],
-    p: Progress,
-    b: u32,
+    step: Step,
 ) -> Progress
-    requires { ⌜ Ready (IsLooking (now targets) b) setup (memory (now marks) (now work) (now tallies) (now regs) p) ⌝ }
-    ensures { λ q. ⌜ DoesAny (IsLooking (now (targets .entry)) b) setup b
-        (memory (now (marks .entry)) (now (work .entry)) (now (tallies .entry)) (now (regs .entry)) p)
+    requires { ⌜ Ready (IsLooking (now targets) (step .entry .worker)) (step .setup)
+        (memory (now marks) (now work) (now tallies) (now regs) (step .progress)) ⌝ }
+    ensures { λ q. ⌜ DoesAny (IsLooking (now (targets .entry)) (step .entry .worker)) (step .setup) (step .entry .worker)
+        (memory (now (marks .entry)) (now (work .entry)) (now (tallies .entry)) (now (regs .entry)) (step .progress))
         (memory (now (marks .entry)) (now (work .exit)) (now (tallies .exit)) (now (regs .exit)) q) ⌝ }
 {
+    let b = step.entry.worker as u32;
     let r = registers::load(regs, b);
     let t = r.target as usize;
     let seen = marks[t];
     if seen != 0 {
-        let q = follow(targets, setup, work, regs, p, b, r, nothing());
+        let q = follow(targets, work, regs, step, r, nothing());
         // Behind it, so that what is left of the block is loaded where it is used.
         crate::raise(tallies, b, 1, 0, 0, 0);
         return q;
     }
     registers::put(regs, b, registers::STATUS, registers::CLAIM);
-    counts::moved(p, 0, 0)
+    counts::moved(step.progress, 0, 0)
 }
 
 // A claim; the reference is followed, whether the claim is won or lost.
 pub fn claim(
     offsets: &[u32],
     targets: &[u32],
-    setup: Setup,
     marks: &mut [u8],
     work: &mut [u32],
     tallies: &mut [u64],
     regs: &mut [u32],
-    p: Progress,
-    b: u32,
+    step: Step,
 ) -> Progress
-    requires { ⌜ Ready (IsClaiming (now offsets) (now targets) b) setup (memory (now marks) (now work) (now tallies) (now regs) p) ⌝ }
-    ensures { λ q. ⌜ DoesAny (IsClaiming (now (offsets .entry)) (now (targets .entry)) b) setup b
-        (memory (now (marks .entry)) (now (work .entry)) (now (tallies .entry)) (now (regs .entry)) p)
+    requires { ⌜ Ready (IsClaiming (now offsets) (now targets) (step .entry .worker)) (step .setup)
+        (memory (now marks) (now work) (now tallies) (now regs) (step .progress)) ⌝ }
+    ensures { λ q. ⌜ DoesAny (IsClaiming (now (offsets .entry)) (now (targets .entry)) (step .entry .worker)) (step .setup) (step .entry .worker)
+        (memory (now (marks .entry)) (now (work .entry)) (now (tallies .entry)) (now (regs .entry)) (step .progress))
         (memory (now (marks .exit)) (now (work .exit)) (now (tallies .exit)) (now (regs .exit)) q) ⌝ }
 {
+    let b = step.entry.worker as u32;
     let first = registers::load(regs, b);
     let target = first.target;
     let told = claim_target(marks, b, target);
@@ -266,18 +275,20 @@ pub fn claim(
     let found = opens(offsets, target, told);
     // Once more, so that the rest of the block is not kept over the writing of the tally.
     let r = registers::load(regs, b);
-    follow(targets, setup, work, regs, p, b, r, found)
+    follow(targets, work, regs, step, r, found)
 }
 
 // An asker takes the hand-over up that it is owed.
-pub fn take_up(targets: &[u32], setup: Setup, regs: &mut [u32], p: Progress, b: u32) -> Progress
-    requires { ⌜ ((marks : List ℕ) × ((work : List ℕ) × ((tallies : List ℕ) × Ready (IsGiven (now targets) b) setup (memory marks work tallies (now regs) p)))) ⌝ }
-    ensures { λ q. ⌜ ((marks work tallies : List ℕ) → DoesAny (IsGiven (now (targets .entry)) b) setup b
-        (memory marks work tallies (now (regs .entry)) p)
+pub fn take_up(targets: &[u32], regs: &mut [u32], step: Step) -> Progress
+    requires { ⌜ ((marks : List ℕ) × ((work : List ℕ) × ((tallies : List ℕ)
+        × Ready (IsGiven (now targets) (step .entry .worker)) (step .setup) (memory marks work tallies (now regs) (step .progress))))) ⌝ }
+    ensures { λ q. ⌜ ((marks work tallies : List ℕ) → DoesAny (IsGiven (now (targets .entry)) (step .entry .worker)) (step .setup) (step .entry .worker)
+        (memory marks work tallies (now (regs .entry)) (step .progress))
         (memory marks work tallies (now (regs .exit)) q)) ⌝ }
 {
+    let b = step.entry.worker as u32;
     let r = registers::load(regs, b);
     let first = r.first as usize;
     registers::store(regs, b, taken(r, targets[first]));
-    counts::moved(p, 0, 0)
+    counts::moved(step.progress, 0, 0)
 }

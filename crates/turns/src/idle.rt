@@ -1,7 +1,7 @@
 // The turn of an idle worker.
 use crate::Outcome;
 use crate::Progress;
-use crate::Setup;
+use crate::Step;
 use crate::counts;
 use crate::ring;
 use worker::registers;
@@ -12,14 +12,17 @@ ghost use Rattle.turns.specs.Outcome.{progressOf, ToldOver};
 ghost use Rattle.turns.specs.Turned.{Ready, Does, DoesAny, IsIdle, IsHolder, IsAsking};
 
 // The worker asks the named worker, if that is busy and its cell is empty.
-fn ask(setup: Setup, regs: &mut [u32], p: Progress, b: u32, v: u32) -> Progress
-    requires { ⌜ ((marks : List ℕ) × ((work : List ℕ) × ((tallies : List ℕ) × Ready (IsAsking b) setup (memory marks work tallies (now regs) p)))) ⌝ }
-    ensures { λ r. ⌜ ((marks work tallies : List ℕ) → Does (IsAsking b) setup b v
-        (memory marks work tallies (now (regs .entry)) p)
+fn ask(regs: &mut [u32], step: Step) -> Progress
+    requires { ⌜ ((marks : List ℕ) × ((work : List ℕ) × ((tallies : List ℕ)
+        × Ready (IsAsking (step .entry .worker)) (step .setup) (memory marks work tallies (now regs) (step .progress))))) ⌝ }
+    ensures { λ r. ⌜ ((marks work tallies : List ℕ) → Does (IsAsking (step .entry .worker)) (step .setup) (step .entry .worker) (step .entry .named)
+        (memory marks work tallies (now (regs .entry)) (step .progress))
         (memory marks work tallies (now (regs .exit)) r)) ⌝ }
 {
-    let workers = setup.workers;
-    if workers <= v {
+    let b = step.entry.worker as u32;
+    let v = step.entry.named as u32;
+    let p = step.progress;
+    if step.setup.workers <= v {
         return p;
     }
     let r = registers::load(regs, v);
@@ -38,12 +41,15 @@ fn ask(setup: Setup, regs: &mut [u32], p: Progress, b: u32, v: u32) -> Progress
 
 // The worker holds the token. Worker 0 ends, and the collection with it, if the token and the worker are
 // white; else it sends a white one. Any other worker passes it on. No other worker is looked at.
-fn pass(setup: Setup, regs: &mut [u32], p: Progress, b: u32) -> Progress
-    requires { ⌜ ((marks : List ℕ) × ((work : List ℕ) × ((tallies : List ℕ) × Ready (IsHolder b) setup (memory marks work tallies (now regs) p)))) ⌝ }
-    ensures { λ r. ⌜ ((marks work tallies : List ℕ) → DoesAny (IsHolder b) setup b
-        (memory marks work tallies (now (regs .entry)) p)
+fn pass(regs: &mut [u32], step: Step) -> Progress
+    requires { ⌜ ((marks : List ℕ) × ((work : List ℕ) × ((tallies : List ℕ)
+        × Ready (IsHolder (step .entry .worker)) (step .setup) (memory marks work tallies (now regs) (step .progress))))) ⌝ }
+    ensures { λ r. ⌜ ((marks work tallies : List ℕ) → DoesAny (IsHolder (step .entry .worker)) (step .setup) (step .entry .worker)
+        (memory marks work tallies (now (regs .entry)) (step .progress))
         (memory marks work tallies (now (regs .exit)) r)) ⌝ }
 {
+    let b = step.entry.worker as u32;
+    let p = step.progress;
     let ring = p.ring;
     if b == 0 {
         let token = ring.token;
@@ -53,29 +59,29 @@ fn pass(setup: Setup, regs: &mut [u32], p: Progress, b: u32) -> Progress
             return counts::ended(p);
         }
     }
-    let next = ring::passed(ring, setup.workers, b);
+    let next = ring::passed(ring, step.setup.workers, b);
     counts::ringed(p, next)
 }
 
 // The worker passes the token, if it holds it: worker 0 has not ended then. Else it ends if worker 0 has
 // ended, and asks, if not.
-pub fn idle_turn(setup: Setup, regs: &mut [u32], p: Progress, b: u32, v: u32) -> Outcome
-    requires { ⌜ ((marks : List ℕ) × ((work : List ℕ) × ((tallies : List ℕ) × Ready (IsIdle b) setup (memory marks work tallies (now regs) p)))) ⌝ }
-    ensures { λ r. ⌜ ((marks work tallies : List ℕ) → Does (IsIdle b) setup b v
-        (memory marks work tallies (now (regs .entry)) p)
+pub fn idle_turn(regs: &mut [u32], step: Step) -> Outcome
+    requires { ⌜ ((marks : List ℕ) × ((work : List ℕ) × ((tallies : List ℕ)
+        × Ready (IsIdle (step .entry .worker)) (step .setup) (memory marks work tallies (now regs) (step .progress))))) ⌝ }
+    ensures { λ r. ⌜ ((marks work tallies : List ℕ) → Does (IsIdle (step .entry .worker)) (step .setup) (step .entry .worker) (step .entry .named)
+        (memory marks work tallies (now (regs .entry)) (step .progress))
         (memory marks work tallies (now (regs .exit)) (progressOf r))) ⌝ }
     ensures { λ r. ⌜ ToldOver r ⌝ }
 {
-    let ring = p.ring;
-    let holder = ring.holder;
-    if holder == b as u64 {
-        return crate::ending(pass(setup, regs, p, b));
+    let b = step.entry.worker as u32;
+    if step.progress.ring.holder == b as u64 {
+        return crate::ending(pass(regs, step));
     }
     let first = registers::load(regs, 0);
     let status = first.status;
     if status == registers::ENDED {
         registers::put(regs, b, registers::STATUS, registers::ENDED);
-        return crate::ending(counts::ended(p));
+        return crate::ending(counts::ended(step.progress));
     }
-    Outcome::Goes(ask(setup, regs, p, b, v))
+    Outcome::Goes(ask(regs, step))
 }

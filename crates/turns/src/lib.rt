@@ -35,6 +35,20 @@ pub struct Progress {
     pub ring: Ring,
 }
 
+// An entry of the schedule: the worker whose turn it is, and whom it asks. Bytes, as in the schedule: so
+// the compiler knows how large they are, and puts following into the loop.
+pub struct Entry {
+    pub worker: u8,
+    pub named: u8,
+}
+
+// A turn to be taken: with these settings, so far, and by this entry.
+pub struct Step {
+    pub setup: Setup,
+    pub progress: Progress,
+    pub entry: Entry,
+}
+
 // How far a turn leaves the collection. Over is told by the turn in which the last worker ends; so no
 // other turn need be followed by a test.
 pub enum Outcome {
@@ -59,7 +73,7 @@ fn raise(tallies: &mut [u64], b: u32, followed: u64, won: u64, lost: u64, handed
     requires { ⌜ Raisable (now tallies) b (tally followed won lost handed) ⌝ }
     ensures { λ _. ⌜ now (tallies .exit) ≡ raisedWords (now (tallies .entry)) b (tally followed won lost handed) ⌝ }
 {
-    let at = machine::TALLY * b as usize;
+    let at = desk::places::TALLY * b as usize;
     let f = tallies[at] + followed;
     let w = tallies[at + 1] + won;
     let l = tallies[at + 2] + lost;
@@ -70,56 +84,48 @@ fn raise(tallies: &mut [u64], b: u32, followed: u64, won: u64, lost: u64, handed
     tallies[at + 3] = h;
 }
 
-// Worker b's turn, which names v.
+// One turn.
 pub fn turn(
     offsets: &[u32],
     targets: &[u32],
-    setup: Setup,
     marks: &mut [u8],
     work: &mut [u32],
     tallies: &mut [u64],
     regs: &mut [u32],
-    p: Progress,
-    b: u32,
-    v: u32,
+    step: Step,
 ) -> Outcome
-    requires { ⌜ Ready (IsLent setup (now offsets) (now targets) b) setup (memory (now marks) (now work) (now tallies) (now regs) p) ⌝ }
-    ensures { λ r. ⌜ Does (IsLent setup (now (offsets .entry)) (now (targets .entry)) b) setup b v
-        (memory (now (marks .entry)) (now (work .entry)) (now (tallies .entry)) (now (regs .entry)) p)
+    requires { ⌜ Ready (IsLent (step .setup) (now offsets) (now targets) (step .entry .worker)) (step .setup)
+        (memory (now marks) (now work) (now tallies) (now regs) (step .progress)) ⌝ }
+    ensures { λ r. ⌜ Does (IsLent (step .setup) (now (offsets .entry)) (now (targets .entry)) (step .entry .worker)) (step .setup)
+        (step .entry .worker) (step .entry .named)
+        (memory (now (marks .entry)) (now (work .entry)) (now (tallies .entry)) (now (regs .entry)) (step .progress))
         (memory (now (marks .exit)) (now (work .exit)) (now (tallies .exit)) (now (regs .exit)) (progressOf r)) ⌝ }
     ensures { λ r. ⌜ ToldOver r ⌝ }
 {
+    let b = step.entry.worker as u32;
     let r = registers::load(regs, b);
     let status = r.status;
     match status {
-        registers::IDLE => idle::idle_turn(setup, regs, p, b, v),
+        registers::IDLE => idle::idle_turn(regs, step),
         registers::DENIED => {
             registers::put(regs, b, registers::STATUS, registers::IDLE);
-            Outcome::Goes(counts::moved(p, 0, 0))
+            Outcome::Goes(counts::moved(step.progress, 0, 0))
         }
-        registers::GIVEN => Outcome::Goes(follow::take_up(targets, setup, regs, p, b)),
-        registers::POLL => Outcome::Goes(poll::poll(setup, work, tallies, regs, p, b)),
-        registers::LOOK => Outcome::Goes(follow::look(
-            targets,
-            setup,
-            marks,
-            work,
-            tallies,
-            regs,
-            p,
-            b,
-        )),
+        registers::GIVEN => Outcome::Goes(follow::take_up(targets, regs, step)),
+        registers::POLL => Outcome::Goes(poll::poll(work, tallies, regs, step)),
+        registers::LOOK => Outcome::Goes(follow::look(targets, marks, work, tallies, regs, step)),
         registers::CLAIM => Outcome::Goes(follow::claim(
             offsets,
             targets,
-            setup,
             marks,
             work,
             tallies,
             regs,
-            p,
-            b,
+            step,
         )),
-        _ => Outcome::Goes(p),
+        _ => {
+            let p = step.progress;
+            Outcome::Goes(p)
+        }
     }
 }

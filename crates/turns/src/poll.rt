@@ -1,6 +1,6 @@
 // The turn of a worker that polls: it answers the asker in its cell, and a batch begins.
 use crate::Progress;
-use crate::Setup;
+use crate::Step;
 use crate::counts;
 use machine::frontier::Held;
 use worker::registers;
@@ -166,21 +166,15 @@ fn given(t: Top, carried: u32) -> Block
 
 // The worker keeps the first half of its references, rounded up, and the asker gets the rest. Whoever
 // hands over turns black.
-fn share(
-    setup: Setup,
-    work: &mut [u32],
-    tallies: &mut [u64],
-    regs: &mut [u32],
-    p: Progress,
-    b: u32,
-    r: Block,
-) -> Progress
-    requires { ⌜ r ≡ blockAt (now regs) b ⌝ }
-    requires { ⌜ ((marks : List ℕ) × Ready (IsAsked setup true b) setup (memory marks (now work) (now tallies) (now regs) p)) ⌝ }
-    ensures { λ q. ⌜ ((marks : List ℕ) → DoesAny (IsAsked setup true b) setup b
-        (memory marks (now (work .entry)) (now (tallies .entry)) (now (regs .entry)) p)
+fn share(work: &mut [u32], tallies: &mut [u64], regs: &mut [u32], step: Step, r: Block) -> Progress
+    requires { ⌜ r ≡ blockAt (now regs) (step .entry .worker) ⌝ }
+    requires { ⌜ ((marks : List ℕ) × Ready (IsAsked (step .setup) true (step .entry .worker)) (step .setup)
+        (memory marks (now work) (now tallies) (now regs) (step .progress))) ⌝ }
+    ensures { λ q. ⌜ ((marks : List ℕ) → DoesAny (IsAsked (step .setup) true (step .entry .worker)) (step .setup) (step .entry .worker)
+        (memory marks (now (work .entry)) (now (tallies .entry)) (now (regs .entry)) (step .progress))
         (memory marks (now (work .exit)) (now (tallies .exit)) (now (regs .exit)) q)) ⌝ }
 {
+    let b = step.entry.worker as u32;
     let asker = r.cell - 1;
     let carried = r.carried;
     let half = (carried + 1) / 2;
@@ -190,27 +184,29 @@ fn share(
         end: r.end,
     };
     let rest = carried - half;
-    let parts = divide(work, setup.stretch, b, asker, top, half, rest);
-    registers::store(regs, b, shared(r, setup.batch, half, parts.kept));
+    let parts = divide(work, step.setup.stretch, b, asker, top, half, rest);
+    registers::store(regs, b, shared(r, step.setup.batch, half, parts.kept));
     registers::store(regs, asker, given(parts.given, rest));
     crate::raise(tallies, b, 0, 0, 0, 1);
-    counts::handed(p, b)
+    counts::handed(step.progress, b)
 }
 
 // The asker is answered no.
-fn refuse(setup: Setup, regs: &mut [u32], p: Progress, b: u32, r: Block) -> Progress
-    requires { ⌜ r ≡ blockAt (now regs) b ⌝ }
-    requires { ⌜ ((marks : List ℕ) × ((work : List ℕ) × ((tallies : List ℕ) × Ready (IsAsked setup false b) setup (memory marks work tallies (now regs) p)))) ⌝ }
-    ensures { λ q. ⌜ ((marks work tallies : List ℕ) → DoesAny (IsAsked setup false b) setup b
-        (memory marks work tallies (now (regs .entry)) p)
+fn refuse(regs: &mut [u32], step: Step, r: Block) -> Progress
+    requires { ⌜ r ≡ blockAt (now regs) (step .entry .worker) ⌝ }
+    requires { ⌜ ((marks : List ℕ) × ((work : List ℕ) × ((tallies : List ℕ)
+        × Ready (IsAsked (step .setup) false (step .entry .worker)) (step .setup) (memory marks work tallies (now regs) (step .progress))))) ⌝ }
+    ensures { λ q. ⌜ ((marks work tallies : List ℕ) → DoesAny (IsAsked (step .setup) false (step .entry .worker)) (step .setup) (step .entry .worker)
+        (memory marks work tallies (now (regs .entry)) (step .progress))
         (memory marks work tallies (now (regs .exit)) q)) ⌝ }
 {
+    let b = step.entry.worker as u32;
     let carried = r.carried;
-    let batch = least(setup.batch, carried);
+    let batch = least(step.setup.batch, carried);
     registers::put(regs, b, registers::CELL, 0);
     registers::begin(regs, b, batch, r.since + batch, carried - batch);
     registers::put(regs, r.cell - 1, registers::STATUS, registers::DENIED);
-    counts::moved(p, 0, 1)
+    counts::moved(step.progress, 0, 1)
 }
 
 // Whether a poll shares: where more than K are carried, or where since is at least K and at least 2
@@ -228,29 +224,24 @@ fn shares(cutoff: u32, since: u32, carried: u32) -> bool
 }
 
 // The cell empties, its asker is answered, and a batch begins.
-pub fn poll(
-    setup: Setup,
-    work: &mut [u32],
-    tallies: &mut [u64],
-    regs: &mut [u32],
-    p: Progress,
-    b: u32,
-) -> Progress
-    requires { ⌜ ((marks : List ℕ) × Ready (IsPolling b) setup (memory marks (now work) (now tallies) (now regs) p)) ⌝ }
-    ensures { λ q. ⌜ ((marks : List ℕ) → DoesAny (IsPolling b) setup b
-        (memory marks (now (work .entry)) (now (tallies .entry)) (now (regs .entry)) p)
+pub fn poll(work: &mut [u32], tallies: &mut [u64], regs: &mut [u32], step: Step) -> Progress
+    requires { ⌜ ((marks : List ℕ) × Ready (IsPolling (step .entry .worker)) (step .setup)
+        (memory marks (now work) (now tallies) (now regs) (step .progress))) ⌝ }
+    ensures { λ q. ⌜ ((marks : List ℕ) → DoesAny (IsPolling (step .entry .worker)) (step .setup) (step .entry .worker)
+        (memory marks (now (work .entry)) (now (tallies .entry)) (now (regs .entry)) (step .progress))
         (memory marks (now (work .exit)) (now (tallies .exit)) (now (regs .exit)) q)) ⌝ }
 {
+    let b = step.entry.worker as u32;
     let r = registers::load(regs, b);
     let cell = r.cell;
     if cell == 0 {
         let carried = r.carried;
-        let batch = least(setup.batch, carried);
+        let batch = least(step.setup.batch, carried);
         registers::begin(regs, b, batch, r.since + batch, carried - batch);
-        return counts::moved(p, 0, 0);
+        return counts::moved(step.progress, 0, 0);
     }
-    if shares(setup.cutoff, r.since, r.carried) {
-        return share(setup, work, tallies, regs, p, b, r);
+    if shares(step.setup.cutoff, r.since, r.carried) {
+        return share(work, tallies, regs, step, r);
     }
-    refuse(setup, regs, p, b, r)
+    refuse(regs, step, r)
 }

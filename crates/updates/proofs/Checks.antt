@@ -10,30 +10,31 @@ use borrow.Author.Tests.{eqb-true, not-false, ltb-false, lt-ltb, le-ltb}
 use Rattle.laws.specs.Span.{span}
 use Rattle.laws.specs.Test.{allUpTo}
 use Rattle.refusal.specs.declared.Refusal.{Refusal}
-use Rattle.refusal.specs.declared.Refusal.the-variants.{Count, Buffer, Graph as NoGraph, Starts, Object, Marks}
+use Rattle.refusal.specs.declared.Refusal.the-variants.{Count, Buffer, Graph as NoGraph, Object, Marks}
 use Rattle.refusal.specs.declared.Verdict.{Verdict}
 use Rattle.refusal.specs.declared.Verdict.the-variants.{Fine, Faulty}
-use Rattle.refusal.specs.Number.{number}
+use Rattle.refusal.specs.Number.{number, numberOf}
 use Rattle.refusal.specs.Order.{raise}
 use Rattle.refusal.proofs.None.{raise-none, first-none, or-none}
 use Rattle.refusal.proofs.Numbers.{numbered, when-fine, when-faulty}
 use Rattle.graph.specs.Graph.{Graph, graph, objects, allBelow, wellFormed}
 use Rattle.graph.specs.Chain.{Closed}
 use Rattle.graph.specs.Formed.{Formed}
-use Rattle.graph.specs.Limits.{most-objects, most-references, most-starts}
+use Rattle.graph.specs.Limits.{most-objects, most-references}
 use Rattle.graph.proofs.Formed.{formed, below-all}
-use Rattle.machine.specs.Call.{outside}
+use Rattle.desk.specs.Checks.{countsOutside, countFault, storeFault}
+use Rattle.desk.proofs.Passed.{counted, stored}
 use Rattle.machine.specs.Sound.{Marked}
-use Rattle.marker.proofs.Checks.{Count?, objects-low}
-use Rattle.updates.specs.Pairs.{paired}
-use Rattle.updates.specs.Stores.{added, completed, distinct, staying, chosen, removed, marksAfresh}
-use Rattle.updates.specs.Filling.{Addable}
-use Rattle.updates.specs.Taking.{absent, Gathered, Covers, Climbs}
-use Rattle.updates.specs.Call.{Lengths, lengths, lengthsWrong, closedAt, addFault, AddFinds, Adds, removeFault, RemoveChecked, Removes}
+use Rattle.updates.specs.declared.Lengths.{Lengths}
+use Rattle.changes.specs.Pairs.{paired}
+use Rattle.changes.specs.Stores.{added, completed, distinct, staying, chosen, removed, marksAfresh}
+use Rattle.changes.specs.Filling.{Addable}
+use Rattle.changes.specs.Taking.{absent, Gathered, Covers, Climbs}
+use Rattle.updates.specs.Call.{lengths, lengthsWrong, closedAt, addFault, AddFinds, Adds, removeFault, RemoveChecked, Removes}
 use Rattle.updates.proofs.Closing.{found-closed}
-use Rattle.updates.proofs.Keeping.{distinct-staying, counts, counts-long, absent-staying, removed-is, removed-objects, removed-formed, offsets-climb}
-use Rattle.updates.proofs.Pairing.{paired-inside}
-use Rattle.updates.proofs.Promise.{add-promise, afresh-promise}
+use Rattle.changes.proofs.Keeping.{distinct-staying, counts, counts-long, absent-staying, removed-is, removed-objects, removed-formed, offsets-climb}
+use Rattle.changes.proofs.Pairing.{paired-inside}
+use Rattle.changes.proofs.Promise.{add-promise, afresh-promise}
 
 -- either of two tests
 pub or-left : {s : Bool} (t : Bool) → s ≡ true → (s || t) ≡ true
@@ -52,9 +53,6 @@ none-of e = ap not e
 pub found-by : {t : Bool} → t ≡ false → not t ≡ true
 found-by e = ap not e
 
-pub few-targets : (o m : ℕ) → Count? o m ≡ false → m ≤ most-references
-few-targets o m e = ltb-false most-references m (or-none (ltb o 2 || ltb most-objects (o - 1)) (ltb most-references m) e .1)
-
 -- the enlarged m, without the sum being made
 pub sum-over : (m k : ℕ) → m ≤ most-references → most-references - m < k → ltb most-references (m + k) ≡ true
 sum-over m k h q = lt-ltb most-references (m + k) (omega (arith, h, q))
@@ -71,11 +69,11 @@ abbrev pub Pairs? : ℕ → List ℕ → List ℕ → Bool
 Pairs? n from to = not (allBelow n from) || not (allBelow n to)
 
 module _ {os ts from to ms : List ℕ} {l : Lengths} where
-  pub add-4 : Count? (length os) (length ts) ≡ true → AddFinds (Faulty Count) os ts from to ms l
+  pub add-4 : countsOutside (length os - 1) (length ts) ≡ true → AddFinds (Faulty Count) os ts from to ms l
   unfolding addFault
   add-4 e = record { number-is = rw e }
 
-  module _ (e₄ : Count? (length os) (length ts) ≡ false) where
+  module _ (e₄ : countsOutside (length os - 1) (length ts) ≡ false) where
     pub add-sum : ltb most-references (length ts + length from) ≡ true → AddFinds (Faulty Count) os ts from to ms l
     unfolding addFault
     add-sum e = record { number-is = rw (e₄, e) }
@@ -142,12 +140,12 @@ module _ (os ts from to bounds places ms work : List ℕ) where
   unfolding addFault
   add-ready z =
       let l = lengths bounds places ms work in
-      let a = first-none (raise (Count? (length os) (length ts)) 4 0) _ z in
+      let a = first-none (countFault os ts) _ z in
       let b = first-none (raise (ltb most-references (length ts + length from)) 4 0) _ (a .1) in
       let c = first-none (raise (Lists? n (length ts) from to l) 7 0) _ (b .1) in
       let d = first-none (raise (not (wellFormed (graph os ts))) 10 0) _ (c .1) in
       let e = first-none (raise (Pairs? n from to) 5 0) _ (d .1) in
-      let low = objects-low (length os) (length ts) (raise-none (Count? (length os) (length ts)) 3 0 (a .0) .0) in
+      let low = counted os ts (a .0) in
       let lists = or-none (not (eqb (length to) (length from))) (lengthsWrong n (length ts + length from) l)
       (raise-none (Lists? n (length ts) from to l) 6 0 (c .0) .0) in
       let f = fits n (length ts + length from) l (lists .1) in
@@ -212,11 +210,11 @@ module _ {os ts ns starts : List ℕ} {l : Lengths} {ws : List ℕ} where
   refuses : {cause : Refusal} → number cause ≡ removeFault os ts ns starts l → RemoveChecked (Faulty cause) os ts ns starts l ws
   refuses {cause} e = record { number-is = e; gathered = λ z. absurd (omega (arith, z, e, numbered cause)) }
 
-  pub remove-4 : Count? (length os) (length ts) ≡ true → RemoveChecked (Faulty Count) os ts ns starts l ws
+  pub remove-4 : countsOutside (length os - 1) (length ts) ≡ true → RemoveChecked (Faulty Count) os ts ns starts l ws
   unfolding removeFault
   remove-4 e = refuses (rw e)
 
-  module _ (e₄ : Count? (length os) (length ts) ≡ false) where
+  module _ (e₄ : countsOutside (length os - 1) (length ts) ≡ false) where
     pub remove-5 : allBelow (length ts) ns ≡ false → RemoveChecked (Faulty Object) os ts ns starts l ws
     unfolding removeFault
     remove-5 e = refuses (rw (e₄, e))
@@ -227,33 +225,29 @@ module _ {os ts ns starts : List ℕ} {l : Lengths} {ws : List ℕ} where
       remove-7 e = refuses (rw (e₄, e₅, ← g .count-is, e))
 
       module _ (e₇ : lengthsWrong (length os - 1) (length ts - r) l ≡ false) where
-        pub remove-10 : wellFormed (graph os ts) ≡ false → RemoveChecked (Faulty NoGraph) os ts ns starts l ws
+        -- 10, 13 or 5
+        pub remove-store : (cause : Refusal) → number cause ≡ storeFault os ts starts → RemoveChecked (Faulty cause) os ts ns starts l ws
         unfolding removeFault
-        remove-10 e = refuses (rw (e₄, e₅, ← g .count-is, e₇, e))
+        remove-store cause e = refuses (rw (e₄, e₅, ← g .count-is, e₇) e)
 
-        module _ (e₁₀ : wellFormed (graph os ts) ≡ true) where
-          pub remove-13 : outside most-starts (length starts) ≡ true → RemoveChecked (Faulty Starts) os ts ns starts l ws
-          unfolding removeFault
-          remove-13 e = refuses (rw (e₄, e₅, ← g .count-is, e₇, e₁₀, e))
+        pub remove-none : storeFault os ts starts ≡ 0 → RemoveChecked Fine os ts ns starts l ws
+        unfolding removeFault
+        remove-none e =
+            record {
+              number-is = rw (e₄, e₅, ← g .count-is, e₇, e);
+              gathered = λ z.
+                  record {
+                    long = g .long;
+                    bits = g .bits;
+                    count-is = refl;
+                    count-low = omega (arith, g .count-is, g .count-low);
+                  };
+            }
 
-          module _ (e₁₃ : outside most-starts (length starts) ≡ false) where
-            pub remove-5s : allBelow (length os - 1) starts ≡ false → RemoveChecked (Faulty Object) os ts ns starts l ws
-            unfolding removeFault
-            remove-5s e = refuses (rw (e₄, e₅, ← g .count-is, e₇, e₁₀, e₁₃, e))
-
-            pub remove-none : allBelow (length os - 1) starts ≡ true → RemoveChecked Fine os ts ns starts l ws
-            unfolding removeFault
-            remove-none e =
-                record {
-                  number-is = rw (e₄, e₅, ← g .count-is, e₇, e₁₀, e₁₃, e);
-                  gathered = λ z.
-                      record {
-                        long = g .long;
-                        bits = g .bits;
-                        count-is = refl;
-                        count-low = omega (arith, g .count-is, g .count-low);
-                      };
-                }
+        -- by what the checks of the store find
+        pub remove-by : (v : Verdict) → numberOf v ≡ storeFault os ts starts → RemoveChecked v os ts ns starts l ws
+        remove-by Fine e = remove-none (sym e)
+        remove-by (Faulty cause) e = remove-store cause e
 
 pub record RemoveReady (os ts ns starts bounds places ms work : List ℕ) : Type 0 where
   pub formed : Formed (graph os ts)
@@ -273,24 +267,22 @@ module _ (os ts ns starts bounds places ms work : List ℕ) where
   unfolding removeFault
   remove-ready z =
       let l = lengths bounds places ms work in
-      let a = first-none (raise (Count? (length os) (length ts)) 4 0) _ z in
+      let a = first-none (countFault os ts) _ z in
       let b = first-none (raise (not (allBelow (length ts) ns)) 5 0) _ (a .1) in
       let c = first-none (raise (lengthsWrong N (length ts - distinct ns (length ts)) l) 7 0) _ (b .1) in
-      let d = first-none (raise (not (wellFormed (graph os ts))) 10 0) _ (c .1) in
-      let e = first-none (raise (outside most-starts (length starts)) 13 0) _ (d .1) in
-      let q = raise-none (Count? (length os) (length ts)) 3 0 (a .0) .0 in
-      let low = objects-low (length os) (length ts) q in
+      let low = counted os ts (a .0) in
+      let s = stored os ts starts (c .1) in
       let f = fits N (length ts - distinct ns (length ts)) l
       (raise-none (lengthsWrong N (length ts - distinct ns (length ts)) l) 6 0 (c .0) .0) in
       record {
-        formed = formed (graph os ts) (not-false _ (raise-none (not (wellFormed (graph os ts))) 9 0 (d .0) .0));
+        formed = s .formed;
         few = low .1;
-        few-references = few-targets (length os) (length ts) q;
+        few-references = low .2;
         bounds-long = omega (arith, f .bounds-long, low .0);
         places-long = omega (arith, f .places-long, distinct-staying ns (length ts));
         marks-long = omega (arith, f .marks-long, low .0);
         work-long = f .work-long ∙ sym (f .marks-long);
-        starts-low = rw (f .marks-long) (not-false _ (raise-none (not (allBelow N starts)) 4 0 (e .1) .0));
+        starts-low = rw (f .marks-long) (s .inside);
       }
 
 module _ {os ts ns starts : List ℕ} (bounds places ms work : List ℕ) {v : Verdict} {ws : List ℕ}

@@ -9,7 +9,7 @@ use native.Mathlib.Omega.{arith}
 use lib.Dec.{eqb}
 use lib.ListN.{length, getD, drop}
 use borrow.Author.Tests.{eq-eqb, ne-eqb, eqb-false, not-true}
-use Rattle.laws.specs.Test.{all, allUpTo}
+use Rattle.laws.specs.Test.{allUpTo}
 use Rattle.laws.proofs.Decides.{never}
 use Rattle.laws.proofs.Test.{both-is, either-true, either-right, tested, all-step, all-stop, all-end, all-hit, up-to-each}
 use Rattle.graph.specs.Graph.{Graph, objects, referencesOf, target, allBelow, wellFormed}
@@ -19,7 +19,7 @@ use Rattle.graph.proofs.Formed.{formed}
 use Rattle.graph.proofs.View.{view-has}
 use Rattle.machine.specs.Sound.{Marked}
 use Rattle.updates.specs.Call.{allMarked, closedAt}
-use Rattle.updates.proofs.Following.{view-below}
+use Rattle.changes.proofs.Following.{view-below}
 
 -- ---- the objects of a list
 

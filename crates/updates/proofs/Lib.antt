@@ -1,12 +1,2 @@
-pub mod Touching
-pub mod Following
-pub mod Seeding
 pub mod Closing
-pub mod Pairing
-pub mod Enlarging
-pub mod Gathering
-pub mod Keeping
-pub mod Adding
-pub mod Afresh
-pub mod Promise
 pub mod Checks

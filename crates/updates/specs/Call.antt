@@ -11,30 +11,23 @@ use Rattle.refusal.specs.declared.Verdict.{Verdict}
 use Rattle.refusal.specs.Number.{numberOf}
 use Rattle.refusal.specs.Order.{raise, first}
 use Rattle.graph.specs.Graph.{Graph, graph, objects, references, referencesOf, allBelow}
-use Rattle.graph.specs.Limits.{most-objects, most-references}
-use Rattle.machine.specs.Call.{outside, countFault, graphFault, startsFault, objectFault}
-use Rattle.hops.specs.Call.{LengthRow, lengthBy}
-use Rattle.updates.specs.Pairs.{paired}
-use Rattle.updates.specs.Stores.{added, completed, distinct, removed, marksAfresh}
-use Rattle.updates.specs.Taking.{Gathered}
-use Rattle.updates.specs.Promise.{AddPromise, RemovePromise}
+use Rattle.graph.specs.Limits.{most-references}
+use Rattle.desk.specs.Checks.{countFault, objectsFault, graphFault, storeFault}
+use Rattle.desk.specs.Length.{LengthRow, lengthBy}
+use Rattle.updates.specs.declared.Lengths.{Lengths}
+use Rattle.changes.specs.Pairs.{paired}
+use Rattle.changes.specs.Stores.{added, completed, distinct, removed, marksAfresh}
+use Rattle.changes.specs.Taking.{Gathered}
+use Rattle.changes.specs.Promise.{AddPromise, RemovePromise}
 
 -- how many work words n objects take, in either call; 4: n outside its range
 abbrev pub lengthFor : ℕ → LengthRow
-lengthFor n = lengthBy (raise (outside most-objects n) 4 0) n
+lengthFor n = lengthBy (objectsFault n) n
 
 -- the lengths of the buffers that both calls are lent
-pub record Lengths : Type 0 where
-  pub offsets : ℕ
-  pub targets : ℕ
-  pub marks : ℕ
-  pub work : ℕ
-
-abbrev pub lengthsOf : ℕ → ℕ → ℕ → ℕ → Lengths
-lengthsOf offsets targets marks work = record { offsets = offsets; targets = targets; marks = marks; work = work }
-
 abbrev pub lengths : List ℕ → List ℕ → List ℕ → List ℕ → Lengths
-lengths offsets targets marks work = lengthsOf (length offsets) (length targets) (length marks) (length work)
+lengths offsets targets marks work =
+    record { offsets = length offsets; targets = length targets; marks = length marks; work = length work }
 
 -- not n + 1 new offsets, so many new targets, n marks or n work words
 abbrev pub lengthsWrong : ℕ → ℕ → Lengths → Bool
@@ -114,9 +107,7 @@ removeFault offsets targets ns starts l =
     first (countFault offsets targets)
     (first (numberFault (length targets) ns)
     (first (removeLengthFault (graph offsets targets) ns l)
-    (first (graphFault (graph offsets targets))
-    (first (startsFault starts)
-    (objectFault (objects (graph offsets targets)) starts)))))
+    (storeFault offsets targets starts)))
 
 -- what the checks find is the first fault; where there is none, the numbers are gathered
 pub record RemoveChecked (v : Verdict) (offsets targets ns starts : List ℕ) (l : Lengths) (ws : List ℕ) : Type 0 where

@@ -9,10 +9,15 @@ use Rattle.laws.specs.Grouping.{part, grouped, under, below, starts}
 use Rattle.laws.specs.Test.{all, allUpTo}
 use Rattle.graph.specs.Graph.{Graph, graph, referencesOf, rising, allBelow, wellFormed}
 use Rattle.graph.specs.Chain.{closure, rounds, spread, spreadRun}
-use Rattle.hops.specs.Call.{lengthWith}
-use Rattle.updates.specs.Pairs.{pairsBelow, pairsOf, paired}
-use Rattle.updates.specs.Stores.{storeOf, added, completed, chosen, removed, startMarks, marksAfresh}
-use Rattle.updates.specs.Call.{Lengths, lengthsOf, addFault, removeFault, lengthFor}
+use Rattle.desk.specs.Length.{lengthWith}
+use Rattle.updates.specs.declared.Lengths.{Lengths}
+use Rattle.changes.specs.Pairs.{pairsBelow, pairsOf, paired}
+use Rattle.changes.specs.Stores.{storeOf, added, completed, chosen, removed, startMarks, marksAfresh}
+use Rattle.updates.specs.Call.{addFault, removeFault, lengthFor}
+
+-- lengths in the order of the buffers
+abbrev pub lengthsOf : ℕ → ℕ → ℕ → ℕ → Lengths
+lengthsOf offsets targets marks work = record { offsets = offsets; targets = targets; marks = marks; work = work }
 
 -- store S: 0→1, 0→2, 1→3, 2→3, 3→0, 5→4
 abbrev pub offsetsS : List ℕ

@@ -1,8 +1,2 @@
-pub mod Pairs
-pub mod Stores
-pub mod Marking
-pub mod Filling
-pub mod Taking
 pub mod Call
-pub mod Promise
 pub mod Drawings

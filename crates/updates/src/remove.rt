@@ -1,5 +1,6 @@
 // Taking references out: what remains of the store, and the marks afresh on it.
-use crate::marking;
+use crate::Lengths;
+use changes::marking;
 use refusal::Refusal;
 use refusal::Verdict;
 use slices::bits;
@@ -12,9 +13,9 @@ ghost use Rattle.laws.specs.Span.{span};
 ghost use Rattle.graph.specs.Graph.{graph, allBelow};
 ghost use Rattle.graph.specs.Formed.{Formed};
 ghost use Rattle.graph.specs.Limits.{most-references};
-ghost use Rattle.updates.specs.Stores.{chosen, marksAfresh};
-ghost use Rattle.updates.specs.Taking.{absent, Gathered, Covers, Climbs};
-ghost use Rattle.updates.specs.Call.{lengthsOf, Removes, RemoveChecked};
+ghost use Rattle.changes.specs.Stores.{chosen, marksAfresh};
+ghost use Rattle.changes.specs.Taking.{taken-words, absent, Gathered, Covers, Climbs};
+ghost use Rattle.updates.specs.Call.{Removes, RemoveChecked};
 
 // Words of one bit for each reference that a store may have.
 const WORDS: usize = 32768;
@@ -24,7 +25,7 @@ const START: u8 = 1;
 
 // Gathers the numbers as bits. How many there are, a repeated one counting once.
 fn gather(numbers: &[u32], m: usize, taken: &mut [u32]) -> usize
-    requires { ⌜ (now taken ≡ replicate 32768 0) × (allBelow m (now numbers) ≡ true) × (m ≤ most-references) ⌝ }
+    requires { ⌜ (now taken ≡ replicate taken-words 0) × (allBelow m (now numbers) ≡ true) × (m ≤ most-references) ⌝ }
     ensures { λ r. ⌜ Gathered (now (numbers .entry)) m r (now (taken .exit)) ⌝ }
 {
     let mut count: usize = 0;
@@ -42,37 +43,23 @@ fn check(
     targets: &[u32],
     numbers: &[u32],
     starts: &[u32],
-    bounds: usize,
-    places: usize,
-    marks: usize,
-    work: usize,
+    lengths: Lengths,
     taken: &mut [u32],
 ) -> Verdict
-    requires { ⌜ now taken ≡ replicate 32768 0 ⌝ }
-    ensures { λ v. ⌜ RemoveChecked v (now (offsets .entry)) (now (targets .entry)) (now (numbers .entry)) (now (starts .entry))
-        (lengthsOf bounds places marks work) (now (taken .exit)) ⌝ }
+    requires { ⌜ now taken ≡ replicate taken-words 0 ⌝ }
+    ensures { λ v. ⌜ RemoveChecked v (now (offsets .entry)) (now (targets .entry)) (now (numbers .entry)) (now (starts .entry)) lengths (now (taken .exit)) ⌝ }
 {
-    if marker::counts_outside(offsets.len(), targets.len()) {
+    if desk::graph_outside(offsets.len(), targets.len()) {
         return Verdict::Faulty(Refusal::Count);
     }
-    let n = offsets.len() - 1;
     if !graph::is_below(targets.len(), numbers) {
         return Verdict::Faulty(Refusal::Object);
     }
     let distinct = gather(numbers, targets.len(), taken);
-    if crate::lengths_wrong(n, targets.len() - distinct, bounds, places, marks, work) {
+    if crate::lengths_wrong(offsets.len() - 1, targets.len() - distinct, lengths) {
         return Verdict::Faulty(Refusal::Buffer);
     }
-    if !graph::well_formed(offsets, targets) {
-        return Verdict::Faulty(Refusal::Graph);
-    }
-    if marker::out_of_range(starts.len(), graph::MOST_STARTS) {
-        return Verdict::Faulty(Refusal::Starts);
-    }
-    if !graph::is_below(n, starts) {
-        return Verdict::Faulty(Refusal::Object);
-    }
-    Verdict::Fine
+    desk::check_store(offsets, targets, starts)
 }
 
 // How many of the references from one number up to another stay.
@@ -145,18 +132,14 @@ pub fn remove(
         (now (bounds .entry)) (now (places .entry)) (now (marks .entry)) (now (work .entry))
         v (now (bounds .exit)) (now (places .exit)) (now (marks .exit)) (now (work .exit)) ⌝ }
 {
-    let mut taken = [0u32; 32768];
-    let verdict = check(
-        offsets,
-        targets,
-        numbers,
-        starts,
-        bounds.len(),
-        places.len(),
-        marks.len(),
-        work.len(),
-        &mut taken,
-    );
+    let lengths = Lengths {
+        offsets: bounds.len(),
+        targets: places.len(),
+        marks: marks.len(),
+        work: work.len(),
+    };
+    let mut taken = [0u32; WORDS];
+    let verdict = check(offsets, targets, numbers, starts, lengths, &mut taken);
     match verdict {
         Verdict::Faulty(cause) => Verdict::Faulty(cause),
         Verdict::Fine => {

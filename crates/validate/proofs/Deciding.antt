@@ -11,8 +11,10 @@ use Rattle.laws.proofs.Decides.{never, decides-same}
 use Rattle.laws.proofs.Sum.{sum-at, hit-same}
 use Rattle.graph.specs.Graph.{Graph, objects, references}
 use Rattle.graph.proofs.OverMarked.{over-total}
+use Rattle.desk.specs.Lengths.{marks-place}
 use Rattle.machine.specs.Machine.{Setting}
-use Rattle.saved.specs.Layout.{marks-place, stateOf}
+use Rattle.saved.specs.Layout.{stateOf}
+use Rattle.saved.proofs.RoundTrip.{state-sized}
 use Rattle.validate.specs.declared.counts.Sums.{Sums}
 use Rattle.validate.specs.declared.heads.Heads.{Heads}
 use Rattle.validate.specs.declared.marks.Marks.{Marks}
@@ -25,7 +27,7 @@ use Rattle.validate.specs.Ring.{LinksSound}
 use Rattle.validate.specs.Marks.{MarksThere, MarksFound, StartsBelow, StartsFound, distinct}
 use Rattle.validate.specs.Runs.{LoadsThere, LoadedFound}
 use Rattle.validate.proofs.Rebuilt.{Words32}
-use Rattle.validate.proofs.Told.{marksIn, marks-long}
+use Rattle.validate.proofs.Told.{marksIn}
 use Rattle.validate.proofs.Parts.{SumsAre, saves}
 use Rattle.validate.proofs.Needed.{marks-needed, starts-needed, stretches-needed, targets-needed, agree-needed}
 
@@ -78,7 +80,7 @@ module _ {G : Graph} {starts : List ℕ} {W : ℕ} {g : Setting} {w : List ℕ} 
   module _ {ms : List ℕ} (is : ms ≡ marksIn (objects G) W w) where
     long : length ms ≡ objects G
     unfolding stateOf
-    long = ap length is ∙ marks-long (objects G) W w (ch .long)
+    long = ap length is ∙ state-sized (objects G) W w (ch .long) .marks-length
 
     pub marks-there : MarksThere (G .offsets) ms
     marks-there =

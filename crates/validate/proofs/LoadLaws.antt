@@ -17,36 +17,40 @@ use Rattle.slices.proofs.BitWords.{bit-low, bit-none}
 use Rattle.graph.specs.Graph.{Graph, objects}
 use Rattle.graph.specs.Chain.{set?}
 use Rattle.graph.proofs.OverMarked.{after-limit}
+use Rattle.graph.specs.Limits.{most-objects}
+use Rattle.desk.specs.Limits.{most-workers}
+use Rattle.desk.specs.Lengths.{savedLength, marks-place, stretchLength}
 use Rattle.machine.specs.Run.{carried}
 use Rattle.machine.specs.Sound.{runsSum}
-use Rattle.saved.specs.Layout.{workerWord, stretchIn, savedLength, marks-place}
+use Rattle.saved.specs.Layout.{workerWord, stretchIn}
 use Rattle.validate.specs.declared.runs.Load.{Load}
 use Rattle.validate.specs.declared.runs.Loads.{Loads}
 use Rattle.validate.specs.Runs.{LoadFound, runsAt, timesWords, carriedWords, carryingWords, StretchAt, StretchesSound, StretchesThere, LoadsFound, LoadsThere, TargetsSound, LoadedFound}
 use Rattle.validate.specs.Marks.{AllMarked, PartsThere}
 
--- ---- where worker b's stretch stands
+-- ---- where worker b's stretch stands, with the marks from m on and stretches of L words
 
-module _ (n W b m : ℕ) (w : List ℕ) (place : m ≡ marks-place W) where
-  pub stretch-is : take (m + n + b * (2 * n + 4) + (2 * n + 4) - (m + n + b * (2 * n + 4))) (drop (m + n + b * (2 * n + 4)) w) ≡ stretchIn n W w b
+module _ (n W b : ℕ) {m L : ℕ} (w : List ℕ) (place : m ≡ marks-place W) (size : L ≡ stretchLength n) where
+  pub stretch-is : take (m + n + b * L + L - (m + n + b * L)) (drop (m + n + b * L) w) ≡ stretchIn n W w b
   stretch-is =
-      let e : m + n + b * (2 * n + 4) + (2 * n + 4) - (m + n + b * (2 * n + 4)) ≡ 2 * n + 4 = omega arith in
-      rw (e, place)
+      let e : m + n + b * L + L - (m + n + b * L) ≡ L = omega arith in
+      rw (e, place, size)
 
-  pub stretch-inside : b < W → length w ≡ savedLength n W → m + n + b * (2 * n + 4) + (2 * n + 4) ≤ length w
+  pub stretch-inside : b < W → length w ≡ savedLength n W → m + n + b * L + L ≤ length w
   stretch-inside h long =
-      omega (arith, long, mul-le-mul-right {m = suc b} {n = W} (2 * n + 4) h, suc-mul b (2 * n + 4))
+      rw size (omega (arith, place, long, mul-le-mul-right {m = suc b} {n = W} (stretchLength n) h, suc-mul b (stretchLength n)))
+
+  -- the places that the code computes fit
+  pub stretch-low : n ≤ most-objects → W ≤ most-workers → b < W → m + n + b * L + L ≤ 2294036
+  stretch-low h q l =
+      let short : L ≤ stretchLength most-objects = omega arith in
+      let few : b ≤ most-workers = omega arith in
+      omega (arith, mul-le-mul few short, place)
 
 -- it is short
-pub stretch-short : (n at : ℕ) (w : List ℕ) → n ≤ 65536 → length (take (at + (2 * n + 4) - at) (drop at w)) ≤ 131076
-stretch-short n at w h = omega (arith, length-take (at + (2 * n + 4) - at) (drop at w))
-
--- the places that the code computes fit
-pub stretch-low : (n W b m : ℕ) → m ≡ marks-place W → n ≤ 65536 → W ≤ 16 → b < W → m + n + b * (2 * n + 4) + (2 * n + 4) ≤ 2294036
-stretch-low n W b m e h q l =
-    let short : 2 * n + 4 ≤ 131076 = omega arith in
-    let few : b ≤ 16 = omega arith in
-    omega (arith, mul-le-mul few short, e)
+pub stretch-short : (n : ℕ) {L : ℕ} → L ≡ stretchLength n → n ≤ most-objects → (at : ℕ) (w : List ℕ)
+    → length (take (at + L - at) (drop at w)) ≤ stretchLength most-objects
+stretch-short n {L} size h at w = omega (arith, length-take (at + L - at) (drop at w))
 
 -- ---- the loop
 

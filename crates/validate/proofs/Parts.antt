@@ -15,24 +15,25 @@ use Rattle.laws.proofs.Passing.{span-agree, span-limit}
 use Rattle.laws.proofs.Sum.{sum-positive, hit-equal, hit-other}
 use Rattle.graph.specs.Graph.{Graph, objects, references}
 use Rattle.graph.specs.Leaving.{leavingUnmarked}
+use Rattle.desk.specs.Lengths.{stretchLength, stretches-place}
 use Rattle.machine.specs.Run.{Run, carried}
 use Rattle.machine.specs.Tally.{Tally}
-use Rattle.machine.specs.Machine.{Setting, Worker, ended, worker, runsOf, carriedBy, live, stretchLength, stretch}
-use Rattle.machine.specs.Sound.{Marked, Within, WholeInside, waits, holds, distinctStarts, tallyOf}
-use Rattle.saved.specs.Layout.{stretches-place, workerWord, stretchIn, workerIn, stateOf}
-use Rattle.saved.specs.Sound.{batchIn, Supplied, SavedSound}
+use Rattle.machine.specs.Machine.{Setting, Worker, ended, worker, runsOf, carriedBy, live, stretch}
+use Rattle.machine.specs.Sound.{Marked, Within, WholeInside, waits, holds, distinctStarts, tallyOf, batchIn, Supplied}
+use Rattle.saved.specs.Layout.{workerWord, stretchIn, workerIn, stateOf}
+use Rattle.saved.specs.Sound.{SavedSound}
+use Rattle.saved.proofs.RoundTrip.{state-sized}
 use Rattle.validate.specs.declared.counts.Sums.{Sums}
 use Rattle.validate.specs.Checked.{Checked, Saves}
 use Rattle.validate.specs.Counts.{Agree}
 use Rattle.validate.specs.Heads.{HeadsSound, endedWords, sinceWords, holders}
 use Rattle.validate.specs.Ring.{LinksSound}
-use Rattle.validate.specs.Marks.{MarksLow, StartsMarked, distinct}
+use Rattle.validate.specs.Marks.{MarksLow, StartsMarked}
 use Rattle.validate.specs.Runs.{carriedWords, carryingWords, StretchesSound, TargetsSound}
 use Rattle.validate.proofs.Rebuilt.{Words32, rebuilt}
 use Rattle.validate.proofs.RingLaws.{ring-are, above-told, first-told}
 use Rattle.validate.proofs.StretchLaws.{runs-all}
-use Rattle.validate.proofs.Told.{marksIn, marks-long, workers-long, rested-long, colours-long, tallies-long, worker-in, worker-out, rested-in, tally-in, tally-out}
-use Rattle.validate.proofs.Told.{sum-tallies, read, runs-in, times-told, carried-told, carrying-told, ended-told, holds-told, since-told}
+use Rattle.validate.proofs.Told.{marksIn, worker-in, worker-out, rested-in, tally-in, tally-out, sum-tallies, read, runs-in, times-told, carried-told, carrying-told, ended-told, holds-told, since-told}
 
 span-none : (g : ℕ → ℕ) (k : ℕ) → ((i : ℕ) → i < k → g i ≡ 0) → span g 0 k ≡ 0
 span-none g k h =
@@ -95,36 +96,40 @@ module _ {G : Graph} {starts : List ℕ} {W : ℕ} {g : Setting} {w : List ℕ} 
       unfolding stateOf carried sum
       sound =
           let right = agree .right in
-          let marks-in = marks-long n W w (ch .long) in
+          let sized = state-sized n W w (ch .long) in
           let tallies = agree .tallies in
           record {
-            marks-limit = low;
-            starts-marked = starts-in started;
-            live-is = right .live-is ∙ sums .live-is;
-            carrying-is = right .carrying-is ∙ sums .carrying-is ∙ sym (carrying-told n W w heads);
-            runs-within = every-worker (λ (x : Worker). Every (Within G ms) (runsOf x)) within tt;
-            runs-whole = every-worker (λ (x : Worker). WholeInside G (runsOf x)) whole tt;
-            carried-once = λ e. rw (times-told n W w heads e) (stretches .once e);
-            total = rw (carried-told n W w heads, ← sums .carried-is, ← sums .leaving-is) (right .total);
-            targets-marked = λ e v l m z. targets v (omega (arith, l .object, marks-in)) m e (l .from) (l .below) (sym (times-told n W w heads e) ∙ z);
-            supplied = every-worker Supplied supplied tt;
-            cells = cells-in;
-            batch-limit = every-worker (λ (x : Worker). batchIn x ≤ g .batch) (λ b h. rw (read n W w heads b h .batch) (heads b h .batch-limit)) (omega arith);
-            batch-carried = every-worker (λ (x : Worker). batchIn x ≤ carriedBy x) batch (omega arith);
-            stopped-empty = λ h.
-                carried-told n W w heads ∙ sym (sums .carried-is) ∙ right .stopped-empty (omega (arith, h, ended-told n W w heads, sums .ended-is));
+            sound =
+                record {
+                  sized = sized;
+                  marks-limit = low;
+                  starts-marked = starts-in started;
+                  live-is = right .live-is ∙ sums .live-is;
+                  carrying-is = right .carrying-is ∙ sums .carrying-is ∙ sym (carrying-told n W w heads);
+                  runs-within = every-worker (λ (x : Worker). Every (Within G ms) (runsOf x)) within tt;
+                  runs-whole = every-worker (λ (x : Worker). WholeInside G (runsOf x)) whole tt;
+                  carried-once = λ e. rw (times-told n W w heads e) (stretches .once e);
+                  total = rw (carried-told n W w heads, ← sums .carried-is, ← sums .leaving-is) (right .total);
+                  targets-marked = λ e v l m z. targets v (omega (arith, l .object, sized .marks-length)) m e (l .from) (l .below) (sym (times-told n W w heads e) ∙ z);
+                  supplied = every-worker Supplied supplied tt;
+                  cells = cells-in;
+                  batch-limit = every-worker (λ (x : Worker). batchIn x ≤ g .batch) (λ b h. rw (read n W w heads b h .batch) (heads b h .batch-limit)) (omega arith);
+                  batch-carried = every-worker (λ (x : Worker). batchIn x ≤ carriedBy x) batch (omega arith);
+                  stopped-empty = λ h.
+                      carried-told n W w heads ∙ sym (sums .carried-is) ∙ right .stopped-empty (omega (arith, h, ended-told n W w heads, sums .ended-is));
+                  since-followed = omega (arith, agree .low .since-followed, sums .since-is, since-told n W w heads);
+                  rested-carrying = rested;
+                  refused-moved = agree .low .refused-moved;
+                  tallies-followed = sum-tallies n W w (λ (t : Tally). t .followed) ∙ tallies .followed;
+                  tallies-handed = sum-tallies n W w (λ (t : Tally). t .handed) ∙ tallies .handed;
+                  tallies-won = rw (sum-tallies n W w (λ (t : Tally). t .won), ← sums .distinct-is) (tallies .won);
+                  tallies-claims = claims;
+                  holder-below = links .ring .holder-below;
+                  above-holder = above-told n W w heads (links .ring);
+                  first-ended = first-told n W w heads (links .ring);
+                };
             moved-limit = agree .low .moved-limit;
             handed-limit = agree .low .handed-limit;
-            since-followed = omega (arith, agree .low .since-followed, sums .since-is, since-told n W w heads);
-            rested-carrying = rested;
-            refused-moved = agree .low .refused-moved;
-            tallies-followed = sum-tallies n W w (λ (t : Tally). t .followed) ∙ tallies .followed;
-            tallies-handed = sum-tallies n W w (λ (t : Tally). t .handed) ∙ tallies .handed;
-            tallies-won = rw (sum-tallies n W w (λ (t : Tally). t .won), ← sums .distinct-is) (tallies .won);
-            tallies-claims = claims;
-            holder-below = links .ring .holder-below;
-            above-holder = above-told n W w heads (links .ring);
-            first-ended = first-told n W w heads (links .ring);
           }
         where
           within : (b : ℕ) → b < W → Every (Within G ms) (runsOf (workerIn (objects G) W w b))
@@ -161,10 +166,5 @@ module _ {G : Graph} {starts : List ℕ} {W : ℕ} {g : Setting} {w : List ℕ} 
       saves small =
           record {
             words-are = rebuilt n W w small (ch .long) form (ring-are n W w (links .ring)) (λ b h. read n W w heads b h .words) stretches-are;
-            marks-length = marks-long n W w (ch .long);
-            workers-length = workers-long n W w;
-            rested-length = rested-long n W w;
-            colours-length = colours-long n W w;
-            tallies-length = tallies-long n W w;
-            sound = sound;
+            saved = sound;
           }

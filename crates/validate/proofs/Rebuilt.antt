@@ -11,10 +11,11 @@ use Rattle.laws.specs.Blocks.{laid}
 use Rattle.laws.specs.Span.{listing}
 use Rattle.laws.proofs.Blocks.{length-laid, laid-parts, laid-at}
 use Rattle.laws.proofs.Span.{listing-is, listing-length, listing-at}
+use Rattle.desk.specs.Lengths.{stretchLength, saved-form, workers-place, tallies-place, marks-place, stretches-place, savedLength}
 use Rattle.machine.specs.Row.{countWords}
 use Rattle.machine.specs.Tally.{Tally, noTally, tallyWords, talliesWords}
-use Rattle.machine.specs.Machine.{Worker, ended, stretchLength, stretch, memory}
-use Rattle.saved.specs.Layout.{saved-form, twoWords, ringWords, workerWords, workersWords, savedWords, workers-place, tallies-place, marks-place, stretches-place, savedLength}
+use Rattle.machine.specs.Machine.{Worker, ended, stretch, memory}
+use Rattle.saved.specs.Layout.{twoWords, ringWords, workerWords, workersWords, savedWords}
 use Rattle.saved.specs.Layout.{numberAt, workerWord, stretchIn, workerIn, restedIn, tallyIn, countsIn, ringIn, stateOf}
 use Rattle.saved.proofs.RoundTrip.{workers-length, workers-word}
 

@@ -3,27 +3,26 @@ use mathlib.Core.Path.{_≡_, refl, sym, ap, _∙_}
 use mathlib.Core.Bool.{Bool, false}
 use mathlib.Core.List.{List, [], _∷_}
 use mathlib.Core.Logic.{by-cases}
-use Prim.Native.Nat.{ℕ, zero, suc, _+_, _*_, _/_, _%_, _^_, _≤_, _<_}
+use Prim.Native.Nat.{ℕ, zero, suc, _+_, _/_, _%_, _^_, _≤_, _<_}
 use native.Mathlib.Decide.{decLt}
 use native.Mathlib.Nat.{zero-add, two-pow-succ, div-one, div-lt-iff-lt-mul}
 use native.Mathlib.Omega.{arith}
-use lib.ListN.{length, getD}
+use lib.ListN.{getD}
 use lib.Pow.{pow-pos, shr-shr}
 use borrow.Author.Tests.{lt-ltb, le-ltb}
 use Rattle.laws.specs.Decides.{Decides}
-use Rattle.laws.specs.Span.{span, listing}
+use Rattle.laws.specs.Span.{listing}
 use Rattle.laws.proofs.Decides.{refuted}
 use Rattle.laws.specs.Sum.{sum, hit}
 use Rattle.laws.proofs.Passing.{span-next, span-agree}
 use Rattle.laws.proofs.Span.{span-at, listing-at}
 use Rattle.laws.proofs.Sum.{hit-same, hit-equal}
-use Rattle.machine.specs.Ring.{Colour, white, black, shade, blackSet, blackBelow}
-use Rattle.machine.specs.Run.{Run, carried}
-use Rattle.machine.specs.Machine.{ended, worker, carriedBy, stopped}
-use Rattle.machine.proofs.Colours.{shade-limit, set-limit}
+use Rattle.machine.specs.Ring.{white, shade, blackSet, blackBelow}
+use Rattle.machine.specs.Run.{carried}
+use Rattle.machine.specs.Machine.{worker, carriedBy, stopped}
+use Rattle.machine.specs.Sound.{Supplied}
 use Rattle.machine.proofs.Runs.{length-carried}
 use Rattle.saved.specs.Layout.{ringWords, colourFrom, colourIn, ringIn, workerWord, stretchIn, workerIn, stateOf, runsIn}
-use Rattle.saved.specs.Sound.{Supplied}
 use Rattle.validate.specs.Heads.{HeadsSound, endedWords}
 use Rattle.validate.specs.Ring.{ringWord, blackBits, ClearAbove, RingSound}
 use Rattle.validate.proofs.Told.{worker-in, worker-out, read, ended-told}

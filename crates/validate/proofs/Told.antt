@@ -3,20 +3,19 @@ use mathlib.Core.Path.{_≡_, sym, ap, _∙_}
 use mathlib.Core.List.{List}
 use Prim.Native.Nat.{ℕ, suc, _+_, _≤_, _<_}
 use native.Mathlib.Nat.{zero-add}
-use native.Mathlib.Omega.{arith}
-use lib.ListN.{length, getD, take, drop, length-drop, List·getD-eq-default}
-use lib.Seq.{length-take-le}
+use lib.ListN.{getD, take, drop, List·getD-eq-default}
 use Rattle.laws.specs.Grouping.{itself}
 use Rattle.laws.specs.Span.{span, listing}
 use Rattle.laws.specs.Sum.{sum, hit}
 use Rattle.laws.proofs.Passing.{span-plus, span-agree, sum-listing}
 use Rattle.laws.proofs.Span.{listing-length, listing-at}
 use Rattle.graph.specs.Chain.{set?}
+use Rattle.desk.specs.Lengths.{marks-place}
 use Rattle.machine.specs.Run.{Run, carried}
 use Rattle.machine.specs.Tally.{Tally, noTally}
 use Rattle.machine.specs.Machine.{Worker, ended, worker, runsOf, carriedBy, carries?, carriedAll, stopped}
 use Rattle.machine.specs.Sound.{holds, sinceOf, runsSum, heldSum, carriedTimes, tallyOf}
-use Rattle.saved.specs.Layout.{marks-place, savedLength, workerWord, stretchIn, workerIn, restedIn, colourIn, tallyIn, stateOf, runsIn}
+use Rattle.saved.specs.Layout.{workerWord, stretchIn, workerIn, restedIn, tallyIn, stateOf, runsIn}
 use Rattle.validate.specs.Heads.{HeadsSound, endedWords, sinceWords, holders}
 use Rattle.validate.specs.Runs.{runsAt, timesWords, carriedWords, carryingWords}
 use Rattle.validate.proofs.Reading.{Reads, reads}
@@ -26,26 +25,6 @@ abbrev pub marksIn : ℕ → ℕ → List ℕ → List ℕ
 marksIn n W w = take n (drop (marks-place W) w)
 
 module _ (n W : ℕ) (w : List ℕ) where
-  pub marks-long : length w ≡ savedLength n W → length (stateOf n W w .marks) ≡ n
-  unfolding stateOf
-  marks-long long = length-take-le n (drop (marks-place W) w) (rw length-drop (omega (arith, long)))
-
-  pub workers-long : length (stateOf n W w .workers) ≡ W
-  unfolding stateOf
-  workers-long = listing-length (workerIn n W w) 0 W
-
-  pub rested-long : length (stateOf n W w .rested) ≡ W
-  unfolding stateOf
-  rested-long = listing-length (restedIn w) 0 W
-
-  pub colours-long : length (stateOf n W w .ring .colours) ≡ W
-  unfolding stateOf
-  colours-long = listing-length (colourIn w) 0 W
-
-  pub tallies-long : length (stateOf n W w .tallies) ≡ W
-  unfolding stateOf
-  tallies-long = listing-length (tallyIn W w) 0 W
-
   -- worker b; those from W on are not there
   pub worker-in : (b : ℕ) → b < W → worker (stateOf n W w) b ≡ workerIn n W w b
   unfolding stateOf

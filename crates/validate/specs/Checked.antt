@@ -5,14 +5,16 @@ use Prim.Native.Nat.{ℕ, _≤_}
 use lib.ListN.{length}
 use Rattle.graph.specs.Graph.{Graph, objects, references}
 use Rattle.graph.specs.Limits.{most-objects, most-references, most-starts}
+use Rattle.desk.specs.declared.Settings.{Settings}
+use Rattle.desk.specs.Lengths.{savedLength}
 use Rattle.machine.specs.Accepted.{Accepted}
 use Rattle.machine.specs.Machine.{Setting}
-use Rattle.saved.specs.Layout.{savedLength, stateOf}
+use Rattle.saved.specs.Layout.{stateOf}
 use Rattle.saved.specs.Sound.{SavedRun}
 
 -- D and K
-abbrev pub setting : ℕ → ℕ → Setting
-setting batch cutoff = record { batch = batch; cutoff = cutoff }
+abbrev pub settingOf : Settings → Setting
+settingOf g = record { batch = g .batch; cutoff = g .cutoff }
 
 pub record Checked (G : Graph) (starts : List ℕ) (W : ℕ) (g : Setting) (w : List ℕ) : Type 0 where
   pub accepted : Accepted G starts W g

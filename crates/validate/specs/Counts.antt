@@ -5,10 +5,11 @@ use Prim.Native.Nat.{ℕ, _+_, _*_, _≤_, _<_}
 use lib.ListN.{length}
 use Rattle.laws.specs.Span.{span}
 use Rattle.graph.specs.Limits.{most-references}
-use Rattle.machine.specs.Limits.{most-workers, most-setting}
+use Rattle.desk.specs.Limits.{most-workers, most-setting}
+use Rattle.desk.specs.Lengths.{marks-place}
 use Rattle.machine.specs.declared.Counts.{Counts}
 use Rattle.machine.specs.Demand3.{movedBound, handedBound}
-use Rattle.saved.specs.Layout.{tallyNumber, countsIn, marks-place}
+use Rattle.saved.specs.Layout.{tallyNumber, countsIn}
 use Rattle.validate.specs.declared.counts.Sums.{Sums}
 
 -- the counts and the tallies of W workers are there

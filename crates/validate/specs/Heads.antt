@@ -6,9 +6,10 @@ use Prim.Native.Nat.{ℕ, suc, _≤_, _<_}
 use lib.ListN.{length}
 use Rattle.laws.specs.Span.{span}
 use Rattle.laws.specs.Sum.{hit}
-use Rattle.machine.specs.Limits.{most-workers}
+use Rattle.desk.specs.Limits.{most-workers}
+use Rattle.desk.specs.Lengths.{tallies-place}
 use Rattle.worker.specs.Registers.{status-asking, status-ended, status-given, status-poll, status-claim}
-use Rattle.saved.specs.Layout.{workerWord, tallies-place}
+use Rattle.saved.specs.Layout.{workerWord}
 use Rattle.validate.specs.declared.heads.Heads.{Heads}
 
 -- status, cell, since and batch of a worker, of which the words hold no more than the worker has: one that is not busy has no

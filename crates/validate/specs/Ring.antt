@@ -4,8 +4,9 @@ use mathlib.Core.List.{List}
 use Prim.Native.Nat.{ℕ, suc, _+_, _/_, _%_, _^_, _≤_, _<_}
 use lib.ListN.{getD}
 use Rattle.laws.specs.Span.{span}
+use Rattle.desk.specs.Lengths.{ring-place}
 use Rattle.worker.specs.Registers.{status-given, status-ended}
-use Rattle.saved.specs.Layout.{ring-place, workerWord}
+use Rattle.saved.specs.Layout.{workerWord}
 use Rattle.validate.specs.Heads.{CellsSound, endedWords}
 
 -- holder, token and black workers

@@ -15,11 +15,12 @@ use Rattle.graph.specs.Graph.{Graph, objects, references, first, after, target}
 use Rattle.graph.specs.Chain.{set?}
 use Rattle.graph.specs.Formed.{Formed}
 use Rattle.graph.specs.Limits.{most-objects, most-references}
-use Rattle.machine.specs.Limits.{most-workers}
+use Rattle.desk.specs.Limits.{most-workers}
+use Rattle.desk.specs.Lengths.{savedLength}
 use Rattle.machine.specs.Run.{Run, run, carried, pairs}
 use Rattle.machine.specs.Sound.{Marked, Within, Whole, WholeInside, runSum, runsSum}
 use Rattle.worker.specs.Registers.{status-given}
-use Rattle.saved.specs.Layout.{workerWord, stretchIn, savedLength, runsIn}
+use Rattle.saved.specs.Layout.{workerWord, stretchIn, runsIn}
 use Rattle.validate.specs.declared.runs.Tested.{Tested}
 use Rattle.validate.specs.declared.runs.Runs.{Runs}
 use Rattle.validate.specs.declared.runs.Load.{Load}

@@ -1,13 +1,15 @@
 // The counts and the tallies.
-use crate::places;
+use crate::fields;
+use desk::Settings;
+use desk::places;
 use machine::Counts;
 ghost use mathlib.Core.Path.{_≡_};
 ghost use Prim.Native.Nat.{_<_, _≤_};
 ghost use lib.ListN.{length};
 ghost use Rattle.laws.specs.Decides.{Decides};
 ghost use Rattle.graph.specs.Limits.{most-references};
-ghost use Rattle.machine.specs.Tally.{tally-words};
-ghost use Rattle.saved.specs.Layout.{countsIn, workers-place};
+ghost use Rattle.desk.specs.Lengths.{tally-words, workers-place};
+ghost use Rattle.saved.specs.Layout.{countsIn};
 ghost use Rattle.validate.specs.Counts.{TalliesThere, tallySum, ClaimsSound, TalliesSound, CountsRight, CountsLow, RangesLow, SumsLow, Agree};
 
 // What the marks, the starts and the workers come to.
@@ -27,12 +29,12 @@ fn saved_counts(saved: &[u32]) -> Counts
     ensures { λ r. ⌜ r ≡ countsIn (now (saved .entry)) ⌝ }
 {
     Counts {
-        live: places::number(saved, 1),
-        followed: places::number(saved, 3),
-        handed: places::number(saved, 5),
-        refused: places::number(saved, 7),
-        moved: places::number(saved, 9),
-        carrying: places::number(saved, 11),
+        live: fields::count(saved, 0),
+        followed: fields::count(saved, 1),
+        handed: fields::count(saved, 2),
+        refused: fields::count(saved, 3),
+        moved: fields::count(saved, 4),
+        carrying: fields::count(saved, 5),
     }
 }
 
@@ -44,7 +46,7 @@ fn adds_up(saved: &[u32], workers: u32, k: usize, total: u64) -> bool
     let mut left = total;
     let first = places::tallies(workers);
     for b in 0..workers {
-        let x = places::number(saved, first + places::TALLY * b as usize + 2 * k);
+        let x = fields::number(saved, first + fields::TALLY * b as usize + 2 * k);
         if left < x {
             return false;
         }
@@ -60,10 +62,10 @@ fn claims_sound(saved: &[u32], workers: u32) -> bool
 {
     let first = places::tallies(workers);
     for b in 0..workers {
-        let at = first + places::TALLY * b as usize;
-        let followed = places::number(saved, at + places::FOLLOWED);
-        let won = places::number(saved, at + places::WON);
-        let lost = places::number(saved, at + places::LOST);
+        let at = first + fields::TALLY * b as usize;
+        let followed = fields::number(saved, at + fields::FOLLOWED);
+        let won = fields::number(saved, at + fields::WON);
+        let lost = fields::number(saved, at + fields::LOST);
         if followed < won {
             return false;
         }
@@ -140,15 +142,22 @@ fn counts_low(references: u64, workers: u64, cutoff: u64, c: Counts, since: u64)
 }
 
 // Both, and the tallies.
-pub fn agree(saved: &[u32], references: u64, workers: u32, cutoff: u32, s: Sums) -> bool
-    requires { ⌜ TalliesThere workers (now saved) × RangesLow references workers cutoff × SumsLow s ⌝ }
-    ensures { λ r. ⌜ Decides r (Agree references workers cutoff (now (saved .entry)) s) ⌝ }
+pub fn agree(saved: &[u32], references: u64, settings: Settings, s: Sums) -> bool
+    requires { ⌜ TalliesThere (settings .workers) (now saved) × RangesLow references (settings .workers) (settings .cutoff) × SumsLow s ⌝ }
+    ensures { λ r. ⌜ Decides r (Agree references (settings .workers) (settings .cutoff) (now (saved .entry)) s) ⌝ }
 {
+    let workers = settings.workers;
     let c = saved_counts(saved);
     if !counts_right(references, c, s) {
         return false;
     }
-    if !counts_low(references, workers as u64, cutoff as u64, c, s.since) {
+    if !counts_low(
+        references,
+        workers as u64,
+        settings.cutoff as u64,
+        c,
+        s.since,
+    ) {
         return false;
     }
     tallies_sound(saved, workers, c, s.distinct)

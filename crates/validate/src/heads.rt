@@ -1,11 +1,12 @@
 // The workers' own words: status, cell, since and batch.
-use crate::places;
+use crate::fields;
+use desk::places;
 use worker::registers;
 ghost use mathlib.Core.Path.{_≡_};
 ghost use Prim.Native.Nat.{_<_};
 ghost use Rattle.laws.specs.Decides.{Decides};
 ghost use Rattle.laws.specs.Sum.{hit};
-ghost use Rattle.machine.specs.Limits.{most-workers};
+ghost use Rattle.desk.specs.Limits.{most-workers};
 ghost use Rattle.worker.specs.Registers.{status-asking};
 ghost use Rattle.validate.specs.Heads.{Head, HeadsFound, WorkersThere, holders, CellsSound};
 
@@ -56,15 +57,15 @@ pub fn check_heads(saved: &[u32], workers: u32, most: u32) -> Heads
     let mut since: u64 = 0;
     for b in 0..workers {
         let at = places::WORKERS + places::WORKER * b as usize;
-        let status = saved[at + places::STATUS];
-        let own = saved[at + places::SINCE];
+        let status = saved[at + fields::STATUS];
+        let own = saved[at + fields::SINCE];
         if !head_sound(
             workers,
             most,
             status,
-            saved[at + places::CELL],
+            saved[at + fields::CELL],
             own,
-            saved[at + places::BATCH],
+            saved[at + fields::BATCH],
         ) {
             return Heads {
                 sound: false,
@@ -91,7 +92,7 @@ fn holders_of(saved: &[u32], workers: u32, a: u32) -> u32
 {
     let mut found: u32 = 0;
     for b in 0..workers {
-        if saved[places::WORKERS + places::WORKER * b as usize + places::CELL] == a + 1 {
+        if saved[places::WORKERS + places::WORKER * b as usize + fields::CELL] == a + 1 {
             found += 1;
         }
     }
@@ -114,7 +115,7 @@ pub fn cells_sound(saved: &[u32], workers: u32) -> bool
     ensures { λ r. ⌜ Decides r (CellsSound workers (now (saved .entry))) ⌝ }
 {
     for a in 0..workers {
-        let status = saved[places::WORKERS + places::WORKER * a as usize + places::STATUS];
+        let status = saved[places::WORKERS + places::WORKER * a as usize + fields::STATUS];
         if holders_of(saved, workers, a) != wanted(status) {
             return false;
         }

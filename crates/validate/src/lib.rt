@@ -1,17 +1,19 @@
 // Whether saved words hold a sound run (SPECIFICATION 8.2). Nothing lent is written: the references
 // that are carried, and the objects that are starts, are one bit each in local words.
 mod counts;
+mod fields;
 mod heads;
 mod marks;
-mod places;
 mod ring;
 mod runs;
 
 use counts::Sums;
+use desk::Settings;
+use desk::places;
 use runs::Loads;
 ghost use Rattle.laws.specs.Decides.{Decides};
 ghost use Rattle.graph.specs.Graph.{graph};
-ghost use Rattle.validate.specs.Checked.{Checked, Saves, setting};
+ghost use Rattle.validate.specs.Checked.{Checked, Saves, settingOf};
 ghost use Rattle.validate.specs.Runs.{LoadsThere, LoadedFound};
 
 // What all workers carry, where a marked object's reference that nobody carries has a marked target.
@@ -41,18 +43,17 @@ pub fn is_sound(
     offsets: &[u32],
     targets: &[u32],
     starts: &[u32],
-    workers: u32,
-    batch: u32,
-    cutoff: u32,
+    settings: Settings,
     saved: &[u32],
 ) -> bool
-    requires { ⌜ Checked (graph (now offsets) (now targets)) (now starts) workers (setting batch cutoff) (now saved) ⌝ }
-    ensures { λ r. ⌜ Decides r (Saves (graph (now (offsets .entry)) (now (targets .entry))) (now (starts .entry)) workers (setting batch cutoff) (now (saved .entry))) ⌝ }
+    requires { ⌜ Checked (graph (now offsets) (now targets)) (now starts) (settings .workers) (settingOf settings) (now saved) ⌝ }
+    ensures { λ r. ⌜ Decides r (Saves (graph (now (offsets .entry)) (now (targets .entry))) (now (starts .entry)) (settings .workers) (settingOf settings) (now (saved .entry))) ⌝ }
 {
+    let workers = settings.workers;
     if saved[0] != places::FORM {
         return false;
     }
-    let heads = heads::check_heads(saved, workers, batch);
+    let heads = heads::check_heads(saved, workers, settings.batch);
     if !heads.sound {
         return false;
     }
@@ -83,5 +84,5 @@ pub fn is_sound(
         carrying: loads.carrying,
         carried: loads.carried,
     };
-    counts::agree(saved, targets.len() as u64, workers, cutoff, sums)
+    counts::agree(saved, targets.len() as u64, settings, sums)
 }

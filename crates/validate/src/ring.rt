@@ -1,11 +1,12 @@
 // The token ring, and the cells beside it.
+use crate::fields;
 use crate::heads;
-use crate::places;
+use desk::places;
 use worker::registers;
 ghost use mathlib.Core.Path.{_≡_};
-ghost use Prim.Native.Nat.{ℕ, _<_, _≤_};
+ghost use Prim.Native.Nat.{_<_, _≤_};
 ghost use Rattle.laws.specs.Decides.{Decides};
-ghost use Rattle.machine.specs.Limits.{most-workers};
+ghost use Rattle.desk.specs.Limits.{most-workers};
 ghost use Rattle.validate.specs.Heads.{WorkersThere, endedWords};
 ghost use Rattle.validate.specs.Ring.{blackBits, ClearAbove, FirstEnded, RingSound, LinksSound};
 
@@ -28,7 +29,7 @@ fn clear_above(saved: &[u32], workers: u32, holder: u32) -> bool
     ensures { λ r. ⌜ Decides r (ClearAbove workers (now (saved .entry)) holder) ⌝ }
 {
     for b in 0..workers {
-        let status = saved[places::WORKERS + places::WORKER * b as usize + places::STATUS];
+        let status = saved[places::WORKERS + places::WORKER * b as usize + fields::STATUS];
         if holder < b {
             if registers::GIVEN <= status {
                 return false;
@@ -68,7 +69,7 @@ fn ring_sound(saved: &[u32], workers: u32, ended: u64) -> bool
     if black >> workers != 0 {
         return false;
     }
-    if !first_ended(saved[places::WORKERS + places::STATUS], holder, ended) {
+    if !first_ended(saved[places::WORKERS + fields::STATUS], holder, ended) {
         return false;
     }
     if token == 1 {

@@ -1,5 +1,6 @@
 // The stretches: the runs that the workers carry.
-use crate::places;
+use crate::fields;
+use desk::places;
 use slices::bits;
 use worker::registers;
 ghost use mathlib.Core.Path.{_≡_};
@@ -9,7 +10,7 @@ ghost use Rattle.laws.specs.Decides.{Decides};
 ghost use Rattle.slices.specs.Bits.{word-bits};
 ghost use Rattle.graph.specs.Graph.{graph};
 ghost use Rattle.graph.specs.Limits.{most-objects};
-ghost use Rattle.machine.specs.Machine.{stretchLength};
+ghost use Rattle.desk.specs.Lengths.{stretchLength};
 ghost use Rattle.worker.specs.Registers.{status-given};
 ghost use Rattle.validate.specs.Runs.{HasOwner, Owns, Carried, Roomy, RunFound, RunsFound, LoadFound, StretchesThere, LoadsFound};
 
@@ -243,7 +244,7 @@ pub fn check_stretches(
     let mut carrying: u64 = 0;
     let mut total: u64 = 0;
     let n = offsets.len() - 1;
-    let len = 2 * n + 4;
+    let len = places::stretch(n);
     let stretches = places::marks(workers) + n;
     for b in 0..workers {
         let at = places::WORKERS + places::WORKER * b as usize;
@@ -254,8 +255,8 @@ pub fn check_stretches(
             marks,
             carried,
             &saved[from..from + len],
-            saved[at + places::STATUS],
-            saved[at + places::BATCH],
+            saved[at + fields::STATUS],
+            saved[at + fields::BATCH],
         );
         let sound = load.sound;
         let own = load.carried;

@@ -6,7 +6,7 @@ use Prim.Native.Nat.{ℕ, _+_, _-_, _≤_, _<_}
 use native.Mathlib.Numerals.{add-one}
 use native.Mathlib.Omega.{arith}
 use lib.ListN.{length, getD, set, take, drop, length-drop, List·getD-append}
-use lib.Seq.{paste, paste-suc, length-paste, length-paste-head, getD-take, getD-drop, length-take-le}
+use lib.Seq.{paste, paste-suc, length-paste-head, getD-take, getD-drop, length-take-le}
 use Rattle.laws.proofs.Stores.{getD-past}
 use Rattle.worker.specs.Stretch.{Copyable}
 
@@ -30,9 +30,6 @@ paste-after d s at j k hd hs h =
 module _ (w : List ℕ) (from to count : ℕ) (ok : Copyable w from to count) (i : ℕ) where
   source-long : i ≤ count → i ≤ length (drop from w)
   source-long h = rw length-drop (omega (arith, ok .source))
-
-  pub copy-length : i ≤ count → length (paste w to (drop from w) i) ≡ length w
-  copy-length h = length-paste w to (drop from w) i (omega (arith, ok .target)) (source-long h)
 
   -- what is still to be copied is as it was
   pub copy-reads : i < count → getD (paste w to (drop from w) i) (from + i) 0 ≡ getD (drop from w) i 0

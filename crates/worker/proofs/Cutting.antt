@@ -79,9 +79,6 @@ module _ {s : List ℕ} {used : ℕ} {rs : List Run} (h : Holds s used rs) {k pl
       let e = rw (← n) at (cut-end s used h (i .above) (i .first) (i .more) (i .below) (i .whole) place (i .at)) in
       omega (arith, e, cut-first s used h (i .above) (i .first) (i .more) (i .below) (i .whole) place (i .at))
 
-  pub inside-bounds : (2 ≤ place) × (place ≤ used)
-  inside-bounds = omega (arith, i .at, cut-high s used h (i .above) (i .first) (i .more) (i .below) (i .whole) place (i .at))
-
   inside-next : suc (i .more) ≤ left → Inside rs k (place - 2) (left - suc (i .more))
   unfolding keep rest carried sum
   inside-next l = next (i .below) refl

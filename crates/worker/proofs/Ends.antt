@@ -8,7 +8,6 @@ use lib.ListN.{length, getD, set, take, drop, length-set, length-append, length-
 use lib.Seq.{getD-at, getD-drop, take-at, paste, length-paste, length-take-le}
 use Rattle.laws.proofs.Stores.{getD-past}
 use Rattle.machine.specs.Run.{Run, run, pairs}
-use Rattle.worker.specs.declared.stretch.Top.{Top}
 use Rattle.worker.specs.Stretch.{Told, topWith, EndsWith}
 use Rattle.worker.proofs.Pairs.{length-pairs, pairs-append}
 

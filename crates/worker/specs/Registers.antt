@@ -5,12 +5,16 @@ use mathlib.Core.Logic.{_≢_}
 use mathlib.Core.List.{List, [], _∷_}
 use lib.ListN.{length, getD, set}
 use lib.Seq.{sets}
-use Rattle.machine.specs.Limits.{most-workers}
+use Rattle.desk.specs.Limits.{most-workers}
 use Rattle.worker.specs.declared.registers.Block.{Block}
 
 -- how many words a block has
 abbrev pub block-words : ℕ
 block-words = 9
+
+-- the registers of the most workers
+abbrev pub register-words : ℕ
+register-words = block-words * most-workers
 
 -- ---- a worker's status; from given on it carries references, from poll on it is busy
 

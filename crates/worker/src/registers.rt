@@ -43,6 +43,9 @@ const TARGET: usize = 8;
 
 pub const BLOCK: usize = 9;
 
+// The registers of the most workers.
+pub const ALL: usize = BLOCK * 16;
+
 // The words of a block: status; batch; cell (0 empty, else the asker and 1); since as it will be
 // when the batch is done; how many references the runs hold beyond the batch; how many words of the stretch the runs below the first take; the first
 // run, from its next reference to its end; and where that reference leads.

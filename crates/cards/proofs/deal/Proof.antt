@@ -6,11 +6,12 @@ use lib.ListN.{length}
 use borrow.Author.Needs.{needs}
 use borrow.Author.Tests.{not-true, not-false, eqb-true}
 use Rattle.graph.specs.Graph.{allBelow}
-use Rattle.machine.specs.Limits.{most-workers}
-use Rattle.machine.specs.Call.{outside}
+use Rattle.desk.specs.Limits.{most-workers}
+use Rattle.desk.specs.Checks.{outside}
+use Rattle.desk.proofs.Checks.{so, inside}
 use Rattle.cards.specs.Deck.{deck-size}
 use Rattle.cards.specs.Hand.{bytesOf}
-use Rattle.cards.proofs.Dealing.{so, some-worker, finds-8, finds-width, finds-card, finds-7, finds-none, refused, dealt-all}
+use Rattle.cards.proofs.Dealing.{finds-8, finds-width, finds-card, finds-7, finds-none, refused, dealt-all}
 use Rattle.cards.proofs.deal.Statement.{statement}
 use Rattle.cards.proofs.deal.Tie as tie
 
@@ -35,7 +36,7 @@ known : (c : tie.Else3) → allBelow deck-size (start (c .before .before .before
 known c = so (c .before .is-below .ensures) (not-false _ (c .if3 .left))
 
 is-schedule-of-requires : tie.Need-is-schedule-of-requires
-is-schedule-of-requires c κs = let t = c .before .before in (some-worker _ (within (t .before)), t .if2 .left)
+is-schedule-of-requires c κs = let t = c .before .before in (inside most-workers _ (within (t .before)) .0, t .if2 .left)
 
 returns-4 : tie.Need-returns-4
 returns-4 c =
@@ -54,7 +55,7 @@ put-rounds-requires c κs =
     let t = k .before .before in
     record {
       whole = c .before .before .all .ensures;
-      some = some-worker _ (within (t .before));
+      some = inside most-workers _ (within (t .before)) .0;
       few = t .if2 .left;
       known = known k;
       exact = eqb-true _ _ (exact e);
@@ -66,7 +67,7 @@ returns-5 c =
     let e = r .before .before .before .before in
     let k = e .before .before in
     let t = k .before .before in
-    dealt-all _ _ _ refl (finds-none _ _ _ (within (t .before)) (t .if2 .left) (known k) (exact e)) (some-worker _ (within (t .before))) (t .if2 .left)
+    dealt-all _ _ _ refl (finds-none _ _ _ (within (t .before)) (t .if2 .left) (known k) (exact e)) (inside most-workers _ (within (t .before)) .0) (t .if2 .left)
     (known k) (r .put-rounds .ensures)
 
 pub deal-spec : {M : Type 1} → statement M

@@ -5,10 +5,11 @@ use mathlib.Core.Bool.{false}
 use Prim.Native.Nat.{_^_, _≤_, _<_}
 use native.Mathlib.Omega.{arith}
 use borrow.Author.Needs.{needs}
-use Rattle.machine.specs.Limits.{most-workers}
-use Rattle.machine.specs.Call.{outside}
+use Rattle.desk.specs.Limits.{most-workers}
+use Rattle.desk.specs.Checks.{outside}
+use Rattle.desk.proofs.Checks.{so, inside}
 use Rattle.cards.specs.Hand.{bytesOf}
-use Rattle.cards.proofs.Dealing.{so, some-worker, length-8, length-15, length-7, length-is}
+use Rattle.cards.proofs.Dealing.{length-8, length-15, length-7, length-is}
 use Rattle.cards.proofs.Lengths.{rounds-many, rounds-few}
 use Rattle.cards.proofs.schedule_length.Statement.{statement}
 use Rattle.cards.proofs.schedule_length.Tie as tie
@@ -23,7 +24,7 @@ returns-2 : tie.Need-returns-2
 returns-2 c = sym (length-15 _ _ (within (c .before)) (c .if2 .taken))
 
 some : (c : tie.Else2) → 1 ≤ c .before .before .before .args .workers
-some c = some-worker _ (within (c .before))
+some c = inside most-workers _ (within (c .before)) .0
 
 few : (c : tie.Else3) → let a = c .before .before .before .before .args in bytesOf (a .workers) (a .cards) < 2 ^ 64
 few c =

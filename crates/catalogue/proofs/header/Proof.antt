@@ -2,8 +2,8 @@
 use mathlib.Core.Path.{_≡_, _∙_}
 use Rattle.refusal.proofs.Numbers.{when-fine, when-faulty}
 use Rattle.catalogue.specs.Answer.{headerRow}
-use Rattle.catalogue.specs.Layout.{header as header-kind}
-use Rattle.catalogue.specs.Reading.{n-field, recordFault}
+use Rattle.records.specs.Layout.{header as header-kind}
+use Rattle.records.specs.Reading.{n-field, recordFault}
 use Rattle.catalogue.proofs.Checking.{header-any, header-refused}
 use Rattle.catalogue.proofs.Faults.{good-header-record}
 use borrow.Author.Needs.{needs}

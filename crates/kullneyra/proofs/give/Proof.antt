@@ -2,7 +2,7 @@
 use mathlib.Core.Path.{_∙_}
 use mathlib.Core.List.{[], _∷_}
 use Rattle.laws.proofs.Stores.{sets-all}
-use Rattle.kullneyra.proofs.Results.{kept}
+use Rattle.desk.proofs.Kept.{kept}
 use borrow.Author.Needs.{needs}
 use Rattle.kullneyra.proofs.give.Statement.{statement}
 use Rattle.kullneyra.proofs.give.Tie as tie

@@ -2,7 +2,8 @@
 use mathlib.Core.Path.{ap, sym, _∙_}
 use native.Mathlib.Omega.{arith}
 use lib.ListN.{length, length-set}
-use Rattle.machine.specs.Row.{countWords, counts-number}
+use Rattle.desk.specs.Lengths.{counts-number}
+use Rattle.machine.specs.Row.{countWords}
 use Rattle.kullneyra.proofs.Results.{rest-long, first-and-rest}
 use borrow.Author.Needs.{needs}
 use Rattle.kullneyra.proofs.give_counts.Statement.{statement}

@@ -4,7 +4,7 @@ use mathlib.Core.List.{List, [], _∷_}
 use Prim.Native.Nat.{ℕ}
 use lib.ListN.{set}
 use Rattle.laws.proofs.Stores.{sets-all}
-use Rattle.kullneyra.proofs.Results.{kept}
+use Rattle.desk.proofs.Kept.{kept}
 use borrow.Author.Needs.{needs}
 use Rattle.kullneyra.proofs.give_found.Statement.{statement}
 use Rattle.kullneyra.proofs.give_found.Tie as tie

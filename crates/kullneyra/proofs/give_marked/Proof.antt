@@ -1,7 +1,7 @@
 -- By the answer: `give_counts` writes the words, or a refusal writes none of them (`kept`).
 use Rattle.machine.specs.Row.{freshCounts}
 use Rattle.kullneyra.specs.Calls.{resultWords}
-use Rattle.kullneyra.proofs.Results.{kept}
+use Rattle.desk.proofs.Kept.{kept}
 use borrow.Author.Needs.{needs}
 use Rattle.kullneyra.proofs.give_marked.Statement.{statement}
 use Rattle.kullneyra.proofs.give_marked.Tie as tie

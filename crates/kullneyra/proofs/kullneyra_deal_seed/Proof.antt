@@ -13,14 +13,14 @@ returns-2 c =
     let at-moved = at-put .before .before .before in
     let at-deal = at-moved .before .before .before .before in
     let e = at-deal .before .before .before .before in
-    deal-moved _ _ _ _ (e .if1 .left) (rw (at-moved .moved .given .1) at (at-deal .deal .ensures)) (at-put .put-seed .ensures)
+    deal-moved _ _ _ _ (e .if1 .left) (rw (at-moved .moved .given .1) at (at-deal .deal-seed .ensures)) (at-put .put-seed .ensures)
 
 returns-3 : tie.Need-returns-3
 returns-3 c =
     let at-refusal = c .before .before in
     let at-deal = at-refusal .before .before .before .before in
     let e = at-deal .before .before .before .before in
-    deal-refused _ _ _ _ (e .if1 .left) (rw (at-refusal .refusal .given .1) at (at-deal .deal .ensures)) (c .number-of .ensures)
+    deal-refused _ _ _ _ (e .if1 .left) (rw (at-refusal .refusal .given .1) at (at-deal .deal-seed .ensures)) (c .number-of .ensures)
 
 pub kullneyra-deal-seed-spec : {M : Type 1} → statement M
 kullneyra-deal-seed-spec =

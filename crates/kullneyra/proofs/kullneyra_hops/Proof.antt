@@ -5,7 +5,7 @@ use Rattle.kullneyra.proofs.kullneyra_hops.Statement.{statement}
 use Rattle.kullneyra.proofs.kullneyra_hops.Tie as tie
 
 returns : tie.Need-returns
-returns c = hops-in (c .before .before .before .before .before .count .ensures) (c .verdict-number .ensures)
+returns c = hops-in (c .before .before .before .before .before .hops .ensures) (c .verdict-number .ensures)
 
 pub kullneyra-hops-spec : {M : Type 1} → statement M
 kullneyra-hops-spec =

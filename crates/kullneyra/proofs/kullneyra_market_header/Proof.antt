@@ -10,8 +10,8 @@ returns c = let r = c .before .before .before .args .result .now in
     let f = ne-eqb (length r) 3 (c .if1 .taken) in
     (rw f, rw f)
 
-header-requires : tie.Need-header-requires
-header-requires c κs = search needs
+market-header-requires : tie.Need-market-header-requires
+market-header-requires c κs = search needs
 
 give-requires : tie.Need-give-requires
 give-requires c κs = search needs
@@ -26,8 +26,8 @@ returns-2 c =
     let at-if1 = at-header .before in
     let start = at-if1 .before .before .before in
     let f = eq-eqb (length (start .args .result .now)) 3 (at-if1 .if1 .left) in
-    let h = at-header .header .ensures in
+    let h = at-header .market-header .ensures in
     (rw (f, ← h) (at-give .give .ensures .0), rw (f, ← h) (at-give .give .ensures .1))
 
 pub kullneyra-market-header-spec : {M : Type 1} → statement M
-kullneyra-market-header-spec = tie.close (tie.spec returns header-requires give-requires same-length returns-2)
+kullneyra-market-header-spec = tie.close (tie.spec returns market-header-requires give-requires same-length returns-2)

@@ -19,7 +19,7 @@ returns-2 c =
     let at-if1 = at-call .before .before .before .before .before in
     let start = at-if1 .before .before .before .before .before .before .before .before .before .before in
     let given = at-give-marked .give-marked .ensures in
-    made (eq-eqb (length (start .args .result .now)) mark-words (at-if1 .if1 .left)) (at-call .go-on .ensures .answers) (given .0) (given .1)
+    made (eq-eqb (length (start .args .result .now)) mark-words (at-if1 .if1 .left)) (at-call .resume .ensures .answers) (given .0) (given .1)
 
 pub kullneyra-resume-spec : {M : Type 1} → statement M
 kullneyra-resume-spec =

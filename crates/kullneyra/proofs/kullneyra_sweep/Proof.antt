@@ -4,7 +4,7 @@ use native.Mathlib.Omega.{arith}
 use lib.ListN.{length, length-set}
 use borrow.Author.Tests.{eq-eqb, ne-eqb}
 use Rattle.laws.proofs.Stores.{sets-all}
-use Rattle.kullneyra.proofs.Results.{kept}
+use Rattle.desk.proofs.Kept.{kept}
 use borrow.Author.Needs.{needs}
 use Rattle.kullneyra.proofs.kullneyra_sweep.Statement.{statement}
 use Rattle.kullneyra.proofs.kullneyra_sweep.Tie as tie

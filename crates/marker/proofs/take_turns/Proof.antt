@@ -41,14 +41,8 @@ returns c = λ x. at-stop x (at-start x) (c .if1 .taken)
 loop-holds : tie.Need-loop-holds Inv-loop μ-loop
 loop-holds c = (omega arith, ((refl, (refl, (refl, refl))), λ x. at-start x))
 
-cast-b : tie.Need-cast-b Inv-loop μ-loop
-cast-b c = omega (arith, c .shared-slice-known4 .given (c .before .before .loop .i))
-
-shared-slice-read-v : tie.Need-shared-slice-read-v Inv-loop μ-loop
-shared-slice-read-v c = whole (c .before .before)
-
-cast-v : tie.Need-cast-v Inv-loop μ-loop
-cast-v c = omega (arith, c .shared-slice-known5 .given (c .before .before .before .loop .i + 1))
+shared-slice-read-named : tie.Need-shared-slice-read-named Inv-loop μ-loop
+shared-slice-read-named c = whole (c .before .before)
 
 turn-requires : tie.Need-turn-requires Inv-loop μ-loop
 turn-requires c κs =
@@ -71,10 +65,10 @@ loop-again c =
       omega (arith, whole (tested turn)),
       (
         (
-          omega (arith, t .kept .1 .1 .1 .0, l .inv .1 .0 .0),
+          omega (arith, t .kept .1 .1 .0, l .inv .1 .0 .0),
           (
-            omega (arith, t .kept .1 .1 .1 .1 .0, l .inv .1 .0 .1 .0),
-            (omega (arith, t .kept .1 .1 .1 .1 .1 .0, l .inv .1 .0 .1 .1 .0), omega (arith, t .kept .1 .1 .1 .1 .1 .1 .0, l .inv .1 .0 .1 .1 .1)),
+            omega (arith, t .kept .1 .1 .1 .0, l .inv .1 .0 .1 .0),
+            (omega (arith, t .kept .1 .1 .1 .1 .0, l .inv .1 .0 .1 .1 .0), omega (arith, t .kept .1 .1 .1 .1 .1 .0, l .inv .1 .0 .1 .1 .1)),
           ),
         ),
         λ y. at-told y (l .inv .1 .1 y) (tested turn .loop-test .taken) (t .ensures .0) (ap progressOf (at .outcome .given .1)),
@@ -85,12 +79,12 @@ loop-again c =
 same-length-3 : tie.Need-same-length-3 Inv-loop μ-loop
 same-length-3 c =
     let t = turned (c .before .before .before) in
-    omega (arith, t .turn .kept .1 .1 .1 .1 .1 .0, tested t .before .loop .inv .1 .0 .1 .1 .0)
+    omega (arith, t .turn .kept .1 .1 .1 .1 .0, tested t .before .loop .inv .1 .0 .1 .1 .0)
 
 same-length-4 : tie.Need-same-length-4 Inv-loop μ-loop
 same-length-4 c =
     let t = turned (c .before .before .before) in
-    omega (arith, t .turn .kept .1 .1 .1 .1 .1 .1 .0, tested t .before .loop .inv .1 .0 .1 .1 .1)
+    omega (arith, t .turn .kept .1 .1 .1 .1 .1 .0, tested t .before .loop .inv .1 .0 .1 .1 .1)
 
 returns-2 : tie.Need-returns-2 Inv-loop μ-loop
 returns-2 c =
@@ -108,6 +102,6 @@ returns-3 c =
 pub take-turns-spec : {M : Type 1} → statement M
 take-turns-spec =
     tie.close
-    (tie.spec Inv-loop μ-loop returns loop-holds (λ c. omega arith) cast-b (λ c. omega arith) shared-slice-read-v cast-v turn-requires add-i
+    (tie.spec Inv-loop μ-loop returns loop-holds (λ c. omega arith) (λ c. omega arith) shared-slice-read-named turn-requires add-i
     (λ c. search needs) (λ c. omega arith) loop-again (λ c. search needs) (λ c. omega arith) (λ c. omega arith) same-length-3 same-length-4 returns-2
     (λ c. omega arith) (λ c. omega arith) (λ c. omega arith) (λ c. omega arith) returns-3)

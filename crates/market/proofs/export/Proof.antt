@@ -1,18 +1,18 @@
 -- `market::export` meets its contract: a refusal, a buffer of another length, or the text.
 use borrow.Author.Needs.{needs}
-use mathlib.Core.Path.{_≡_, refl, sym, ap, _∙_}
+use mathlib.Core.Path.{_≡_, sym, ap, _∙_}
 use lib.ListN.{length}
 use Rattle.refusal.proofs.Numbers.{when-fine, when-faulty}
-use Rattle.market.specs.Export.{graphFault}
-use Rattle.market.proofs.Exports.{exportable, export-refused, export-unfit, export-written}
-use Rattle.market.proofs.RoundTrip.{promised}
+use Rattle.desk.specs.Checks.{graphFaults}
+use Rattle.matrix.proofs.Exports.{exportable, export-refused, export-unfit, export-written}
+use Rattle.matrix.proofs.RoundTrip.{promised}
 use Rattle.market.proofs.export.Statement.{statement}
 use Rattle.market.proofs.export.Tie as tie
 
 abbrev start : tie.After-check-graph → tie.Start
 start c = c .before .before .before .before
 
-none : (c : tie.After-enum-told) → let a = start (c .before .before) .args in graphFault (a .offsets .now) (a .targets .now) ≡ 0
+none : (c : tie.After-enum-told) → let a = start (c .before .before) .args in graphFaults (a .offsets .now) (a .targets .now) ≡ 0
 none c = when-fine (c .before .before .check-graph .ensures) (c .enum-told .given .1)
 
 text-length-requires : tie.Need-text-length-requires

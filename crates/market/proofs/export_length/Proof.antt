@@ -2,8 +2,8 @@
 use borrow.Author.Needs.{needs}
 use mathlib.Core.Path.{_≡_}
 use Rattle.refusal.proofs.Numbers.{when-fine, when-faulty}
-use Rattle.market.specs.Export.{graphFault}
-use Rattle.market.proofs.Exports.{exportable, length-refused, length-told}
+use Rattle.desk.specs.Checks.{graphFaults}
+use Rattle.matrix.proofs.Exports.{exportable, length-refused, length-told}
 use Rattle.market.proofs.export_length.Statement.{statement}
 use Rattle.market.proofs.export_length.Tie as tie
 
@@ -17,7 +17,7 @@ returns c =
     let a = start k .args in
     length-refused (a .offsets .now) (a .targets .now) (f .0 .0) (when-faulty (k .check-graph .ensures) (f .1))
 
-none : (c : tie.After-enum-told) → let a = start (c .before .before) .args in graphFault (a .offsets .now) (a .targets .now) ≡ 0
+none : (c : tie.After-enum-told) → let a = start (c .before .before) .args in graphFaults (a .offsets .now) (a .targets .now) ≡ 0
 none c = when-fine (c .before .before .check-graph .ensures) (c .enum-told .given .1)
 
 text-length-requires : tie.Need-text-length-requires

@@ -1,20 +1,20 @@
 -- `market::import` meets its contract: one law of `Checks` for each way out.
 use mathlib.Core.Path.{_≡_, refl, sym, ap, _∙_}
-use mathlib.Core.Bool.{Bool, true, false}
+use mathlib.Core.Bool.{true, false}
 use mathlib.Core.List.{List, map}
 use Prim.Native.Nat.{ℕ}
 use native.Mathlib.Omega.{arith}
 use lib.ListN.{length, drop, replicate}
 use borrow.Author.Needs.{needs}
 use borrow.Author.Tests.{not-true, not-false}
-use Rattle.catalogue.specs.Store.{Pair}
-use Rattle.market.specs.Reading.{pairsIn}
-use Rattle.market.specs.Import.{outside, misfits, fault, fromZero, Imports}
+use Rattle.desk.specs.Checks.{countsOutside}
+use Rattle.matrix.specs.Reading.{pairsIn}
+use Rattle.matrix.specs.Import.{misfits, fault, fromZero, Imports}
 use Rattle.catalogue.specs.Answer.{Row}
-use Rattle.market.specs.Promise.{Accepts}
-use Rattle.market.specs.Steps.{Fillable}
-use Rattle.market.proofs.Forms.{accepts}
-use Rattle.market.proofs.Checks.{in-range, fault-head, fault-lines, fault-counts, fault-objects, fault-none, fillable, pairs-are, lengths-are, imports-refused, imports-unfit, imports-filled}
+use Rattle.matrix.specs.Promise.{Accepts}
+use Rattle.matrix.specs.Steps.{Fillable}
+use Rattle.matrix.proofs.Forms.{accepts}
+use Rattle.matrix.proofs.Checks.{fault-head, fault-lines, fault-counts, fault-objects, fault-none, fillable, pairs-are, lengths-are, imports-refused, imports-unfit, imports-filled}
 use Rattle.market.proofs.import.Statement.{statement}
 use Rattle.market.proofs.import.Tie as tie
 
@@ -43,7 +43,7 @@ lined : (c : tie.Else2) → body c .body-at .result .good ≡ true
 lined c = not-false _ (c .if2 .left)
 
 -- the counts are in their range
-ranged : (c : tie.Else3) → let h = head (body (c .before .before) .before) .head-of .result in outside (h .rows) (h .entries) ≡ false
+ranged : (c : tie.Else3) → let h = head (body (c .before .before) .before) .head-of .result in countsOutside (h .rows) (h .entries) ≡ false
 ranged c = sym (c .before .counts-outside .ensures) ∙ c .if3 .left
 
 module _ (c : tie.Else4) where

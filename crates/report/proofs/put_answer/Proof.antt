@@ -2,7 +2,7 @@
 use mathlib.Core.Path.{_≡_, sym, ap, _∙_}
 use Rattle.refusal.proofs.Numbers.{when-fine, when-faulty}
 use Rattle.catalogue.specs.Answer.{row}
-use Rattle.text.proofs.Written.{as-text}
+use Rattle.slices.proofs.Written.{as-text}
 use Rattle.report.specs.Report.{Files, files, filesFault, countsFault}
 use Rattle.report.proofs.Opening.{due-files, due-header, Headed, due-counts, due-later, holding}
 use borrow.Author.Needs.{needs}

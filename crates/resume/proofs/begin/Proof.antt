@@ -1,26 +1,52 @@
--- The number that the checks find decides: a refusal, or the call without a fault.
-use Rattle.resume.proofs.Calling.{begin-found, begun-refused, begun-fine}
+-- What the checks find decides: a refusal, or a run whose registers are all zero at first, and whose state is saved.
+use mathlib.Core.Path.{sym}
+use native.Mathlib.Omega.{arith}
 use borrow.Author.Needs.{needs}
+use Rattle.marker.proofs.Stages.{workers-few, registers-long, runnable, passed}
+use Rattle.resume.proofs.Calling.{begin-savable, begun-refused, begun-fine}
 use Rattle.resume.proofs.begin.Statement.{statement}
 use Rattle.resume.proofs.begin.Tie as tie
 
-begin-checked-requires : tie.Need-begin-checked-requires
-begin-checked-requires c κs =
-    let told = c .before .before .before .before in
-    begin-found (told .before .before .check .ensures) (told .enum-told .given .1)
+-- back from the saving to the run, and from there to what the checks found
+abbrev ran : tie.After-save-arg4 → tie.After-run
+ran c = let buffers = c .before .before .before .before .before in buffers .before .before .before .before .before .before .before .before
+
+abbrev told : tie.After-run-arg4 → tie.After-enum-told
+told c = c .before .before .before .before .before
 
 returns : tie.Need-returns
-returns c =
-    let told = c .before in begun-refused (told .before .before .check .ensures) (told .verdict .given .1)
+returns c = let t = c .before in begun-refused (t .before .before .check .ensures) (t .verdict .given .1)
+
+array-borrow-prefix-registers : tie.Need-array-borrow-prefix-registers
+array-borrow-prefix-registers c = omega (arith, workers-few (passed (c .before .before .check .ensures) (c .enum-told .given .1)))
+
+slice-aggregate-regs : tie.Need-slice-aggregate-regs
+slice-aggregate-regs c =
+    let t = c .before in sym (registers-long (passed (t .before .before .check .ensures) (t .enum-told .given .1)))
+
+run-requires : tie.Need-run-requires
+run-requires c κs =
+    let t = told c in runnable _ _ _ (passed (t .before .before .check .ensures) (t .enum-told .given .1))
+
+save-requires : tie.Need-save-requires
+save-requires c κs =
+    let r = ran c in
+    let t = told (r .before) in
+    begin-savable (passed (t .before .before .check .ensures) (t .enum-told .given .1)) (r .run .ensures)
+
+answer-requires : tie.Need-answer-requires
+answer-requires c κs = ran (c .before .before .before .before .before) .run .ensures .countable
 
 returns-2 : tie.Need-returns-2
 returns-2 c =
-    let done = c .before .before .before .before .before .before .before .before in
-    let told = done .before .before .before .before .before in
-    begun-fine (told .before .before .check .ensures) (told .enum-told .given .1) (done .begin-checked .ensures)
+    let saved = c .before .before .before .before .before in
+    let r = ran (saved .before) in
+    let t = told (r .before) in
+    begun-fine (t .before .before .check .ensures) (t .enum-told .given .1) (r .run .ensures) (saved .save .ensures) (c .answer .result) (c .answer .ensures)
 
 pub begin-spec : {M : Type 1} → statement M
 begin-spec =
     tie.close
-    (tie.spec (λ c κs. search needs) (λ c. search needs) (λ c. search needs) begin-checked-requires returns (λ c. search needs)
-    (λ c. search needs) (λ c. search needs) (λ c. search needs) returns-2)
+    (tie.spec (λ c κs. search needs) (λ c. search needs) returns (λ c. search needs) (λ c. search needs) (λ c. search needs)
+    array-borrow-prefix-registers slice-aggregate-regs run-requires save-requires answer-requires (λ c. search needs) (λ c. search needs)
+    (λ c. search needs) (λ c. search needs) returns-2)

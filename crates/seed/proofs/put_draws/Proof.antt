@@ -1,7 +1,7 @@
 -- `seed::put_draws` meets its contract: before turn i of the loop the rounds of the first i draws stand there.
 use Prim.Native.Nat.{_-_}
 use borrow.Author.Needs.{needs}
-use Rattle.text.proofs.Written.{same-long}
+use Rattle.slices.proofs.Written.{same-long}
 use Rattle.seed.proofs.Draws.{At, at-start, at-ready, at-next, at-end}
 use Rattle.seed.proofs.put_draws.Statement.{statement}
 use Rattle.seed.proofs.put_draws.Tie as tie

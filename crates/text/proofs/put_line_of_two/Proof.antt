@@ -1,7 +1,7 @@
 -- Three writes, one behind the other.
 use native.Mathlib.Nat.{le-refl}
 use native.Mathlib.Omega.{arith}
-use Rattle.text.proofs.Written.{exactly, then-in}
+use Rattle.slices.proofs.Written.{exactly, then-in}
 use borrow.Author.Needs.{needs}
 use Rattle.text.proofs.put_line_of_two.Statement.{statement}
 use Rattle.text.proofs.put_line_of_two.Tie as tie

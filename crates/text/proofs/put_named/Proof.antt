@@ -1,6 +1,6 @@
 -- The word, and the number behind it.
 use native.Mathlib.Omega.{arith}
-use Rattle.text.proofs.Written.{exactly, then-in}
+use Rattle.slices.proofs.Written.{exactly, then-in}
 use borrow.Author.Needs.{needs}
 use Rattle.text.proofs.put_named.Statement.{statement}
 use Rattle.text.proofs.put_named.Tie as tie

@@ -4,8 +4,8 @@ use Prim.Native.Nat.{_-_}
 use lib.ListN.{drop, length-drop}
 use lib.Seq.{take-all}
 use native.Mathlib.Omega.{arith}
+use Rattle.slices.proofs.Written.{as-text, within}
 use Rattle.text.proofs.Decimal.{decimal-few}
-use Rattle.text.proofs.Written.{as-text, within}
 use borrow.Author.Needs.{needs}
 use Rattle.text.proofs.put_number.Statement.{statement}
 use Rattle.text.proofs.put_number.Tie as tie

@@ -9,15 +9,19 @@ use borrow.Author.Needs.{needs}
 use Rattle.turns.proofs.turn.Statement.{statement}
 use Rattle.turns.proofs.turn.Tie as tie
 
--- back to the entry
+-- back to the call, from before and behind the load
+abbrev called : tie.After-struct-known → tie.Start
+called c = c .before .before .before .before .before .before .before
+
 abbrev entry : tie.After-load → tie.Start
-entry c = c .before .before .before .before .before .before .before .before
+entry c = called (c .before .before)
 
 load-requires : tie.Need-load-requires
 load-requires c κs =
-    let start = c .before .before .before .before .before .before .before in
+    let start = called (c .before) in
+    let b = start .args .step .entry .worker in
     let x = start .pre in
-    block-room (x .scene) (x .holds) (start .args .b) (x .here .low)
+    block-room (x .scene) (x .holds) b (x .here .low)
 
 idle-turn-requires : tie.Need-idle-turn-requires
 idle-turn-requires c κs =
@@ -29,13 +33,14 @@ idle-turn-requires c κs =
 
 put-requires : tie.Need-put-requires
 put-requires c κs =
-    let start = c .before .before .before .before .before .before .before .before .before .before in
+    let start = entry (c .before .before) in
+    let b = start .args .step .entry .worker in
     let x = start .pre in
-    (block-room (x .scene) (x .holds) (start .args .b) (x .here .low), omega arith)
+    (block-room (x .scene) (x .holds) b (x .here .low), omega arith)
 
 moved-requires : tie.Need-moved-requires
 moved-requires c κs =
-    let start = c .before .before .before .before .before .before .before .before .before .before .before .before .before in
+    let start = entry (c .before .before .before .before .before) in
     let x = start .pre in
     (roomy (x .scene) (x .holds), omega arith, omega arith)
 
@@ -86,8 +91,8 @@ returns-2 c =
     let at-load = at-match .before in
     let start = entry at-load in
     let z = rw (at-load .load .ensures) at (at-match .match .keys2) in
-    let a = start .args in
-    (λ x. rw (at-put .put .ensures, c .moved .ensures) (holds-woken (x .scene) (x .holds) (a .b) (a .v) (denied-here x z)), tt)
+    let e = start .args .step .entry in
+    (λ x. rw (at-put .put .ensures, c .moved .ensures) (holds-woken (x .scene) (x .holds) (e .worker) (e .named) (denied-here x z)), tt)
 
 returns-3 : tie.Need-returns-3
 returns-3 c =
@@ -96,7 +101,7 @@ returns-3 c =
     let at-load = at-match .before in
     let start = entry at-load in
     let z = rw (at-load .load .ensures) at (at-match .match .keys3) in
-    let v = start .args .v in
+    let v = start .args .step .entry .named in
     (λ x. at-take-up .take-up .ensures _ _ _ v (told x (given-here x z)), tt)
 
 returns-4 : tie.Need-returns-4
@@ -106,7 +111,7 @@ returns-4 c =
     let at-load = at-match .before in
     let start = entry at-load in
     let z = rw (at-load .load .ensures) at (at-match .match .keys4) in
-    let v = start .args .v in
+    let v = start .args .step .entry .named in
     (λ x. at-poll .poll .ensures _ v (told x (poll-here x z)), tt)
 
 returns-5 : tie.Need-returns-5
@@ -116,7 +121,7 @@ returns-5 c =
     let at-load = at-match .before in
     let start = entry at-load in
     let z = rw (at-load .load .ensures) at (at-match .match .keys5) in
-    let v = start .args .v in
+    let v = start .args .step .entry .named in
     (λ x. at-look .look .ensures v (told x (look-here x z)), tt)
 
 returns-6 : tie.Need-returns-6
@@ -126,23 +131,23 @@ returns-6 c =
     let at-load = at-match .before in
     let start = entry at-load in
     let z = rw (at-load .load .ensures) at (at-match .match .keys6) in
-    let v = start .args .v in
+    let v = start .args .step .entry .named in
     (λ x. at-claim .claim .ensures v (told x (claim-here x z)), tt)
 
 returns-7 : tie.Need-returns-7
 returns-7 c =
-    let at-load = c .before in
+    let at-match = c .before in
+    let at-load = at-match .before in
     let start = entry at-load in
-    let n = c .match .rest in
+    let n = at-match .match .rest in
     let e = ap (λ (r : Block). r .status) (at-load .load .ensures) in
-    let v = start .args .v in
+    let v = start .args .step .entry .named in
     (λ x. holds-quiet x (λ z. n .0 .0 .0 .0 .0 .1 (e ∙ z)) (λ z. n .0 .0 .0 .0 .1 (e ∙ z)) (λ z. n .0 .0 .0 .1 (e ∙ z)) (λ z. n .0 .0 .1 (e ∙ z)) (λ z. n .0 .1 (e ∙ z)) (λ z. n .1 (e ∙ z)) v, tt)
 
 pub turn-spec : {M : Type 1} → statement M
 turn-spec =
     tie.close
-    (tie.spec load-requires idle-turn-requires put-requires moved-requires take-up-requires poll-requires
-    look-requires claim-requires (λ c. search needs) returns (λ c. search needs) returns-2 (λ c. search needs)
-    returns-3 (λ c. search needs) (λ c. search needs) (λ c. search needs) returns-4 (λ c. search needs) (λ c. search needs)
-    (λ c. search needs) (λ c. search needs) returns-5 (λ c. search needs) (λ c. search needs) (λ c. search needs) (λ c. search needs)
-    returns-6 (λ c. search needs) returns-7)
+    (tie.spec (λ c. search needs) load-requires idle-turn-requires put-requires moved-requires take-up-requires poll-requires look-requires
+    claim-requires (λ c. search needs) returns (λ c. search needs) returns-2 (λ c. search needs) returns-3 (λ c. search needs)
+    (λ c. search needs) (λ c. search needs) returns-4 (λ c. search needs) (λ c. search needs) (λ c. search needs) (λ c. search needs)
+    returns-5 (λ c. search needs) (λ c. search needs) (λ c. search needs) (λ c. search needs) returns-6 (λ c. search needs) returns-7)

@@ -10,7 +10,7 @@ use Rattle.laws.proofs.Decides.{decides-no, never, refuted}
 use Rattle.validate.proofs.Needed.{form-needed, heads-needed, links-needed}
 use Rattle.validate.proofs.Deciding.{marks-lent, workers-there, tallies-there, ranges-low, marks-there, starts-below, objects-low, loads-there, marks-wrong, starts-wrong, loads-wrong, Passed, sums-low, decided}
 use Rattle.graph.specs.Graph.{graph}
-use Rattle.validate.specs.Checked.{setting}
+use Rattle.validate.specs.Checked.{settingOf}
 use Rattle.validate.proofs.is_sound.Statement.{statement}
 use Rattle.validate.proofs.is_sound.Tie as tie
 
@@ -48,8 +48,8 @@ entry₆ c = entry₃ (lent₆ c .before)
 
 -- all tests but the last have held
 passed : (c : tie.Else6)
-    → Passed (graph (entry₆ c .args .offsets .now) (entry₆ c .args .targets .now)) (entry₆ c .args .starts .now) (entry₆ c .args .workers)
-    (setting (entry₆ c .args .batch) (entry₆ c .args .cutoff)) (entry₆ c .args .saved .now) (marksOf (lent₆ c))
+    → Passed (graph (entry₆ c .args .offsets .now) (entry₆ c .args .targets .now)) (entry₆ c .args .starts .now) (entry₆ c .args .settings .workers)
+    (settingOf (entry₆ c .args .settings)) (entry₆ c .args .saved .now) (marksOf (lent₆ c))
     (lent₆ c .before .before .before .before .before .check-heads .result) (four c .before .before .check-marks .result)
     (c .before .before .before .before .before .check-starts .result) (c .before .before .check-loads .result)
 passed c =

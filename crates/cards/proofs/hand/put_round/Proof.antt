@@ -5,7 +5,7 @@ use Prim.Native.Nat.{ℕ, _-_}
 use native.Mathlib.Omega.{arith}
 use lib.ListN.{getD}
 use borrow.Author.Needs.{needs}
-use Rattle.text.proofs.Written.{same-long}
+use Rattle.slices.proofs.Written.{same-long}
 use Rattle.cards.specs.Deck.{card-workers, card, digits, Order}
 use Rattle.cards.specs.Hand.{roundOf}
 use Rattle.cards.proofs.Circle.{Sitting, sit-start, sit-ready, sit-next, sit-end}

@@ -2,7 +2,7 @@
 use Prim.Native.Nat.{_-_}
 use lib.ListN.{length}
 use borrow.Author.Needs.{needs}
-use Rattle.text.proofs.Written.{same-long}
+use Rattle.slices.proofs.Written.{same-long}
 use Rattle.cards.proofs.Dealing.{At, at-start, at-ready, at-next, at-end}
 use Rattle.cards.proofs.hand.put_rounds.Statement.{statement}
 use Rattle.cards.proofs.hand.put_rounds.Tie as tie

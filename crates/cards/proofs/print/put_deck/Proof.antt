@@ -3,7 +3,7 @@ use mathlib.Core.Path.{refl}
 use Prim.Native.Nat.{_-_}
 use native.Mathlib.Omega.{arith}
 use borrow.Author.Needs.{needs}
-use Rattle.text.proofs.Written.{same-long}
+use Rattle.slices.proofs.Written.{same-long}
 use Rattle.cards.specs.Deck.{deck-size}
 use Rattle.cards.proofs.Printing.{At, at-start, at-ready, at-next, at-end}
 use Rattle.cards.proofs.print.put_deck.Statement.{statement}

@@ -2,8 +2,8 @@
 use mathlib.Core.Path.{_≡_, _∙_}
 use native.Mathlib.Omega.{arith}
 use Rattle.refusal.proofs.Numbers.{when-fine, when-faulty}
-use Rattle.catalogue.specs.Layout.{header}
-use Rattle.catalogue.specs.Reading.{recordFault}
+use Rattle.records.specs.Layout.{header}
+use Rattle.records.specs.Reading.{recordFault}
 use Rattle.catalogue.proofs.Checking.{whole-fault, whole-rest}
 use Rattle.catalogue.proofs.Faults.{GoodHeader, good-header-record}
 use borrow.Author.Needs.{needs}

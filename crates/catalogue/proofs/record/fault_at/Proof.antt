@@ -4,7 +4,7 @@ use Prim.Native.Nat.{_-_}
 use native.Mathlib.Omega.{arith}
 use lib.ListN.{length, drop, length-drop}
 use lib.Seq.{take-all}
-use Rattle.catalogue.specs.Reading.{recordFault}
+use Rattle.records.specs.Reading.{recordFault}
 use borrow.Author.Needs.{needs}
 use Rattle.catalogue.proofs.record.fault_at.Statement.{statement}
 use Rattle.catalogue.proofs.record.fault_at.Tie as tie

@@ -4,7 +4,7 @@ use mathlib.Core.Path.{_≡_, ap, _∙_}
 use lib.ListN.{drop}
 use Rattle.refusal.specs.Number.{numberOf}
 use Rattle.refusal.proofs.Numbers.{when-fine, when-faulty}
-use Rattle.catalogue.specs.Reading.{recordFault, dueAt}
+use Rattle.records.specs.Reading.{recordFault, dueAt}
 use Rattle.catalogue.proofs.Checking.{Checking, checking-none, checking-fault, checking-next, checking-end}
 use borrow.Author.Needs.{needs}
 use native.Mathlib.Omega.{arith}

@@ -2,8 +2,8 @@
 use mathlib.Core.Path.{_∙_}
 use mathlib.Core.Logic.{_⊎_, inl, inr, ⊎-elim}
 use native.Mathlib.Omega.{arith}
-use Rattle.catalogue.specs.Layout.{header, object, reference, lease, subject}
-use Rattle.catalogue.specs.Reading.{header-kind, object-kind, reference-kind, lease-kind, subject-kind}
+use Rattle.records.specs.Layout.{header, object, reference, lease, subject}
+use Rattle.records.specs.Reading.{header-kind, object-kind, reference-kind, lease-kind, subject-kind}
 use Rattle.catalogue.proofs.Cases.{Sort, as-header, as-object, as-reference, as-lease, as-subject, not-known}
 use Rattle.catalogue.proofs.Cases.{wrong-length, right-length, other-place, wrong-place, right-frame, unknown-kind}
 use borrow.Author.Needs.{needs}

@@ -6,7 +6,7 @@ use borrow.Author.Needs.{needs}
 use borrow.Author.Tests.{lt-ltb, le-ltb, eq-eqb, ne-eqb}
 use lib.Dec.{ltb}
 use Rattle.refusal.specs.Order.{raise}
-use Rattle.catalogue.specs.Reading.{lease-kind}
+use Rattle.records.specs.Reading.{lease-kind}
 use Rattle.catalogue.proofs.Cases.{placed, lease-told}
 use Rattle.catalogue.proofs.record.lease_fault.Statement.{statement}
 use Rattle.catalogue.proofs.record.lease_fault.Tie as tie

@@ -2,7 +2,7 @@
 use native.Mathlib.Omega.{arith}
 use Prim.Native.Nat.{ℕ}
 use mathlib.Core.Path.{ap, sym, _∙_}
-use Rattle.catalogue.specs.Reading.{kindOf, contentsFault}
+use Rattle.records.specs.Reading.{kindOf, contentsFault}
 use Rattle.catalogue.proofs.Cases.{too-short, cut-off, whole}
 use borrow.Author.Needs.{needs}
 use Rattle.catalogue.proofs.record.record_fault.Statement.{statement}

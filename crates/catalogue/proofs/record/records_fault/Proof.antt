@@ -3,9 +3,9 @@ use Prim.Native.Nat.{ℕ}
 use mathlib.Core.Path.{ap, sym, _∙_}
 use native.Mathlib.Omega.{arith}
 use lib.ListN.{drop}
-use Rattle.catalogue.specs.Store.{most-leases}
-use Rattle.catalogue.specs.Reading.{leaseFaults}
-use Rattle.catalogue.specs.Fill.{Listed}
+use Rattle.records.specs.Store.{most-leases}
+use Rattle.records.specs.Reading.{leaseFaults}
+use Rattle.records.specs.Fill.{Listed}
 use borrow.Author.Needs.{needs}
 use Rattle.catalogue.proofs.record.records_fault.Statement.{statement}
 use Rattle.catalogue.proofs.record.records_fault.Tie as tie

@@ -1,15 +1,21 @@
 -- `hops::search::fill` meets its contract: the root, and then the tree below it.
-use mathlib.Core.Path.{_∙_}
 use borrow.Author.Needs.{needs}
 use Rattle.hops.proofs.Spreading.{top-inside, top-links, fill-walk, fill-all}
 use Rattle.hops.proofs.search.fill.Statement.{statement}
 use Rattle.hops.proofs.search.fill.Tie as tie
 
+-- back to the call, from before and behind the visit of the root
+abbrev called : tie.After-struct-known → tie.Start
+called c = c .before .before .before .before .before
+
 abbrev entered : tie.After-visit → tie.Start
-entered v = v .before .before .before .before .before .before .before .before .before
+entered v = called (v .before .before .before .before .before)
+
+slice-read-below : tie.Need-slice-read-below
+slice-read-below c = let p = called (c .before) .pre in top-links _ _ (p .0) (p .1)
 
 visit-requires : tie.Need-visit-requires
-visit-requires c κs = let p = c .before .before .before .before .before .before .before .before .pre in (p .0, top-inside _ _ (p .0) (p .1))
+visit-requires c κs = let p = called (c .before .before .before .before) .pre in (p .0, top-inside _ _ (p .0) (p .1))
 
 walk-requires : tie.Need-walk-requires
 walk-requires c κs =
@@ -28,5 +34,5 @@ returns c =
 pub fill-spec : {M : Type 1} → statement M
 fill-spec =
     tie.close
-    (tie.spec (λ c. search needs) (λ c. search needs) (λ c. let p = c .before .before .before .before .before .pre in top-links _ _ (p .0) (p .1)) visit-requires walk-requires
+    (tie.spec (λ c. search needs) (λ c. search needs) (λ c. search needs) slice-read-below visit-requires walk-requires
     (λ c. search needs) (λ c. search needs) returns)

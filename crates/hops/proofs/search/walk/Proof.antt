@@ -10,15 +10,15 @@ use Rattle.hops.proofs.search.walk.Statement.{statement}
 use Rattle.hops.proofs.search.walk.Tie as tie
 
 abbrev Inv-loop : tie.InvT-loop
-Inv-loop offsets targets hops₀ links₀ slots₀ hop height x rights₀ heights₀ depth₀ at₀ rest₀ hops links slots rights heights depth at rest =
-    Walking (graph offsets targets) hop height x hops₀ links₀ slots₀ hops links slots rights heights depth at rest
+Inv-loop offsets targets hops₀ links₀ slots₀ hop rights₀ heights₀ depth₀ at₀ rest₀ hops links slots rights heights depth at rest =
+    Walking (graph offsets targets) hop rest₀ at₀ hops₀ links₀ slots₀ hops links slots rights heights depth at rest
 
 abbrev μ-loop : tie.MeasureT-loop
-μ-loop offsets targets hops₀ links₀ slots₀ hop height x rights₀ heights₀ depth₀ at₀ rest₀ hops links slots rights heights depth at rest =
+μ-loop offsets targets hops₀ links₀ slots₀ hop rights₀ heights₀ depth₀ at₀ rest₀ hops links slots rights heights depth at rest =
     leftover links₀ rights heights depth at rest
 
 abbrev start : tie.At-loop Inv-loop μ-loop → tie.Start Inv-loop μ-loop
-start l = l .before .before .before .before .before .before
+start l = l .before .before .before .before .before .before .before
 
 -- the object in hand
 low : (l : tie.At-loop Inv-loop μ-loop) → l .loop .at < most-objects
@@ -94,8 +94,8 @@ pub walk-spec : {M : Type 1} → statement M
 walk-spec =
     tie.close
     (tie.spec Inv-loop μ-loop
-    (λ c. let s = c .before .before .before .before .before in walk-none _ _ (s .pre .0) (c .if1 .taken))
-    (λ c. walking-start (c .before .before .before .before .before .pre) (c .if1 .left))
+    (λ c. let s = c .before .before .before .before .before .before in walk-none _ _ (s .pre .0) (c .if1 .taken))
+    (λ c. walking-start (c .before .before .before .before .before .before .pre) (c .if1 .left))
     (λ c. omega (arith, low (c .before .before)))
     (λ c. omega (arith, low (c .before .before)))
     (λ c. omega (arith, low (c .before .before)))

@@ -5,7 +5,6 @@ use native.Mathlib.Omega.{arith}
 use lib.ListN.{length, take}
 use Rattle.marker.specs.Starting.{Gatherable, IsGathered}
 use Rattle.marker.proofs.Gather.{gathered-start, gathering, gathered-next, gathered-all}
-use borrow.Author.Needs.{needs}
 use Rattle.marker.proofs.start.gather.Statement.{statement}
 use Rattle.marker.proofs.start.gather.Tie as tie
 

@@ -2,15 +2,13 @@
 use mathlib.Core.Path.{_≡_, refl, sym, _∙_}
 use Prim.Native.Nat.{_-_, _≤_}
 use native.Mathlib.Omega.{arith}
-use lib.ListN.{length, drop}
+use lib.ListN.{drop}
 use borrow.Author.Needs.{needs}
-use Rattle.market.specs.Layout.{banner}
-use Rattle.market.specs.Reading.{begins}
-use Rattle.market.proofs.Heads.{begins-short, begins-same, begins-other, begins-all}
+use Rattle.matrix.specs.Layout.{banner}
+use Rattle.matrix.specs.Reading.{begins}
+use Rattle.matrix.proofs.Heads.{begins-short, begins-same, begins-other, begins-all}
 use Rattle.market.proofs.parse.begins_right.Statement.{statement}
 use Rattle.market.proofs.parse.begins_right.Tie as tie
-use Rattle.market.proofs.parse.begins_right.Reads as reads
-use Rattle.market.proofs.parse.begins_right.Lts as lts
 
 abbrev Inv-loop : tie.InvT-loop
 Inv-loop text i₀ i = (i ≤ 49) × (begins banner text ≡ begins (drop i banner) (drop i text))

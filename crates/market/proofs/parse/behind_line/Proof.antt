@@ -5,8 +5,8 @@ use Prim.Native.Nat.{_-_, _≤_}
 use native.Mathlib.Omega.{arith}
 use lib.ListN.{length, drop}
 use borrow.Author.Needs.{needs}
-use Rattle.market.specs.Reading.{skip}
-use Rattle.market.proofs.Heads.{skip-within, skip-feed, skip-end}
+use Rattle.matrix.specs.Reading.{skip}
+use Rattle.matrix.proofs.Heads.{skip-within, skip-feed, skip-end}
 use Rattle.market.proofs.parse.behind_line.Statement.{statement}
 use Rattle.market.proofs.parse.behind_line.Tie as tie
 

@@ -2,10 +2,9 @@
 use mathlib.Core.Path.{sym, _∙_}
 use mathlib.Core.Logic.{⊎-elim}
 use Prim.Native.Nat.{_-_}
-use native.Mathlib.Omega.{arith}
 use borrow.Author.Needs.{needs}
 use borrow.Author.Tests.{not-true, not-false}
-use Rattle.market.proofs.Bodies.{Passing, passing-start, body-bad, passing-right, passing-wrong, body-end}
+use Rattle.matrix.proofs.Bodies.{Passing, passing-start, body-bad, passing-right, passing-wrong, body-end}
 use Rattle.market.proofs.parse.body_at.Statement.{statement}
 use Rattle.market.proofs.parse.body_at.Tie as tie
 

@@ -1,17 +1,14 @@
 -- `market::parse::field_at` meets its contract: the loop keeps `Scanning`, and each exit says why the digits end.
-use mathlib.Core.Path.{_≡_, refl, sym, ap, _∙_}
+use mathlib.Core.Path.{refl, sym}
 use mathlib.Core.List.{List}
-use Prim.Native.Nat.{ℕ, _-_, _^_, _<_}
+use Prim.Native.Nat.{ℕ, _-_, _<_}
 use native.Mathlib.Nat.{pow-le-pow-right}
 use native.Mathlib.Omega.{arith}
-use lib.ListN.{length, getD, List·getD-eq-default}
+use lib.ListN.{length, List·getD-eq-default}
 use borrow.Author.Needs.{needs}
-use Rattle.market.proofs.Fields.{Scanning, scanning-start, scanning-next, ended-low, ended-high, ended-full, ended-text, field-good, field-other, field-none, field-bad}
+use Rattle.matrix.proofs.Fields.{Scanning, scanning-start, scanning-next, ended-low, ended-high, ended-full, ended-text, field-good, field-other, field-none, field-bad}
 use Rattle.market.proofs.parse.field_at.Statement.{statement}
 use Rattle.market.proofs.parse.field_at.Tie as tie
-use Rattle.market.proofs.parse.field_at.Reads as reads
-use Rattle.market.proofs.parse.field_at.Lts as lts
-use Rattle.market.proofs.parse.wide.Reads as wide-reads
 
 abbrev Inv-loop : tie.InvT-loop
 Inv-loop text at stop value₀ i₀ value i = Scanning text at i value
@@ -27,13 +24,13 @@ returns : tie.Need-returns Inv-loop μ-loop
 returns c =
     let l = c .before .before .before .before in
     let s = l .loop .inv in
-    field-bad _ _ _ (l .before .before .pre .0) (field-other s (ended-low s refl (c .before .if1 .taken)) (c .if2 .taken))
+    field-bad _ _ _ (field-other s (ended-low s refl (c .before .if1 .taken)) (c .if2 .taken))
 
 returns-2 : tie.Need-returns-2 Inv-loop μ-loop
 returns-2 c =
     let l = c .before .before .before .before .before in
     let s = l .loop .inv in
-    field-bad _ _ _ (l .before .before .pre .0) (field-none s (ended-low s refl (c .before .before .if1 .taken)) _ (c .if3 .taken))
+    field-bad _ _ _ (field-none s (ended-low s refl (c .before .before .if1 .taken)) _ (c .if3 .taken))
 
 returns-3 : tie.Need-returns-3 Inv-loop μ-loop
 returns-3 c =
@@ -48,7 +45,7 @@ returns-4 c =
     let l = c .before .before .before .before in
     let s = l .loop .inv in
     let start = l .before .before in
-    field-bad _ _ _ (start .pre .0) (field-other s (ended-high s refl (c .if4 .taken)) (λ z. omega (arith, z, c .if4 .taken, start .pre .1 .1)))
+    field-bad _ _ _ (field-other s (ended-high s refl (c .if4 .taken)) (λ z. omega (arith, z, c .if4 .taken, start .pre .1 .1)))
 
 sub-if5 : tie.Need-sub-if5 Inv-loop μ-loop
 sub-if5 c = omega (arith, c .before .before .before .before .loop .inv .place)
@@ -59,7 +56,7 @@ returns-5 c =
     let l = c .before .before .before .before .before in
     let s = l .loop .inv in
     let start = l .before .before in
-    field-bad _ _ _ (start .pre .0) (field-other s (ended-full s (c .if5 .taken)) (λ z. omega (arith, z, c .before .before .if1 .left, start .pre .1 .1)))
+    field-bad _ _ _ (field-other s (ended-full s (c .if5 .taken)) (λ z. omega (arith, z, c .before .before .if1 .left, start .pre .1 .1)))
 
 -- the value of so many digits
 low : {text : List ℕ} {at i value : ℕ} → Scanning text at i value → value < 10000000000
@@ -85,7 +82,7 @@ returns-6 c =
     let s = l .loop .inv in
     let start = l .before .before in
     let d = List·getD-eq-default (start .args .text .now) 0 (c .loop-test .left) in
-    field-bad _ _ _ (start .pre .0) (field-other s (ended-text s (c .loop-test .left)) (λ z. omega (arith, z, d, start .pre .1 .0)))
+    field-bad _ _ _ (field-other s (ended-text s (c .loop-test .left)) (λ z. omega (arith, z, d, start .pre .1 .0)))
 
 pub field-at-spec : {M : Type 1} → statement M
 field-at-spec =

@@ -4,9 +4,9 @@ use mathlib.Core.Bool.{true}
 use native.Mathlib.Omega.{arith}
 use borrow.Author.Needs.{needs}
 use borrow.Author.Tests.{not-true, not-false}
-use Rattle.market.specs.Layout.{banner}
-use Rattle.market.specs.Reading.{begins}
-use Rattle.market.proofs.Heads.{begins-long, head-banner, head-rows, head-columns, head-entries, head-of}
+use Rattle.matrix.specs.Layout.{banner}
+use Rattle.matrix.specs.Reading.{begins}
+use Rattle.matrix.proofs.Heads.{begins-long, head-banner, head-rows, head-columns, head-entries, head-of}
 use Rattle.market.proofs.parse.head_of.Statement.{statement}
 use Rattle.market.proofs.parse.head_of.Tie as tie
 

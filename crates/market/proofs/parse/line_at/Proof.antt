@@ -2,14 +2,14 @@
 use native.Mathlib.Omega.{arith}
 use borrow.Author.Needs.{needs}
 use borrow.Author.Tests.{not-true, not-false}
-use Rattle.market.proofs.Heads.{line-bad, line-of}
+use Rattle.matrix.proofs.Heads.{line-bad, line-of}
 use Rattle.market.proofs.parse.line_at.Statement.{statement}
 use Rattle.market.proofs.parse.line_at.Tie as tie
 
 returns : tie.Need-returns
 returns c =
     let f = c .before .before in
-    line-bad (f .field-at .ensures) (f .before .before .pre) (not-true _ (c .if1 .taken))
+    line-bad (f .field-at .ensures) (not-true _ (c .if1 .taken))
 
 field-at-requires-2 : tie.Need-field-at-requires-2
 field-at-requires-2 c κs = (c .before .before .field-at .ensures .there, (omega arith, omega arith))

@@ -1,12 +1,12 @@
 -- `market::parse::skip_lines` meets its contract: what is behind the lines passed is skipped as the whole is.
-use mathlib.Core.Path.{_≡_, refl, sym, ap, _∙_}
-use mathlib.Core.Bool.{true, false}
+use mathlib.Core.Path.{_≡_, refl, sym, _∙_}
+use mathlib.Core.Bool.{false}
 use Prim.Native.Nat.{_-_, _≤_}
 use native.Mathlib.Omega.{arith}
 use lib.ListN.{length, drop, drop-of-length-le}
 use borrow.Author.Needs.{needs}
-use Rattle.market.specs.Reading.{skip}
-use Rattle.market.proofs.Heads.{skip-percent, skip-none, skip-end}
+use Rattle.matrix.specs.Reading.{skip}
+use Rattle.matrix.proofs.Heads.{skip-percent, skip-none, skip-end}
 use Rattle.market.proofs.parse.skip_lines.Statement.{statement}
 use Rattle.market.proofs.parse.skip_lines.Tie as tie
 

@@ -3,7 +3,7 @@ use Prim.Native.Nat.{_-_}
 use native.Mathlib.Omega.{arith}
 use lib.ListN.{length}
 use borrow.Author.Needs.{needs}
-use Rattle.market.proofs.Texts.{Counting, counting-start, counting-small, counting-on, counting-end}
+use Rattle.matrix.proofs.Texts.{Counting, counting-start, counting-small, counting-on, counting-end}
 use Rattle.market.proofs.print.object_length.Statement.{statement}
 use Rattle.market.proofs.print.object_length.Tie as tie
 

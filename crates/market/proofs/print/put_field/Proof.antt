@@ -1,12 +1,11 @@
 -- `market::print::put_field` meets its contract: the loop keeps `Printing`: the digits so far stand behind their place.
-use mathlib.Core.Path.{_≡_, refl, sym, ap, _∙_}
-use mathlib.Core.List.{List}
-use Prim.Native.Nat.{ℕ, _+_, _-_, _<_}
+use mathlib.Core.Path.{refl, _∙_}
+use Prim.Native.Nat.{_+_, _-_}
 use native.Mathlib.Omega.{arith}
 use lib.ListN.{length, set, length-set}
 use borrow.Author.Needs.{needs}
 use Rattle.text.specs.Text.{decimal}
-use Rattle.market.proofs.Decimals.{Printing, printing-start, printing-next, printed, printed-field}
+use Rattle.matrix.proofs.Decimals.{Printing, printing-start, printing-next, printed, printed-field}
 use Rattle.market.proofs.print.put_field.Statement.{statement}
 use Rattle.market.proofs.print.put_field.Tie as tie
 

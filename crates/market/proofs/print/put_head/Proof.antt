@@ -1,8 +1,8 @@
 -- `market::print::put_head` meets its contract: the first line, and three numbers, each with its byte behind it.
 use native.Mathlib.Omega.{arith}
 use borrow.Author.Needs.{needs}
-use Rattle.text.proofs.Written.{same-long}
-use Rattle.market.proofs.Texts.{head-length, room-one, room-two, room-three, head-put}
+use Rattle.slices.proofs.Written.{same-long}
+use Rattle.matrix.proofs.Texts.{head-length, room-one, room-two, room-three, head-put}
 use Rattle.market.proofs.print.put_head.Statement.{statement}
 use Rattle.market.proofs.print.put_head.Tie as tie
 

@@ -1,8 +1,8 @@
 -- `market::print::put_line` meets its contract: two numbers, each with its byte behind it.
 use native.Mathlib.Omega.{arith}
 use borrow.Author.Needs.{needs}
-use Rattle.text.proofs.Written.{same-long}
-use Rattle.market.proofs.Texts.{line-length, line-room, line-put}
+use Rattle.slices.proofs.Written.{same-long}
+use Rattle.matrix.proofs.Texts.{line-length, line-room, line-put}
 use Rattle.market.proofs.print.put_line.Statement.{statement}
 use Rattle.market.proofs.print.put_line.Tie as tie
 

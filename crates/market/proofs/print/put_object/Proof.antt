@@ -3,8 +3,8 @@ use Prim.Native.Nat.{_-_}
 use native.Mathlib.Omega.{arith}
 use lib.ListN.{length}
 use borrow.Author.Needs.{needs}
-use Rattle.text.proofs.Written.{same-long}
-use Rattle.market.proofs.Texts.{Object, object-start, target-small, object-room, object-next, object-end}
+use Rattle.slices.proofs.Written.{same-long}
+use Rattle.matrix.proofs.Texts.{Object, object-start, target-small, object-room, object-next, object-end}
 use Rattle.market.proofs.print.put_object.Statement.{statement}
 use Rattle.market.proofs.print.put_object.Tie as tie
 

@@ -1,14 +1,11 @@
 -- `market::print::put_text` meets its contract: behind the head the loop keeps `Body`: the lines of the objects so far are written.
-use mathlib.Core.Path.{_≡_, _∙_}
-use mathlib.Core.List.{_++_}
+use mathlib.Core.Path.{_∙_}
 use Prim.Native.Nat.{_-_}
 use native.Mathlib.Omega.{arith}
-use lib.ListN.{length}
 use borrow.Author.Needs.{needs}
 use Rattle.graph.specs.Graph.{graph}
-use Rattle.text.proofs.Written.{same-long}
-use Rattle.market.specs.Steps.{Exportable}
-use Rattle.market.proofs.Texts.{counts-short, text-length, Body, body-start, body-printable, body-on, body-end}
+use Rattle.slices.proofs.Written.{same-long}
+use Rattle.matrix.proofs.Texts.{counts-short, text-length, Body, body-start, body-printable, body-on, body-end}
 use Rattle.market.proofs.print.put_text.Statement.{statement}
 use Rattle.market.proofs.print.put_text.Tie as tie
 
@@ -36,8 +33,8 @@ loop-holds c =
     let s = start p in
     body-start _ (s .pre .0) (s .pre .1) (p .put-head .ensures)
 
-cast-references-of : tie.Need-cast-references-of Inv-loop μ-loop
-cast-references-of c = let s = start (c .before .before .before .before) in omega (arith, s .pre .0 .few)
+cast-references : tie.Need-cast-references Inv-loop μ-loop
+cast-references c = let s = start (c .before .before .before .before) in omega (arith, s .pre .0 .few)
 
 cast-put-object : tie.Need-cast-put-object Inv-loop μ-loop
 cast-put-object c = let s = start (c .before .before .before .before .before .before) in omega (arith, s .pre .0 .few)
@@ -47,7 +44,7 @@ put-object-requires c κs =
     let r = c .before in
     let i = r .before in
     let s = start (i .before .before .before .before) in
-    body-printable _ (s .pre .0) (i .before .loop .inv) (i .loop-test .taken) (r .references-of .ensures)
+    body-printable _ (s .pre .0) (i .before .loop .inv) (i .loop-test .taken) (r .references .ensures)
 
 loop-again : tie.Need-loop-again Inv-loop μ-loop
 loop-again c =
@@ -55,7 +52,7 @@ loop-again c =
     let r = p .before .before in
     let i = r .before in
     let s = start (i .before .before .before .before) in
-    body-on _ (s .pre .0) (i .before .loop .inv) (i .loop-test .taken) (r .references-of .ensures) (p .put-object .ensures)
+    body-on _ (s .pre .0) (i .before .loop .inv) (i .loop-test .taken) (r .references .ensures) (p .put-object .ensures)
 
 same-length : tie.Need-same-length Inv-loop μ-loop
 same-length c =
@@ -71,5 +68,5 @@ returns c =
 pub put-text-spec : {M : Type 1} → statement M
 put-text-spec =
     tie.close
-    (tie.spec Inv-loop μ-loop sub-n put-head-requires loop-holds cast-references-of (λ c κs. search needs) cast-put-object put-object-requires (λ c. search needs)
+    (tie.spec Inv-loop μ-loop sub-n put-head-requires loop-holds cast-references (λ c κs. search needs) cast-put-object put-object-requires (λ c. search needs)
     (λ c. search needs) loop-again same-length returns)

@@ -1,10 +1,8 @@
 -- `market::print::width` meets its contract: each exit knows the powers of ten around the number.
-use mathlib.Core.Path.{_≡_, sym}
-use Prim.Native.Nat.{_≤_}
+use mathlib.Core.Path.{sym}
 use native.Mathlib.Omega.{arith}
-use borrow.Author.Needs.{needs}
 use Rattle.text.specs.Text.{decimal}
-use Rattle.market.proofs.Decimals.{width-one, width-more}
+use Rattle.matrix.proofs.Decimals.{width-one, width-more}
 use Rattle.market.proofs.print.width.Statement.{statement}
 use Rattle.market.proofs.print.width.Tie as tie
 

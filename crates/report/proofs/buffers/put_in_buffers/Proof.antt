@@ -4,7 +4,7 @@ use Prim.Native.Nat.{ℕ, _+_, _≤_}
 use native.Mathlib.Omega.{arith}
 use lib.ListN.{length, take, replicate, length-replicate}
 use lib.Seq.{length-take-le}
-use Rattle.catalogue.specs.Store.{start-words}
+use Rattle.records.specs.Store.{start-words}
 use Rattle.report.specs.Limits.{most-objects, most-references, work-room, tallies-room}
 use borrow.Author.Needs.{needs}
 use Rattle.report.proofs.buffers.put_in_buffers.Statement.{statement}

@@ -4,7 +4,7 @@ use mathlib.Core.List.{List}
 use Prim.Native.Nat.{ℕ}
 use native.Mathlib.Omega.{arith}
 use lib.Seq.{length-take-le}
-use Rattle.text.proofs.Written.{then, as-text, room-left}
+use Rattle.slices.proofs.Written.{then, as-text, room-left}
 use Rattle.report.proofs.Sweeping.{SweptTo, swept-to, not-refused, swept-text}
 use borrow.Author.Needs.{needs}
 use Rattle.report.proofs.dead.put_swept.Statement.{statement}

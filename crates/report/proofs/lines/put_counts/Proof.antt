@@ -1,6 +1,6 @@
 -- The second lines stand behind the first (`then-in`).
 use native.Mathlib.Omega.{arith}
-use Rattle.text.proofs.Written.{then-in}
+use Rattle.slices.proofs.Written.{then-in}
 use Rattle.report.specs.Lines.{countLines}
 use borrow.Author.Needs.{needs}
 use Rattle.report.proofs.lines.put_counts.Statement.{statement}

@@ -3,7 +3,7 @@ use mathlib.Core.Path.{_≡_}
 use Prim.Native.Nat.{_-_, _<_}
 use native.Mathlib.Omega.{arith}
 use lib.ListN.{length, getD}
-use Rattle.text.proofs.Written.{same-long, room-left}
+use Rattle.slices.proofs.Written.{same-long, room-left}
 use Rattle.report.proofs.Listing.{At, at-start, at-next, at-end}
 use borrow.Author.Needs.{needs}
 use Rattle.report.proofs.lines.put_dead_list.Statement.{statement}

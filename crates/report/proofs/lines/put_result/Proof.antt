@@ -1,10 +1,6 @@
 -- The tallies stand behind the counts (`then-in`).
 use native.Mathlib.Nat.{le-refl}
-use Prim.Native.Nat.{_/_}
-use lib.ListN.{length}
-use native.Mathlib.Omega.{arith}
-use Rattle.text.proofs.Written.{then-in, room-left}
-use Rattle.report.specs.Limits.{tally-room}
+use Rattle.slices.proofs.Written.{then-in}
 use borrow.Author.Needs.{needs}
 use Rattle.report.proofs.lines.put_result.Statement.{statement}
 use Rattle.report.proofs.lines.put_result.Tie as tie

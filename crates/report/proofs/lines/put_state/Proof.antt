@@ -1,6 +1,6 @@
 -- By the test.
 use native.Mathlib.Omega.{arith}
-use Rattle.text.proofs.Written.{within}
+use Rattle.slices.proofs.Written.{within}
 use borrow.Author.Needs.{needs}
 use Rattle.report.proofs.lines.put_state.Statement.{statement}
 use Rattle.report.proofs.lines.put_state.Tie as tie

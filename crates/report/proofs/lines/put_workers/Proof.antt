@@ -1,7 +1,7 @@
 -- Line after line: `then-in` puts each behind those before it.
 use native.Mathlib.Nat.{le-refl}
 use native.Mathlib.Omega.{arith}
-use Rattle.text.proofs.Written.{then-in}
+use Rattle.slices.proofs.Written.{then-in}
 use Rattle.report.specs.Lines.{workerLines}
 use borrow.Author.Needs.{needs}
 use Rattle.report.proofs.lines.put_workers.Statement.{statement}

@@ -6,18 +6,18 @@ use Rattle.report.proofs.order.check.Statement.{statement}
 use Rattle.report.proofs.order.check.Tie as tie
 
 returns : tie.Need-returns
-returns c = rw (sym (c .before .setting-outside .ensures) ∙ c .if1 .taken)
+returns c = rw (sym (c .before .settings-outside .ensures) ∙ c .if1 .taken)
 
 returns-2 : tie.Need-returns-2
 returns-2 c =
-    let s = c .before in
-    let fine = sym (s .before .setting-outside .ensures) ∙ s .if1 .left in
+    let s = c .before .before in
+    let fine = sym (s .before .settings-outside .ensures) ∙ s .if1 .left in
     rw (fine, lt-ltb _ _ (c .if2 .taken))
 
 returns-3 : tie.Need-returns-3
 returns-3 c =
-    let s = c .before in
-    let fine = sym (s .before .setting-outside .ensures) ∙ s .if1 .left in
+    let s = c .before .before in
+    let fine = sym (s .before .settings-outside .ensures) ∙ s .if1 .left in
     rw (fine, le-ltb _ _ (c .if2 .left))
 
 pub check-spec : {M : Type 1} → statement M

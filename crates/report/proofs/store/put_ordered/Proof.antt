@@ -1,15 +1,16 @@
 -- The settings and their check decide; the work words are cut to W stretches, the tallies to W of them.
-use mathlib.Core.Path.{_≡_, sym}
-use Prim.Native.Nat.{_+_, _*_, _≤_}
+use mathlib.Core.Path.{_≡_, sym, _∙_}
+use Prim.Native.Nat.{_*_, _≤_}
 use native.Mathlib.Omega.{arith}
 use lib.ListN.{length}
 use lib.Seq.{length-take-le}
-use Rattle.machine.specs.Tally.{tally-words}
+use Rattle.desk.specs.declared.Settings.{Settings}
+use Rattle.desk.specs.Lengths.{tally-words}
 use Rattle.refusal.proofs.Numbers.{when-fine, when-faulty}
-use Rattle.text.proofs.Written.{as-text}
-use Rattle.report.specs.declared.order.Order.{Order}
+use Rattle.slices.proofs.Written.{as-text}
 use Rattle.report.specs.Report.{orderFault}
-use Rattle.report.proofs.Ordering.{behind, due-order, due-collection, words-fit, tallies-fit, collectable}
+use Rattle.report.proofs.Ordering.{behind, due-order, due-collection, words-fit, tallies-few, tallies-fit, collectable}
+use Rattle.report.proofs.Printed.{answer-text}
 use borrow.Author.Needs.{needs}
 use Rattle.report.proofs.store.put_ordered.Statement.{statement}
 use Rattle.report.proofs.store.put_ordered.Tie as tie
@@ -27,18 +28,25 @@ entry c = shared (lent (c .before))
 abbrev at-order : tie.After-struct-known → tie.After-order-of
 at-order c = c .before .before .before .before
 
-abbrev settings : tie.After-struct-known → Order
+abbrev settings : tie.After-struct-known → Settings
 settings c = at-order c .order-of .result
 
 fine : (c : tie.After-struct-known) → orderFault (settings c) ≡ 0
 fine c = when-fine (c .before .before .before .check .ensures) (c .before .enum-told .given .1)
 
-words : (c : tie.After-struct-known)
-    → settings c .workers * (2 * length (entry (at-order c) .args .sizes .now) + 4) ≤ length (entry (at-order c) .args .work .now)
-words c = words-fit (entry (at-order c) .pre) (at-order c .order-of .ensures) (fine c)
+words : (c : tie.After-stretch) → settings (c .before) .workers * c .stretch .result ≤ length (entry (at-order (c .before)) .args .work .now)
+words c =
+    let s = c .before in words-fit (entry (at-order s) .pre) (at-order s .order-of .ensures) (fine s) (c .stretch .ensures)
 
 tallied : (c : tie.After-struct-known) → settings c .workers * tally-words ≤ length (entry (at-order c) .args .tallies .now)
 tallied c = tallies-fit (entry (at-order c) .pre) (at-order c .order-of .ensures) (fine c)
+
+-- back from the lines to the marker, and from there to the length of a stretch
+abbrev at-mark : tie.After-put-collection-arg3 → tie.After-mark
+at-mark c = let work-back = c .before .before .before .before .before .before .before in work-back .before .before .before
+
+abbrev at-stretch : tie.After-mark → tie.After-stretch
+at-stretch c = c .before .before .before .before .before .before
 
 returns : tie.Need-returns
 returns c =
@@ -51,42 +59,68 @@ returns c =
     as-text (due-order (entry o .pre) (o .order-of .ensures) (v .0 .0) (at-refusal .before .number-of .ensures) fault)
     (at-refusal .put-refusal .ensures .put)
 
-mul-words-2 : tie.Need-mul-words-2
-mul-words-2 c = omega (arith, words c)
+stretch-requires : tie.Need-stretch-requires
+stretch-requires c κs = omega (arith, entry (at-order c) .pre .fitting .few)
 
-slice-relend-prefix-put-collection : tie.Need-slice-relend-prefix-put-collection
-slice-relend-prefix-put-collection c = words (c .before .before)
-
-slice-aggregate-put-collection : tie.Need-slice-aggregate-put-collection
-slice-aggregate-put-collection c = sym (length-take-le _ _ (words (c .before .before .before)))
+mul-words : tie.Need-mul-words
+mul-words c = omega (arith, words c)
 
 mul-tallied : tie.Need-mul-tallied
-mul-tallied c = omega (arith, tallied c)
+mul-tallied c = omega (arith, tallied (c .before))
 
-slice-relend-prefix-put-collection-2 : tie.Need-slice-relend-prefix-put-collection-2
-slice-relend-prefix-put-collection-2 c = tallied (c .before .before .before)
+slice-relend-prefix-counted : tie.Need-slice-relend-prefix-counted
+slice-relend-prefix-counted c = tallied (c .before)
 
-slice-aggregate-put-collection-2 : tie.Need-slice-aggregate-put-collection-2
-slice-aggregate-put-collection-2 c = sym (length-take-le _ _ (tallied (c .before .before .before .before)))
+slice-aggregate-counted : tie.Need-slice-aggregate-counted
+slice-aggregate-counted c = sym (length-take-le _ _ (tallied (c .before .before)))
+
+slice-relend-prefix-mark : tie.Need-slice-relend-prefix-mark
+slice-relend-prefix-mark c = words (c .before .before .before)
+
+slice-aggregate-mark : tie.Need-slice-aggregate-mark
+slice-aggregate-mark c = sym (length-take-le _ _ (words (c .before .before .before .before)))
 
 put-collection-requires : tie.Need-put-collection-requires
 put-collection-requires c κs =
-    let s = c .before .before .before .before .before .before in
-    collectable (entry (at-order s) .pre) (at-order s .order-of .ensures) (fine s) (length-take-le _ _ (words s)) (length-take-le _ _ (tallied s))
+    let m = at-mark c in
+    let s = at-stretch m .before in
+    let e = entry (at-order s) in
+    let p = e .pre in
+    let few = tallies-few p (at-order s .order-of .ensures) (fine s) in
+    let cut = length-take-le (settings s .workers * tally-words) (e .args .tallies .now) (tallied s) in
+    record {
+      some = p .passing .some;
+      fitting =
+          record {
+            few = p .fitting .few;
+            all-marks = m .mark .kept .1 .1 .1 .1 .1 .0 ∙ p .fitting .all-marks;
+            all-list = p .fitting .all-list;
+            room = p .fitting .room;
+          };
+      sizes-fit = p .passing .sizes-fit;
+      few-tallies = omega (arith, m .mark .kept .1 .1 .1 .1 .1 .1 .1 .0, cut, few);
+    }
 
 returns-2 : tie.Need-returns-2
 returns-2 c =
-    let work-back = c .before .before .before .before .before .before in
-    let at-collection = work-back .before .before .before .before in
-    let s = at-collection .before .before .before .before .before .before .before in
-    as-text (due-collection (entry (at-order s) .pre) (at-order s .order-of .ensures) (fine s) (behind (entry (at-order s) .args .order .now)))
+    let list-back = c .before .before .before in
+    let at-collection = list-back .before .before .before in
+    let m = at-mark (at-collection .before) in
+    let t = at-stretch m in
+    let s = t .before in
+    let e = entry (at-order s) in
+    let o = at-order s .order-of .ensures in
+    as-text
+    (answer-text (collectable (e .pre) o (fine s) (t .stretch .ensures) (length-take-le _ _ (words t)) (length-take-le _ _ (tallied s))) _ (m .mark .result)
+    (m .mark .ensures)
+    ∙ due-collection (e .pre) o (fine s) (behind (e .args .order .now)))
     (at-collection .put-collection .ensures)
 
 pub put-ordered-spec : {M : Type 1} → statement M
 put-ordered-spec =
     tie.close
-    (tie.spec (λ c κs. search needs) (λ c κs. search needs) (λ c. search needs) (λ c κs. search needs)
-    (λ c κs. search needs) (λ c. search needs) returns (λ c. search needs) (λ c. search needs) (λ c. search needs)
-    (λ c. search needs) mul-words-2 mul-tallied (λ c. search needs) (λ c. search needs) (λ c. search needs)
-    slice-relend-prefix-put-collection slice-aggregate-put-collection slice-relend-prefix-put-collection-2 slice-aggregate-put-collection-2 put-collection-requires (λ c. search needs)
-    (λ c. search needs) (λ c. search needs) (λ c. search needs) (λ c. search needs) returns-2)
+    (tie.spec (λ c κs. search needs) (λ c κs. search needs) (λ c. search needs) (λ c κs. search needs) (λ c κs. search needs)
+    (λ c. search needs) returns (λ c. search needs) (λ c. search needs) stretch-requires mul-words mul-tallied slice-relend-prefix-counted
+    slice-aggregate-counted (λ c. search needs) (λ c. search needs) (λ c. search needs) slice-relend-prefix-mark slice-aggregate-mark
+    (λ c κs. search needs) put-collection-requires (λ c. search needs) (λ c. search needs) (λ c. search needs) (λ c. search needs)
+    (λ c. search needs) returns-2)

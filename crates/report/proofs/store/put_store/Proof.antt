@@ -1,7 +1,7 @@
 -- The reader's answer decides; what it read passes every later check of it.
 use mathlib.Core.Path.{sym}
 use lib.Seq.{length-take-le}
-use Rattle.text.proofs.Written.{as-text}
+use Rattle.slices.proofs.Written.{as-text}
 use Rattle.report.proofs.Reading.{due-catalogue, due-read, starts-fit, orderly}
 use borrow.Author.Needs.{needs}
 use Rattle.report.proofs.store.put_store.Statement.{statement}

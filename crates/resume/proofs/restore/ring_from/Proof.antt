@@ -1,19 +1,22 @@
 -- `ring_from`: three words.
+use Prim.Native.Nat.{_+_}
 use native.Mathlib.Omega.{arith}
+use Rattle.desk.specs.Lengths.{ring-place}
 use borrow.Author.Needs.{needs}
 use Rattle.resume.proofs.restore.ring_from.Statement.{statement}
 use Rattle.resume.proofs.restore.ring_from.Tie as tie
 
 cast-t4 : tie.Need-cast-t4
-cast-t4 c = omega (arith, c .shared-slice-known .given 13)
+cast-t4 c = omega (arith, c .shared-slice-known .given ring-place)
 
-cast-t7 : tie.Need-cast-t7
-cast-t7 c = omega (arith, c .shared-slice-known2 .given 14)
+cast-t9 : tie.Need-cast-t9
+cast-t9 c = omega (arith, c .shared-slice-known2 .given (ring-place + 1))
 
-cast-t10 : tie.Need-cast-t10
-cast-t10 c = omega (arith, c .shared-slice-known3 .given 15)
+cast-t14 : tie.Need-cast-t14
+cast-t14 c = omega (arith, c .shared-slice-known3 .given (ring-place + 2))
 
 pub ring-from-spec : {M : Type 1} → statement M
 ring-from-spec =
     tie.close
-    (tie.spec (λ c. search needs) cast-t4 (λ c. search needs) cast-t7 (λ c. search needs) cast-t10 (λ c. search needs))
+    (tie.spec (λ c. search needs) cast-t4 (λ c. search needs) (λ c. search needs) (λ c. search needs) cast-t9 (λ c. search needs)
+    (λ c. search needs) (λ c. search needs) cast-t14 (λ c. search needs))

@@ -61,4 +61,5 @@ pub heads-at-spec : {M : Type 1} → statement M
 heads-at-spec =
     tie.close
     (tie.spec (λ c. search needs) (λ c κs. search needs) (λ c. search needs) (λ c. search needs) numbers-at-requires (λ c. search needs)
-    slice-write-saved-2 (λ c. search needs) slice-write-saved-3 (λ c. search needs) slice-write-saved-4 same-length returns)
+    slice-write-saved-2 (λ c. search needs) (λ c. search needs) (λ c. search needs) slice-write-saved-3 (λ c. search needs) (λ c. search needs)
+    (λ c. search needs) slice-write-saved-4 same-length returns)

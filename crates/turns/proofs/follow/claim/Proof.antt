@@ -8,15 +8,19 @@ use borrow.Author.Needs.{needs}
 use Rattle.turns.proofs.follow.claim.Statement.{statement}
 use Rattle.turns.proofs.follow.claim.Tie as tie
 
--- back to the entry
+-- back to the call, from before and behind the first load
+abbrev called : tie.After-struct-known → tie.Start
+called c = c .before .before .before .before .before .before .before
+
 abbrev entry : tie.After-load → tie.Start
-entry c = c .before .before .before .before .before .before .before .before
+entry c = called (c .before .before)
 
 load-requires : tie.Need-load-requires
 load-requires c κs =
-    let start = c .before .before .before .before .before .before .before in
+    let start = called (c .before) in
+    let b = start .args .step .entry .worker in
     let x = start .pre in
-    block-room (x .scene) (x .holds) (start .args .b) (claim-low x)
+    block-room (x .scene) (x .holds) b (claim-low x)
 
 claim-target-requires : tie.Need-claim-target-requires
 claim-target-requires c κs =
@@ -38,8 +42,9 @@ load-requires-2 : tie.Need-load-requires-2
 load-requires-2 c κs =
     let at-claim-target = c .before .before .before .before .before .before .before .before in
     let start = entry (at-claim-target .before .before) in
+    let b = start .args .step .entry .worker in
     let x = start .pre in
-    block-room (x .scene) (x .holds) (start .args .b) (claim-low x)
+    block-room (x .scene) (x .holds) b (claim-low x)
 
 follow-requires : tie.Need-follow-requires
 follow-requires c κs =
@@ -47,11 +52,12 @@ follow-requires c κs =
     let at-opens = at-load2 .before .before in
     let at-claim-target = at-opens .before .before .before .before .before .before .before in
     let at-load = at-claim-target .before .before in
-    let start = at-load .before .before .before .before .before .before .before .before in
+    let start = entry at-load in
     let a = start .args in
-    let t = blockAt (a .regs .now) (a .b) .target in
-    let marks′ = claimedMarks (a .marks .now) (a .b) t in
-    let tallies′ = raisedWords (a .tallies .now) (a .b) (tallyAtClaim (a .marks .now) (a .b) t) in
+    let b = a .step .entry .worker in
+    let t = blockAt (a .regs .now) b .target in
+    let marks′ = claimedMarks (a .marks .now) b t in
+    let tallies′ = raisedWords (a .tallies .now) b (tallyAtClaim (a .marks .now) b t) in
     (at-load2 .load2 .ensures, (a .marks .now, (marks′, (a .tallies .now, (tallies′, rw (at-opens .opens .ensures, at-claim-target .claim-target .ensures .row-is, at-load .load .ensures) (claimed (start .pre)))))))
 
 returns : tie.Need-returns
@@ -69,5 +75,5 @@ returns c =
 pub claim-spec : {M : Type 1} → statement M
 claim-spec =
     tie.close
-    (tie.spec load-requires claim-target-requires count-claim-requires opens-requires load-requires-2 follow-requires (λ c. search needs)
-    (λ c. search needs) (λ c. search needs) (λ c. search needs) returns)
+    (tie.spec (λ c. search needs) load-requires claim-target-requires count-claim-requires opens-requires load-requires-2 follow-requires
+    (λ c. search needs) (λ c. search needs) (λ c. search needs) (λ c. search needs) returns)

@@ -9,37 +9,45 @@ use borrow.Author.Needs.{needs}
 use Rattle.turns.proofs.follow.look.Statement.{statement}
 use Rattle.turns.proofs.follow.look.Tie as tie
 
+-- back to the call, from before and behind the load
+abbrev called : tie.After-struct-known → tie.Start
+called c = c .before .before .before .before .before .before
+
+abbrev entry : tie.After-load → tie.Start
+entry c = called (c .before .before)
+
 load-requires : tie.Need-load-requires
 load-requires c κs =
-    let start = c .before .before .before .before .before .before in
+    let start = called (c .before) in
+    let b = start .args .step .entry .worker in
     let x = start .pre in
-    block-room (x .scene) (x .holds) (start .args .b) (look-low x)
+    block-room (x .scene) (x .holds) b (look-low x)
 
 shared-slice-read-seen : tie.Need-shared-slice-read-seen
 shared-slice-read-seen c =
     let at-load = c .before .before in
-    let start = at-load .before .before .before .before .before .before .before in
-    rw (at-load .load .ensures) (look-there (start .pre))
-
--- back to the entry
-abbrev entry : tie.After-load → tie.Start
-entry c = c .before .before .before .before .before .before .before
+    rw (at-load .load .ensures) (look-there (entry at-load .pre))
 
 follow-requires : tie.Need-follow-requires
 follow-requires c κs =
     let at-if1 = c .before .before .before in
     let at-load = at-if1 .before .before .before in
     let start = entry at-load in
+    let b = start .args .step .entry .worker in
     let n = rw (at-load .load .ensures) at (at-if1 .if1 .taken) in
-    (at-load .load .ensures, (start .args .marks .now, (start .args .marks .now, (start .args .tallies .now, (raisedWords (start .args .tallies .now) (start .args .b) (tally 1 0 0 0), rw (c .nothing .ensures) (seen (start .pre) n))))))
+    let marks = start .args .marks .now in
+    let tallies = start .args .tallies .now in
+    let tallies′ = raisedWords tallies b (tally 1 0 0 0) in
+    (at-load .load .ensures, (marks, (marks, (tallies, (tallies′, rw (c .nothing .ensures) (seen (start .pre) n))))))
 
 raise-requires : tie.Need-raise-requires
 raise-requires c κs =
     let at-follow = c .before .before .before .before .before in
     let at-if1 = at-follow .before .before .before .before in
     let start = entry (at-if1 .before .before .before) in
+    let b = start .args .step .entry .worker in
     let x = start .pre in
-    raisable (x .scene) (x .holds) (start .args .b) (look-low x) _ (omega arith) (omega arith) (omega arith) (omega arith)
+    raisable (x .scene) (x .holds) b (look-low x) _ (omega arith) (omega arith) (omega arith) (omega arith)
 
 returns : tie.Need-returns
 returns c =
@@ -54,13 +62,14 @@ returns c =
 
 put-requires : tie.Need-put-requires
 put-requires c κs =
-    let start = c .before .before .before .before .before .before .before .before .before .before .before in
+    let start = entry (c .before .before .before .before) in
+    let b = start .args .step .entry .worker in
     let x = start .pre in
-    (block-room (x .scene) (x .holds) (start .args .b) (look-low x), omega arith)
+    (block-room (x .scene) (x .holds) b (look-low x), omega arith)
 
 moved-requires : tie.Need-moved-requires
 moved-requires c κs =
-    let start = c .before .before .before .before .before .before .before .before .before .before .before .before .before .before in
+    let start = entry (c .before .before .before .before .before .before .before) in
     let x = start .pre in
     (roomy (x .scene) (x .holds), omega arith, omega arith)
 
@@ -75,5 +84,6 @@ returns-2 c =
 pub look-spec : {M : Type 1} → statement M
 look-spec =
     tie.close
-    (tie.spec load-requires (λ c. search needs) shared-slice-read-seen (λ c κs. search needs) follow-requires raise-requires
-    (λ c. search needs) (λ c. search needs) (λ c. search needs) returns put-requires moved-requires (λ c. search needs) returns-2)
+    (tie.spec (λ c. search needs) load-requires (λ c. search needs) shared-slice-read-seen (λ c κs. search needs) follow-requires
+    raise-requires (λ c. search needs) (λ c. search needs) (λ c. search needs) returns put-requires moved-requires (λ c. search needs)
+    returns-2)

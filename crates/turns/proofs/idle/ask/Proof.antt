@@ -7,9 +7,12 @@ use borrow.Author.Needs.{needs}
 use Rattle.turns.proofs.idle.ask.Statement.{statement}
 use Rattle.turns.proofs.idle.ask.Tie as tie
 
--- back from where the named worker's block is loaded to the entry
+-- back to the call, from before and behind the load of the named worker's block
+abbrev called : tie.After-struct-known3 → tie.Start
+called c = c .before .before .before .before .before
+
 abbrev entry : tie.After-load → tie.Start
-entry c = c .before .before .before .before
+entry c = called (c .before .before .before)
 
 -- back to where it is loaded
 abbrev loaded : tie.After-put-arg → tie.After-load
@@ -17,38 +20,50 @@ loaded c = c .before .before .before
 
 returns : tie.Need-returns
 returns c =
-    let a = c .before .before .args in
+    let e = called (c .before) .args .step .entry in
     λ marks work tallies x.
-    holds-still (x .scene) (x .holds) (a .b) (a .v) (x .here .is) (x .here .going) (x .here .other) (not-there (x .scene) (x .holds) (a .v) (c .if1 .taken))
+    holds-still (x .scene) (x .holds) (e .worker) (e .named) (x .here .is) (x .here .going) (x .here .other)
+    (not-there (x .scene) (x .holds) (e .named) (c .if1 .taken))
 
 returns-2 : tie.Need-returns-2
 returns-2 c =
     let at-load = c .before in
-    let a = entry at-load .args in
+    let e = entry at-load .args .step .entry in
     let l = rw (at-load .load .ensures) at (c .if2 .taken) in
     λ marks work tallies x.
-    holds-still (x .scene) (x .holds) (a .b) (a .v) (x .here .is) (x .here .going) (x .here .other) (not-free (x .scene) (x .holds) (a .v) (inl l))
+    holds-still (x .scene) (x .holds) (e .worker) (e .named) (x .here .is) (x .here .going) (x .here .other)
+    (not-free (x .scene) (x .holds) (e .named) (inl l))
 
 returns-3 : tie.Need-returns-3
 returns-3 c =
     let at-load = c .before .before in
-    let a = entry at-load .args in
+    let e = entry at-load .args .step .entry in
     let l = rw (at-load .load .ensures) at (c .if3 .taken) in
     λ marks work tallies x.
-    holds-still (x .scene) (x .holds) (a .b) (a .v) (x .here .is) (x .here .going) (x .here .other) (not-free (x .scene) (x .holds) (a .v) (inr l))
+    holds-still (x .scene) (x .holds) (e .worker) (e .named) (x .here .is) (x .here .going) (x .here .other)
+    (not-free (x .scene) (x .holds) (e .named) (inr l))
 
 add-put : tie.Need-add-put
 add-put c =
     let start = entry (loaded c) in
+    let b = start .args .step .entry .worker in
     let x = start .pre .1 .1 .1 in
-    omega (arith, idle-low (x .scene) (x .holds) (start .args .b) 0 (x .here .is), workers-limit (x .scene))
+    omega (arith, idle-low (x .scene) (x .holds) b 0 (x .here .is), workers-limit (x .scene))
+
+put-requires : tie.Need-put-requires
+put-requires c κs =
+    let at-load = loaded c in
+    let start = entry at-load in
+    let x = start .pre .1 .1 .1 in
+    (block-room (x .scene) (x .holds) (start .args .step .entry .named) (at-load .before .before .if1 .left), omega arith)
 
 put-requires-2 : tie.Need-put-requires-2
 put-requires-2 c κs =
     let at-put = c .before .before .before in
     let start = entry (loaded (at-put .before)) in
+    let b = start .args .step .entry .worker in
     let x = start .pre .1 .1 .1 in
-    let r = block-room (x .scene) (x .holds) (start .args .b) (idle-low (x .scene) (x .holds) (start .args .b) 0 (x .here .is)) in
+    let r = block-room (x .scene) (x .holds) b (idle-low (x .scene) (x .holds) b 0 (x .here .is)) in
     (record { low = r .low; long = omega (arith, r .long, at-put .put .kept .0) }, omega arith)
 
 moved-requires : tie.Need-moved-requires
@@ -65,16 +80,16 @@ returns-4 c =
     let at-if2 = at-if3 .before in
     let at-load = at-if2 .before in
     let low = at-load .before .before .if1 .left in
-    let a = entry at-load .args in
+    let e = entry at-load .args .step .entry in
     let st = rw (at-load .load .ensures) at (at-if2 .if2 .left) in
     let ce = rw (at-load .load .ensures) at (at-if3 .if3 .left) in
     λ marks work tallies x.
-    let f = free-if (x .scene) (x .holds) (a .v) low st ce in
+    let f = free-if (x .scene) (x .holds) (e .named) low st ce in
     rw (at-put2 .put2 .ensures, at-put .put .ensures, c .moved .ensures)
-    (holds-asked (x .scene) (x .holds) (a .b) (a .v) (x .here .is) (x .here .going) (x .here .other) low (f .since) (f .phase) (f .runs) (f .is))
+    (holds-asked (x .scene) (x .holds) (e .worker) (e .named) (x .here .is) (x .here .going) (x .here .other) low (f .since) (f .phase) (f .runs) (f .is))
 
 pub ask-spec : {M : Type 1} → statement M
 ask-spec =
     tie.close
-    (tie.spec returns (λ c κs. search needs) (λ c. search needs) returns-2 (λ c. search needs) returns-3 add-put (λ c κs. search needs)
-    put-requires-2 moved-requires (λ c. search needs) returns-4)
+    (tie.spec (λ c. search needs) (λ c. search needs) returns (λ c κs. search needs) (λ c. search needs) returns-2 (λ c. search needs)
+    returns-3 add-put put-requires put-requires-2 moved-requires (λ c. search needs) returns-4)

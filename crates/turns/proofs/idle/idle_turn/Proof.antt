@@ -6,9 +6,9 @@ use borrow.Author.Needs.{needs}
 use Rattle.turns.proofs.idle.idle_turn.Statement.{statement}
 use Rattle.turns.proofs.idle.idle_turn.Tie as tie
 
--- back to the entry; and to where the holder is another
-abbrev entry : tie.After-ring → tie.Start
-entry c = c .before .before
+-- back to the call; and to where the holder is another
+abbrev entry : tie.After-struct-known2 → tie.Start
+entry c = c .before .before .before
 
 abbrev other : tie.After-load → tie.Else1
 other c = c .before .before
@@ -23,8 +23,8 @@ returns : tie.Need-returns
 returns c =
     let at-pass = c .before .before .before in
     let at-if1 = at-pass .before .before in
-    let a = entry (at-if1 .before) .args in (
-      λ marks work tallies x. rw (c .ending .ensures .0) (at-pass .pass .ensures marks work tallies (a .v) (holding x (at-if1 .if1 .taken))),
+    let e = entry (at-if1 .before) .args .step .entry in (
+      λ marks work tallies x. rw (c .ending .ensures .0) (at-pass .pass .ensures marks work tallies (e .named) (holding x (at-if1 .if1 .taken))),
       c .ending .ensures .1,
     )
 
@@ -36,14 +36,16 @@ load-requires c κs =
 put-requires : tie.Need-put-requires
 put-requires c κs =
     let start = entry (other (c .before .before) .before) in
+    let b = start .args .step .entry .worker in
     let x = start .pre .1 .1 .1 in
-    (block-room (x .scene) (x .holds) (start .args .b) (idle-low (x .scene) (x .holds) (start .args .b) 0 (x .here)), omega arith)
+    (block-room (x .scene) (x .holds) b (idle-low (x .scene) (x .holds) b 0 (x .here)), omega arith)
 
 ended-requires : tie.Need-ended-requires
 ended-requires c κs =
     let start = entry (other (c .before .before .before .before .before) .before) in
+    let b = start .args .step .entry .worker in
     let x = start .pre .1 .1 .1 in
-    (roomy (x .scene) (x .holds), idle-running (x .scene) (x .holds) (start .args .b) 0 (x .here))
+    (roomy (x .scene) (x .holds), idle-running (x .scene) (x .holds) b 0 (x .here))
 
 returns-2 : tie.Need-returns-2
 returns-2 c =
@@ -51,11 +53,12 @@ returns-2 c =
     let at-put = at-ended .before .before .before in
     let at-if2 = at-put .before .before in
     let at-load = at-if2 .before in
-    let a = entry (other at-load .before) .args in
+    let e = entry (other at-load .before) .args .step .entry in
     let z = rw (at-load .load .ensures) at (at-if2 .if2 .taken) in (
       λ marks work tallies x.
           rw (at-put .put .ensures, c .ending2 .ensures .0, at-ended .ended .ensures)
-          (holds-ended (x .scene) (x .holds) (a .b) (a .v) (x .here) (ends-behind (x .scene) (x .holds) (a .b) (a .v) (x .here) (over-here x z))),
+          (holds-ended (x .scene) (x .holds) (e .worker) (e .named) (x .here)
+          (ends-behind (x .scene) (x .holds) (e .worker) (e .named) (x .here) (over-here x z))),
       c .ending2 .ensures .1,
     )
 
@@ -78,5 +81,5 @@ returns-3 c =
 pub idle-turn-spec : {M : Type 1} → statement M
 idle-turn-spec =
     tie.close
-    (tie.spec pass-requires (λ c κs. tt) (λ c. search needs) returns load-requires put-requires ended-requires (λ c κs. tt) (λ c. search needs) returns-2 ask-requires
-    (λ c. search needs) returns-3)
+    (tie.spec (λ c. search needs) (λ c. search needs) pass-requires (λ c κs. tt) (λ c. search needs) returns load-requires put-requires
+    ended-requires (λ c κs. tt) (λ c. search needs) returns-2 ask-requires (λ c. search needs) returns-3)

@@ -10,9 +10,9 @@ use borrow.Author.Needs.{needs}
 use Rattle.turns.proofs.idle.pass.Statement.{statement}
 use Rattle.turns.proofs.idle.pass.Tie as tie
 
--- back to the entry
+-- back to the call
 abbrev entry : tie.After-ring → tie.Start
-entry c = c .before .before
+entry c = c .before .before .before .before
 
 shade-requires : tie.Need-shade-requires
 shade-requires c κs = holder-ring (entry (c .before) .pre .1 .1 .1)
@@ -29,14 +29,16 @@ ending c = c .before .before .before
 put-requires : tie.Need-put-requires
 put-requires c κs =
     let start = entry (c .before .before .before .before) in
+    let b = start .args .step .entry .worker in
     let x = start .pre .1 .1 .1 in
-    (block-room (x .scene) (x .holds) (start .args .b) (holder-low x), omega arith)
+    (block-room (x .scene) (x .holds) b (holder-low x), omega arith)
 
 ended-requires : tie.Need-ended-requires
 ended-requires c κs =
     let start = entry (ending (c .before .before) .before .before) in
+    let b = start .args .step .entry .worker in
     let x = start .pre .1 .1 .1 in
-    (roomy (x .scene) (x .holds), idle-running (x .scene) (x .holds) (start .args .b) 0 (x .here .is))
+    (roomy (x .scene) (x .holds), idle-running (x .scene) (x .holds) b 0 (x .here .is))
 
 returns : tie.Need-returns
 returns c =
@@ -44,7 +46,7 @@ returns c =
     let at-if2 = at-put .before .before in
     let at-shade = at-if2 .before in
     let at-if1 = at-shade .before in
-    let b = entry (at-if1 .before) .args .b in
+    let b = entry (at-if1 .before) .args .step .entry .worker in
     λ marks work tallies v x.
     let y = x .here in
     let none : shade (x .state .ring .token) + shade (colourOf (x .state .ring) b) ≡ 0 = omega (arith, token-is x, at-shade .shade .ensures (holder-ring x), at-if2 .if2 .taken) in
@@ -60,7 +62,7 @@ returns-2 : tie.Need-returns-2
 returns-2 c =
     let at-passed = c .before in
     let at-join = at-passed .before in
-    let b = entry (at-join .before) .args .b in
+    let b = entry (at-join .before) .args .step .entry .worker in
     λ marks work tallies v x.
     let y = x .here in
     let some : b ≡ 0 → 0 < shade (x .state .ring .token) + shade (colourOf (x .state .ring) b) = λ (z : b ≡ 0).
@@ -75,4 +77,5 @@ returns-2 c =
 pub pass-spec : {M : Type 1} → statement M
 pass-spec =
     tie.close
-    (tie.spec shade-requires add-if2 put-requires ended-requires (λ c. search needs) returns passed-requires (λ c κs. search needs) returns-2)
+    (tie.spec (λ c. search needs) shade-requires add-if2 put-requires ended-requires (λ c. search needs) returns passed-requires
+    (λ c κs. search needs) returns-2)

@@ -1,7 +1,6 @@
 -- `cut_front`: what is left behind the front is copied to the asker.
 use mathlib.Core.Path.{refl}
-use native.Mathlib.Omega.{arith}
-use Rattle.turns.proofs.Dividing.{top-order, copyable, in-front, few-behind, divided-front}
+use Rattle.turns.proofs.Dividing.{copyable, in-front, few-behind, divided-front}
 use borrow.Author.Needs.{needs}
 use Rattle.turns.proofs.poll.cut_front.Statement.{statement}
 use Rattle.turns.proofs.poll.cut_front.Tie as tie

@@ -1,8 +1,7 @@
 -- `divide`: the part that holds the last reference kept says which cut is made.
-use Prim.Native.Nat.{ℕ, _-_, _<_}
+use Prim.Native.Nat.{_-_, _<_}
 use mathlib.Core.Path.{_≡_, sym, _∙_}
 use native.Mathlib.Omega.{arith}
-use Rattle.machine.specs.declared.frontier.Held.{Held}
 use Rattle.machine.specs.Split.{held}
 use Rattle.worker.proofs.Parting.{told-front, told-middle}
 use Rattle.turns.proofs.Dividing.{top-order, held-same, sharing-lent, cuttable, cutting-found}

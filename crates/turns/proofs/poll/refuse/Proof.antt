@@ -8,21 +8,26 @@ use borrow.Author.Needs.{needs}
 use Rattle.turns.proofs.poll.refuse.Statement.{statement}
 use Rattle.turns.proofs.poll.refuse.Tie as tie
 
--- back to the entry
+-- back to the call, from before and behind the first word written
+abbrev called : tie.After-struct-known → tie.Start
+called c = c .before .before
+
 abbrev entry : tie.After-put → tie.Start
-entry c = c .before .before .before .before
+entry c = called (c .before .before .before)
 
 put-requires : tie.Need-put-requires
 put-requires c κs =
-    let start = c .before .before .before in
+    let start = called (c .before .before) in
+    let b = start .args .step .entry .worker in
     let x = start .pre .1 .1 .1 .1 in
-    (block-room (x .scene) (x .holds) (start .args .b) (poll-low (x .scene) (x .holds) (start .args .b) (x .here .is)), omega arith)
+    (block-room (x .scene) (x .holds) b (poll-low (x .scene) (x .holds) b (x .here .is)), omega arith)
 
 add-begin : tie.Need-add-begin
 add-begin c =
     let at-put = c .before .before .before .before in
     let at-least = at-put .before .before in
     let start = entry at-put in
+    let b = start .args .step .entry .worker in
     let x = start .pre .1 .1 .1 .1 in
     let e = start .pre .0 in
     omega (
@@ -30,7 +35,7 @@ add-begin c =
       at-least .least .ensures,
       ap (λ (r : Block). r .since) e,
       ap (λ (r : Block). r .carried) e,
-      batch-fits (x .scene) (x .holds) (start .args .b) (x .here .is),
+      batch-fits (x .scene) (x .holds) b (x .here .is),
     )
 
 sub-begin : tie.Need-sub-begin
@@ -40,24 +45,27 @@ begin-requires : tie.Need-begin-requires
 begin-requires c κs =
     let at-put = c .before .before .before .before in
     let start = entry at-put in
+    let b = start .args .step .entry .worker in
     let x = start .pre .1 .1 .1 .1 in
-    let r = block-room (x .scene) (x .holds) (start .args .b) (poll-low (x .scene) (x .holds) (start .args .b) (x .here .is)) in
+    let r = block-room (x .scene) (x .holds) b (poll-low (x .scene) (x .holds) b (x .here .is)) in
     record { low = r .low; long = omega (arith, r .long, at-put .put .kept .0) }
 
 sub-put : tie.Need-sub-put
 sub-put c =
     let start = entry (c .before .before .before .before .before .before .before .before .before) in
+    let b = start .args .step .entry .worker in
     let x = start .pre .1 .1 .1 .1 in
-    omega (arith, ap (λ (r : Block). r .cell) (start .pre .0), asker-word (x .scene) (x .holds) (start .args .b) (x .here .is))
+    omega (arith, ap (λ (r : Block). r .cell) (start .pre .0), asker-word (x .scene) (x .holds) b (x .here .is))
 
 put-requires-2 : tie.Need-put-requires-2
 put-requires-2 c κs =
     let at-begin = c .before .before .before .before in
     let at-put = at-begin .before .before .before .before .before in
     let start = entry at-put in
+    let b = start .args .step .entry .worker in
     let x = start .pre .1 .1 .1 .1 in
-    let i = asker-word (x .scene) (x .holds) (start .args .b) (x .here .is) in
-    let r = block-room (x .scene) (x .holds) (x .here .asker) (asker-low (x .scene) (x .holds) (start .args .b) (x .here .is)) in
+    let i = asker-word (x .scene) (x .holds) b (x .here .is) in
+    let r = block-room (x .scene) (x .holds) (x .here .asker) (asker-low (x .scene) (x .holds) b (x .here .is)) in
     let e = ap (λ (r : Block). r .cell) (start .pre .0) in (
       record { low = omega (arith, e, i, r .low); long = omega (arith, e, i, r .long, at-put .put .kept .0, at-begin .begin .kept .0) },
       omega arith,
@@ -76,12 +84,13 @@ returns c =
     let at-put = at-begin .before .before .before .before .before in
     let at-least = at-put .before .before in
     let start = entry at-put in
+    let b = start .args .step .entry .worker in
     λ marks work tallies v x.
     rw (at-put2 .put2 .ensures, at-begin .begin .ensures, at-put .put .ensures, at-least .least .ensures, start .pre .0, c .moved .ensures)
-    (holds-refused (x .scene) (x .holds) (start .args .b) (x .here .is) (x .here .answers) v)
+    (holds-refused (x .scene) (x .holds) b (x .here .is) (x .here .answers) v)
 
 pub refuse-spec : {M : Type 1} → statement M
 refuse-spec =
     tie.close
-    (tie.spec (λ c κs. search needs) put-requires add-begin sub-begin begin-requires sub-put put-requires-2 moved-requires
-    (λ c. search needs) returns)
+    (tie.spec (λ c. search needs) (λ c κs. search needs) put-requires add-begin sub-begin begin-requires sub-put put-requires-2
+    moved-requires (λ c. search needs) returns)

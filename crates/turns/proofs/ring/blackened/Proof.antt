@@ -1,5 +1,4 @@
 -- `blackened`: the worker's bit is added where it is not set.
-use native.Mathlib.Omega.{arith}
 use borrow.Author.Needs.{needs}
 use Rattle.turns.proofs.Ringing.{low-shade, black-fits, blackened-words}
 use Rattle.turns.proofs.ring.blackened.Statement.{statement}

@@ -1,5 +1,4 @@
 -- `passed`: the worker's bit is taken out where it is set.
-use native.Mathlib.Omega.{arith}
 use borrow.Author.Needs.{needs}
 use Rattle.turns.proofs.Ringing.{black-there, sent-words, passed-words, black-token, same-token}
 use Rattle.turns.proofs.ring.passed.Statement.{statement}

@@ -1,6 +1,6 @@
 -- `shade`: the bit is the worker's (`read`).
 use borrow.Author.Needs.{needs}
-use Rattle.turns.proofs.Ringing.{shift-low, read}
+use Rattle.turns.proofs.Ringing.{read}
 use Rattle.turns.proofs.ring.shade.Statement.{statement}
 use Rattle.turns.proofs.ring.shade.Tie as tie
 

@@ -3,8 +3,8 @@ use Prim.Native.Nat.{_-_}
 use mathlib.Core.Logic.{⊎-elim}
 use native.Mathlib.Omega.{arith}
 use borrow.Author.Tests.{not-true, not-false}
-use Rattle.marker.proofs.Checks.{so}
-use Rattle.updates.proofs.Keeping.{StayingTo, covered, staying-none, staying-low, staying-more, staying-over, staying-end}
+use Rattle.desk.proofs.Checks.{so}
+use Rattle.changes.proofs.Keeping.{StayingTo, covered, staying-none, staying-low, staying-more, staying-over, staying-end}
 use Rattle.updates.proofs.remove.count_staying.Statement.{statement}
 use Rattle.updates.proofs.remove.count_staying.Tie as tie
 

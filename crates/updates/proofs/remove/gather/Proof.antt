@@ -5,7 +5,8 @@ use mathlib.Core.Logic.{⊎-elim}
 use native.Mathlib.Omega.{arith}
 use lib.ListN.{length, length-replicate}
 use borrow.Author.Needs.{needs}
-use Rattle.updates.proofs.Gathering.{GatheredTo, gathered-none, gathered-low, number-fits, gathered-new, gathered-again, gathered-end}
+use Rattle.changes.proofs.Gathering.{GatheredTo, gathered-none, gathered-low, number-fits, gathered-new, gathered-again, gathered-end}
+use Rattle.changes.specs.Taking.{taken-words}
 use Rattle.updates.proofs.remove.gather.Statement.{statement}
 use Rattle.updates.proofs.remove.gather.Tie as tie
 
@@ -47,4 +48,4 @@ gather-spec =
     tie.close
     (tie.spec Inv-loop μ-loop (λ c. gathered-none _ _ (c .before .before .pre .0)) (λ c. search needs) (λ c. search needs) insert-requires add-count
     (λ c. search needs) (λ c. search needs) loop-again
-    (λ c. omega (arith, c .before .loop .inv .long, ap length (start (c .before) .pre .0), length-replicate {A = ℕ} 32768 0)) returns)
+    (λ c. omega (arith, c .before .loop .inv .long, ap length (start (c .before) .pre .0), length-replicate {A = ℕ} taken-words 0)) returns)

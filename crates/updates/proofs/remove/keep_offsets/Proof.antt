@@ -4,7 +4,7 @@ use mathlib.Core.Path.{_∙_, sym}
 use native.Mathlib.Omega.{arith}
 use lib.ListN.{length}
 use borrow.Author.Needs.{needs}
-use Rattle.updates.proofs.Keeping.{OffsetsTo, counts-long, offsets-none, part-order, part-covers, total-fits, offsets-next, offsets-end}
+use Rattle.changes.proofs.Keeping.{OffsetsTo, counts-long, offsets-none, part-order, part-covers, total-fits, offsets-next, offsets-end}
 use Rattle.updates.proofs.remove.keep_offsets.Statement.{statement}
 use Rattle.updates.proofs.remove.keep_offsets.Tie as tie
 

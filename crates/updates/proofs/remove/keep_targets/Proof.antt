@@ -6,8 +6,8 @@ use native.Mathlib.Omega.{arith}
 use lib.ListN.{length}
 use borrow.Author.Needs.{needs}
 use borrow.Author.Tests.{not-true, not-false}
-use Rattle.marker.proofs.Checks.{so}
-use Rattle.updates.proofs.Keeping.{TargetsTo, covered, targets-none, targets-low, targets-room, targets-more, targets-over, targets-end}
+use Rattle.desk.proofs.Checks.{so}
+use Rattle.changes.proofs.Keeping.{TargetsTo, covered, targets-none, targets-low, targets-room, targets-more, targets-over, targets-end}
 use Rattle.updates.proofs.remove.keep_targets.Statement.{statement}
 use Rattle.updates.proofs.remove.keep_targets.Tie as tie
 

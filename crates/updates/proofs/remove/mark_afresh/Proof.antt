@@ -4,7 +4,7 @@ use native.Mathlib.Omega.{arith}
 use lib.ListN.{length, replicate}
 use borrow.Author.Needs.{needs}
 use Rattle.slices.proofs.Clearing.{cleared-all}
-use Rattle.updates.proofs.Afresh.{afresh-room, afresh-followable, afresh-between}
+use Rattle.changes.proofs.Afresh.{afresh-room, afresh-followable, afresh-between}
 use Rattle.updates.proofs.remove.mark_afresh.Statement.{statement}
 use Rattle.updates.proofs.remove.mark_afresh.Tie as tie
 

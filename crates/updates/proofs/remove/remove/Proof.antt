@@ -2,8 +2,8 @@
 use mathlib.Core.Path.{refl}
 use borrow.Author.Needs.{needs}
 use lib.ListN.{length}
-use Rattle.updates.specs.Stores.{distinct}
-use Rattle.updates.specs.Taking.{Gathered}
+use Rattle.changes.specs.Stores.{distinct}
+use Rattle.changes.specs.Taking.{Gathered}
 use Rattle.updates.proofs.Checks.{RemoveReady, removes-refused, found-removable, found-gathered, removes-fine, keep-ready, targets-ready, remains, afresh-ready, afresh-marks}
 use Rattle.updates.proofs.remove.remove.Statement.{statement}
 use Rattle.updates.proofs.remove.remove.Tie as tie
@@ -17,7 +17,7 @@ module _ (c : tie.After-enum-told) where
   ready = found-removable _ _ _ _ (c .before .before .before .check .ensures) (c .enum-told .given .1)
 
   gathered : let k = c .before .before .before in let a = start k .args in
-      Gathered (a .numbers .now) (length (a .targets .now)) (distinct (a .numbers .now) (length (a .targets .now))) (k .check .last .1 .1 .1 .1 .1 .1 .1 .1 .0)
+      Gathered (a .numbers .now) (length (a .targets .now)) (distinct (a .numbers .now) (length (a .targets .now))) (k .check .last .1 .1 .1 .1 .1 .0)
   gathered =
       let a = start (c .before .before .before) .args in
       found-gathered (a .bounds .now) (a .places .now) (a .marks .now) (a .work .now) (c .before .before .before .check .ensures) (c .enum-told .given .1)

@@ -1,4 +1,5 @@
 -- `validate::counts::agree` meets its contract: three tests of the saved counts.
+use borrow.Author.Needs.{needs}
 use native.Mathlib.Omega.{arith}
 use borrow.Author.Tests.{not-true, not-false}
 use Rattle.laws.proofs.Decides.{decides-no, decides-same, refuted}
@@ -16,15 +17,15 @@ returns c =
 
 returns-2 : tie.Need-returns-2
 returns-2 c =
-    decides-no (λ h. refuted (c .before .counts-low .ensures) (not-true _ (c .if2 .taken)) (rw (c .before .before .before .before .saved-counts .ensures) (h .low)))
+    decides-no (λ h. refuted (c .before .counts-low .ensures) (not-true _ (c .if2 .taken)) (rw (c .before .before .before .before .before .saved-counts .ensures) (h .low)))
 
 tallies-sound-requires : tie.Need-tallies-sound-requires
-tallies-sound-requires c κs = c .before .before .before .before .before .before .pre .0
+tallies-sound-requires c κs = c .before .before .before .before .before .before .before .pre .0
 
 returns-3 : tie.Need-returns-3
 returns-3 c =
     let low = c .before in
-    let right = low .before .before in
+    let right = low .before .before .before in
     let same = right .before .before .saved-counts .ensures in
     decides-same (c .tallies-sound .ensures)
     (λ t.
@@ -38,5 +39,5 @@ returns-3 c =
 pub agree-spec : {M : Type 1} → statement M
 agree-spec =
     tie.close
-    (tie.spec (λ c κs. omega (arith, c .before .pre .0 .long)) counts-right-requires returns
-    (λ c κs. c .before .before .before .before .pre .1) returns-2 tallies-sound-requires returns-3)
+    (tie.spec (λ c κs. omega (arith, c .before .pre .0 .long)) counts-right-requires returns (λ c. search needs) (λ c. search needs)
+    (λ c κs. c .before .before .before .before .before .pre .1) returns-2 tallies-sound-requires returns-3)

@@ -1,5 +1,4 @@
 -- `clear_above`: each worker that is passed is not above the holder, or carries nothing.
-use mathlib.Core.Path.{_≡_}
 use mathlib.Core.Logic.{⊎-elim}
 use Prim.Native.Nat.{ℕ, _-_, _≤_, _<_}
 use native.Mathlib.Omega.{arith}

@@ -1,7 +1,5 @@
 -- `first_ended`: the three answers are the fact's parts.
-use mathlib.Core.Path.{refl}
 use native.Mathlib.Omega.{arith}
-use borrow.Author.Needs.{needs}
 use Rattle.laws.proofs.Decides.{decides-yes, decides-no, decides-same, decides-eqb}
 use Rattle.validate.proofs.ring.first_ended.Statement.{statement}
 use Rattle.validate.proofs.ring.first_ended.Tie as tie

@@ -1,6 +1,6 @@
 -- `some_black`: none of the bits that are passed is set.
 use mathlib.Core.Path.{_≡_, ap}
-use Prim.Native.Nat.{_-_, _≤_, _<_}
+use Prim.Native.Nat.{_-_, _≤_}
 use native.Mathlib.Omega.{arith}
 use borrow.Author.Needs.{needs}
 use Rattle.laws.specs.Span.{span}

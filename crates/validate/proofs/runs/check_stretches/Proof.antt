@@ -1,12 +1,13 @@
 -- `validate::runs::check_stretches` meets its contract: the loop keeps `LoadsAt`, what the workers passed carry.
 use borrow.Author.Needs.{needs}
 use native.Mathlib.Omega.{arith}
-use Prim.Native.Nat.{ℕ, _+_, _-_, _*_, _≤_}
-use mathlib.Core.Path.{_∙_}
+use Prim.Native.Nat.{_+_, _-_, _*_, _≤_}
+use mathlib.Core.Path.{_≡_, _∙_}
 use mathlib.Core.Logic.{⊎-elim}
 use lib.ListN.{length}
 use borrow.Author.Tests.{not-true, not-false}
 use Rattle.graph.specs.Graph.{graph}
+use Rattle.desk.specs.Lengths.{stretchLength}
 use Rattle.validate.proofs.RunLaws.{roomy-after, roomy-of}
 use Rattle.validate.proofs.LoadLaws.{LoadsAt, loads-start, loads-wrong, loads-next, loads-end, loads-stop, carrying-one, carrying-none, stretch-is, stretch-inside, stretch-low, stretch-short}
 use Rattle.validate.proofs.runs.check_stretches.Statement.{statement}
@@ -19,44 +20,45 @@ Inv-loop offsets targets marks carried₀ saved workers carrying₀ total₀ n l
 abbrev μ-loop : tie.MeasureT-loop
 μ-loop offsets targets marks carried₀ saved workers carrying₀ total₀ n len stretches b₀ carried carrying total b = workers - b
 
--- the entry, from the loop, and the loop, from a worker's words
+-- the entry and the length of a stretch, from the loop, and the loop, from a worker's words
 abbrev entry : tie.At-loop Inv-loop μ-loop → tie.Start Inv-loop μ-loop
-entry c = c .before .before .before .before .before .before .before
+entry c = c .before .before .before .before .before .before .before .before
+
+abbrev long : (c : tie.At-loop Inv-loop μ-loop) → c .before .before .stretch .result ≡ stretchLength (length (entry c .args .offsets .now) - 1)
+long c = c .before .before .stretch .ensures
 
 abbrev at-loop : tie.After-check-stretch Inv-loop μ-loop → tie.At-loop Inv-loop μ-loop
 at-loop c = c .before .before .before .before .before .before
 
-abbrev n : tie.At-loop Inv-loop μ-loop → ℕ
-n l = length (entry l .args .offsets .now) - 1
-
 -- where a worker's stretch begins and ends fits
-fits : (c : tie.In-loop Inv-loop μ-loop)
-    → c .before .before .marks .result + n (c .before) + c .before .loop .b * (2 * n (c .before) + 4) + (2 * n (c .before) + 4) ≤ 2294036
+fits : (c : tie.In-loop Inv-loop μ-loop) → let l = c .before in
+    l .before .marks .result
+    + (length (entry l .args .offsets .now) - 1)
+    + l .loop .b * l .before .before .stretch .result
+    + l .before .before .stretch .result
+    ≤ 2294036
 fits c =
     let l = c .before in
     let there = entry l .pre .there in
-    stretch-low (n l) (entry l .args .workers) (l .loop .b) (l .before .marks .result) (l .before .marks .ensures)
-    (there .objects-limit) (there .workers-limit) (c .loop-test .taken)
+    stretch-low _ _ (l .loop .b) (entry l .args .saved .now) (l .before .marks .ensures) (long l) (there .objects-limit) (there .workers-limit)
+    (c .loop-test .taken)
 
 sub-n : tie.Need-sub-n Inv-loop μ-loop
 sub-n c = omega (arith, c .before .before .before .before .before .pre .there .some)
 
-mul-len : tie.Need-mul-len Inv-loop μ-loop
-mul-len c = omega (arith, c .before .before .before .before .before .pre .there .objects-limit)
-
-add-len : tie.Need-add-len Inv-loop μ-loop
-add-len c = omega (arith, c .before .before .before .before .before .pre .there .objects-limit)
+stretch-requires : tie.Need-stretch-requires Inv-loop μ-loop
+stretch-requires c κs = c .before .before .before .before .before .pre .there .objects-limit
 
 marks-requires : tie.Need-marks-requires Inv-loop μ-loop
-marks-requires c κs = c .before .before .before .before .before .pre .there .workers-limit
+marks-requires c κs = c .before .before .before .before .before .before .pre .there .workers-limit
 
 add-stretches : tie.Need-add-stretches Inv-loop μ-loop
 add-stretches c =
-    let there = c .before .before .before .before .before .before .pre .there in
+    let there = c .before .before .before .before .before .before .before .pre .there in
     omega (arith, there .objects-limit, there .workers-limit, c .marks .ensures)
 
 loop-holds : tie.Need-loop-holds Inv-loop μ-loop
-loop-holds c = loads-start (c .before .before .before .before .before .before .pre .none)
+loop-holds c = loads-start (c .before .before .before .before .before .before .before .pre .none)
 
 mul-at : tie.Need-mul-at Inv-loop μ-loop
 mul-at c = omega (arith, entry (c .before) .pre .there .workers-limit)
@@ -68,7 +70,7 @@ part-check-stretch-end : tie.Need-part-check-stretch-end Inv-loop μ-loop
 part-check-stretch-end c =
     let l = c .before .before in
     let start = entry l in
-    stretch-inside _ _ (l .loop .b) _ (start .args .saved .now) (l .before .marks .ensures) (omega arith) (start .pre .there .long)
+    stretch-inside _ _ (l .loop .b) (start .args .saved .now) (l .before .marks .ensures) (long l) (omega arith) (start .pre .there .long)
 
 add-check-stretch-2 : tie.Need-add-check-stretch-2 Inv-loop μ-loop
 add-check-stretch-2 c = omega (arith, entry (c .before .before .before) .pre .there .workers-limit)
@@ -95,7 +97,7 @@ check-stretch-requires c κs =
     let l = c .before .before .before .before .before in
     let start = entry l in (
       roomy-after (roomy-of (start .pre)) (l .loop .inv .long),
-      stretch-short _ _ _ (start .pre .there .objects-limit),
+      stretch-short _ (long l) (start .pre .there .objects-limit) _ _,
       start .pre .there .batch-none (l .loop .b) (omega arith),
     )
 
@@ -108,7 +110,7 @@ returns : tie.Need-returns Inv-loop μ-loop
 returns c =
     let done = c .before .before .before in
     let l = done .before .before .before .before .before .before in
-    loads-stop (loads-wrong (l .loop .inv) (omega arith) (done .check-stretch .ensures) (stretch-is _ _ (l .loop .b) _ _ (l .before .marks .ensures)) (not-true _ (c .if1 .taken)))
+    loads-stop (loads-wrong (l .loop .inv) (omega arith) (done .check-stretch .ensures) (stretch-is _ _ (l .loop .b) _ (l .before .marks .ensures) (long l)) (not-true _ (c .if1 .taken)))
 
 add-carrying : tie.Need-add-carrying Inv-loop μ-loop
 add-carrying c =
@@ -120,10 +122,11 @@ add-total c =
     let done = c .before .before .before .before in
     let l = at-loop done in
     let start = entry l in
+    let place = l .before .marks .result + (length (start .args .offsets .now) - 1) + l .loop .b * l .before .before .stretch .result in
     omega (
       arith,
       done .check-stretch .ensures .low,
-      stretch-short (n l) (l .before .marks .result + n l + l .loop .b * (2 * n l + 4)) (start .args .saved .now) (start .pre .there .objects-limit),
+      stretch-short _ (long l) (start .pre .there .objects-limit) place (start .args .saved .now),
       l .loop .inv .total-low,
       l .loop .inv .high,
       start .pre .there .workers-limit,
@@ -134,10 +137,10 @@ loop-again c =
     let done = c .before .before .before .before in
     let l = done .before .before .before .before .before .before in
     let start = entry l in
-    loads-next (l .loop .inv) (omega arith) (done .check-stretch .ensures) (stretch-is _ _ (l .loop .b) _ _ (l .before .marks .ensures))
+    loads-next (l .loop .inv) (omega arith) (done .check-stretch .ensures) (stretch-is _ _ (l .loop .b) _ (l .before .marks .ensures) (long l))
     (not-false _ (c .before .if1 .left)) (done .check-stretch .kept .1 .1 .1 .0)
     (⊎-elim (λ t. rw (t .1) (carrying-one _ _ (t .0 .taken))) (λ t. rw (t .1) (carrying-none _ _ (t .0 .left))) (c .if2 .came))
-    (stretch-short _ _ _ (start .pre .there .objects-limit))
+    (stretch-short _ (long l) (start .pre .there .objects-limit) _ _)
 
 returns-2 : tie.Need-returns-2 Inv-loop μ-loop
 returns-2 c = loads-end (c .before .loop .inv) (c .loop-test .left) (entry (c .before) .pre .there .workers-limit)
@@ -145,7 +148,7 @@ returns-2 c = loads-end (c .before .loop .inv) (c .loop-test .left) (entry (c .b
 pub check-stretches-spec : {M : Type 1} → statement M
 check-stretches-spec =
     tie.close
-    (tie.spec Inv-loop μ-loop sub-n mul-len add-len marks-requires add-stretches loop-holds (λ c. search needs) mul-at
+    (tie.spec Inv-loop μ-loop sub-n stretch-requires marks-requires add-stretches loop-holds (λ c. search needs) mul-at
     add-at (λ c. search needs) (λ c. omega (arith, fits c)) (λ c. omega (arith, fits c))
     (λ c. omega (arith, fits (c .before))) (λ c. omega (arith, fits (c .before))) (λ c. search needs)
     (λ c. search needs) part-check-stretch-end add-check-stretch-2 mul-check-stretch-2 shared-slice-read-check-stretch

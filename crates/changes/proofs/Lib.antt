@@ -1,0 +1,10 @@
+pub mod Touching
+pub mod Following
+pub mod Seeding
+pub mod Pairing
+pub mod Enlarging
+pub mod Gathering
+pub mod Keeping
+pub mod Adding
+pub mod Afresh
+pub mod Promise

@@ -1,0 +1,4 @@
+pub mod Checks
+pub mod Bounded
+pub mod Passed
+pub mod Kept

@@ -1,0 +1,4 @@
+pub mod Filling
+pub mod ReadGraph
+pub mod Chain
+pub mod Subject

@@ -1,0 +1,9 @@
+pub mod Chain
+pub mod Examples
+pub mod Fill
+pub mod Layout
+pub mod ReadGraph
+pub mod Reading
+pub mod Signed
+pub mod Store
+pub mod Subject
