@@ -3,8 +3,9 @@
 # `make compare CASES=n SEED=s` compares the library with the reference for longer than the gate does.
 # `make oci` builds target/bin/kullneyra-oci, the command over an OCI image layout.
 # `make course` opens the page that draws a run, turn by turn.
+# `make deal` builds what deals the cards and seeds of a case, for tools/case.py.
 # `make bench` measures; its table and plots go to target/bench/.
-.PHONY: test run library oci steps course install compare bench
+.PHONY: test run library oci steps deal course install compare bench
 
 CASES ?= 5000000
 SEED ?= 2
@@ -41,14 +42,16 @@ target/staticlib/libkullneyra.a: crates.txt $(shell find crates -type f)
 oci: library
 	@. tools/go-env && cd runtime/go && go build -o ../../target/bin/kullneyra-oci ./cmd/kullneyra-oci
 
-# The page of the course: a run turn by turn, on 127.0.0.1. `steps` is the program behind it.
+# The programs behind the course: `steps` takes the turns of a case one by one, `deal` deals its cards and seeds.
 steps: target/course/steps
+deal: target/course/deal
 
-target/course/steps: runtime/c/steps.c runtime/include/kullneyra.h target/staticlib/libkullneyra.a
+target/course/%: runtime/c/%.c runtime/include/kullneyra.h target/staticlib/libkullneyra.a
 	@mkdir -p target/course
-	@gcc -std=c11 -O2 -Wall -Wextra -Werror -pedantic -Iruntime/include runtime/c/steps.c target/staticlib/libkullneyra.a -o target/course/steps
+	@gcc -std=c11 -O2 -Wall -Wextra -Werror -pedantic -Iruntime/include $< target/staticlib/libkullneyra.a -o $@
 
-course: steps
+# The page of the course: a run turn by turn, on 127.0.0.1.
+course: steps deal
 	@tools/course.py serve
 
 install: library

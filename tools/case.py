@@ -26,6 +26,8 @@ A case is lines of words. '#' begins a comment, blank lines are skipped.
                           each names the next, the last the first
     seed A B rounds N     the rounds of N cards drawn from the seed of these two words
 
+Cards and seeds are dealt by the proved library: `make deal` builds the program that does it.
+
 References that go and come are an update of the store that the lines above tell. The Rust crate's
 example update takes the ones out, and then adds the others.
 
@@ -59,11 +61,14 @@ purpose, to see which number the program refuses it with.
 
 import argparse
 import struct
+import subprocess
 import sys
+from collections import defaultdict
 from dataclasses import dataclass, field
-from itertools import permutations
 from pathlib import Path
 from typing import Iterator, Optional
+
+TOP = Path(__file__).resolve().parents[1]
 
 # The kinds of records, and the length of each.
 HEADER, OBJECT, REFERENCE, LEASE, SUBJECT = 1, 2, 3, 4, 5
@@ -87,16 +92,23 @@ STATUSES = ("idle", "asking", "denied", "ended", "given", "poll", "look", "claim
 COLOURS = ("white", "black")
 TALLY = ("followed", "won", "lost", "handed")
 
-# The cards: every order of six boxes, ascending.
-CARD_BOXES = 6
-DECK = list(permutations(range(CARD_BOXES)))
-
-# What the second word of a seed grows by at each draw.
-SEED_STEP = 362_437
+# What deals cards, the last card, and why cards are not dealt, by the number of the refusal.
+DEAL = TOP / "target" / "course" / "deal"
+LAST_CARD = 719
+FOR_BOXES = "cards are for 1 to 6 boxes, whose number stands before them"
+NOT_DEALT = {8: FOR_BOXES, 15: FOR_BOXES, 16: "the first word of a seed is not 0"}
 
 
 class Fault(Exception):
-    """What is wrong with a case or with the two files, in words for a person."""
+    """What is wrong with a case or with the two files, in words for a person, and in which line of the text."""
+
+    def __init__(self, text: str, line: Optional[int] = None):
+        super().__init__(f"line {line}: {text}" if line else text)
+        self.text, self.line = text, line
+
+
+class Unread(Exception):
+    """A line that cannot be read where it stands."""
 
 
 @dataclass
@@ -118,7 +130,8 @@ class Saved:
 @dataclass
 class Case:
     """A store and an order, the references that come and go, and a stopped collection if there is one; pairs are (from, to) and
-    (box, asked). The references have the subjects among them; `subjects` has their places there. `removed` has numbers."""
+    (box, asked). The references have the subjects among them; `subjects` has their places there. `removed` has numbers. Of a case
+    that was read as text, `lines` has for each of its `parts` the number of the line that told it."""
 
     index: Optional[int] = None
     sizes: list[int] = field(default_factory=list)
@@ -130,38 +143,39 @@ class Case:
     added: list[tuple[int, int]] = field(default_factory=list)
     removed: list[int] = field(default_factory=list)
     saved: Optional[Saved] = None
+    lines: dict[str, list[int]] = field(default_factory=lambda: defaultdict(list), compare=False, repr=False)
+
+    def parts(self) -> dict[str, list]:
+        """What stands in the store and in the order, by the name of the kind of line: `lines` has the line of each."""
+        once = {name: [value] for name, value in {"index": self.index, **self.settings}.items()}
+        return once | {"object": self.sizes, "reference": self.references, "lease": self.leases, "turn": self.turns}
 
 
-def number(word: str, limit: int, where: str) -> int:
+def number(word: str, limit: int) -> int:
     if not word.isascii() or not word.isdigit():
-        raise Fault(f"{where}: '{word}' is not a decimal number")
+        raise Fault(f"'{word}' is not a decimal number")
     value = int(word)
     if value > limit:
-        raise Fault(f"{where}: {value} is above {limit}")
+        raise Fault(f"{value} is above {limit}")
     return value
 
 
-def pair(words: list[str], limit: int, where: str) -> tuple[int, int]:
-    one, other = words
-    return number(one, limit, where), number(other, limit, where)
+def pair(one: str, other: str, limit: int) -> tuple[int, int]:
+    return number(one, limit), number(other, limit)
 
 
-def dealt(boxes: Optional[int], card: int, where: str) -> list[tuple[int, int]]:
-    """The turns of one card."""
-    if boxes is None or not 1 <= boxes <= CARD_BOXES:
-        raise Fault(f"{where}: cards are for 1 to {CARD_BOXES} boxes, whose number stands before them")
-    order = [box for box in DECK[card] if box < boxes]
-    return list(zip(order, order[1:] + order[:1]))
-
-
-def drawn(first: int, second: int, rounds: int) -> Iterator[int]:
-    """The cards that so many draws give."""
-    for _ in range(rounds):
-        first ^= first << 13 & WORD
-        first ^= first >> 17
-        first ^= first << 5 & WORD
-        second = second + SEED_STEP & WORD
-        yield (first + second & WORD) % len(DECK)
+def dealt(case: Case, *seed: int, cards: tuple[int, ...] = ()) -> list[tuple[int, int]]:
+    """The turns of these cards, or of the words of a seed and so many rounds, as the library deals them."""
+    if not DEAL.exists():
+        raise Fault(f"cards are dealt by {DEAL.relative_to(TOP)}, which is not there: make deal builds it")
+    words = map(str, (case.settings.get("boxes", 0), *seed))
+    done = subprocess.run([DEAL, *words], input=" ".join(map(str, cards)), capture_output=True, text=True)
+    if done.returncode:
+        raise Fault(done.stderr.strip() or f"{DEAL.name} ended with status {done.returncode}")
+    lines = [line.split() for line in done.stdout.splitlines()]
+    if lines and lines[0][0] == "refusal":
+        raise Fault(NOT_DEALT[int(lines[0][1])])
+    return [(int(box), int(asked)) for _, box, asked in lines]
 
 
 def stored(case: Case) -> list[tuple[int, int]]:
@@ -170,112 +184,213 @@ def stored(case: Case) -> list[tuple[int, int]]:
     return sorted(ends, key=lambda pair: pair[0])
 
 
-def numbers_of(case: Case, ends: tuple[int, int], where: str) -> list[int]:
+def numbers_of(case: Case, ends: tuple[int, int], line: int) -> list[int]:
     """The numbers of all references with these ends."""
     numbers = [at for at, pair in enumerate(stored(case)) if pair == ends]
     if not numbers:
-        raise Fault(f"{where}: no reference leads from {ends[0]} to {ends[1]}")
+        raise Fault(f"no reference leads from {ends[0]} to {ends[1]}", line)
     return numbers
 
 
-def named(words: list[str], names: tuple[str, ...]) -> Optional[list[str]]:
-    """The words behind these names, if the words are each name and one word behind it."""
-    return words[1::2] if tuple(words[::2]) == names and len(words) == 2 * len(names) else None
+@dataclass
+class Draft:
+    """A case while its lines are read. A reference that goes has a number, or ends whose numbers are known when all references are."""
+
+    case: Case = field(default_factory=Case)
+    removals: list[tuple[int, ...]] = field(default_factory=list)
 
 
-def told(table: dict, at: int, value) -> bool:
-    """Takes the value in, unless there is one for this number."""
-    fresh = at not in table
-    table.setdefault(at, value)
-    return fresh
+def expect(due: bool) -> None:
+    """What a line tells is due where it stands."""
+    if not due:
+        raise Unread
 
 
-def parse_saved(saved: Saved, name: str, rest: list[str], where: str) -> bool:
-    """Takes one line of a stopped collection in; false if it is none, or tells what was told before."""
-    if name == "form" and len(rest) == 1 and saved.form == FORM:
-        saved.form = number(rest[0], WORD, where)
-        return True
-    if name == "count" and len(rest) == 2 and rest[0] in COUNTS and rest[0] not in saved.counts:
-        saved.counts[rest[0]] = number(rest[1], LONG, where)
-        return True
-    if name == "token" and len(rest) == 2 and saved.token is None:
-        colour = COLOURS.index(rest[1]) if rest[1] in COLOURS else number(rest[1], WORD, where)
-        saved.token = (number(rest[0], WORD, where), colour)
-        return True
-    if name == "black" and rest and saved.black is None:
-        saved.black = sum({1 << number(box, 31, where) for box in rest})
-        return True
-    if name == "mark" and len(rest) == 2:
-        at, mark = pair(rest, WORD, where)
-        return told(saved.marks, at, mark)
-    if name == "run" and len(rest) == 3:
-        saved.runs.setdefault(number(rest[0], BYTE, where), []).append(pair(rest[1:], WORD, where))
-        return True
-    if name == "tally" and (words := named(rest[1:], TALLY)):
-        box = number(rest[0], BYTE, where)
-        return told(saved.tallies, box, [number(word, LONG, where) for word in words])
-    if name == "box" and len(rest) > 1 and (words := named(rest[2:], ("cell", "since", "batch"))):
-        box, status = number(rest[0], BYTE, where), rest[1]
-        code = STATUSES.index(status) if status in STATUSES else number(status, WORD, where)
-        cell = 0 if words[0] == "-" else number(words[0], WORD - 1, where) + 1
-        return told(saved.boxes, box, [code, cell, number(words[1], WORD, where), number(words[2], WORD, where)])
-    return False
+def told(table: dict, at: int, value) -> None:
+    """Takes the value in, if there is none yet."""
+    expect(at not in table)
+    table[at] = value
+
+
+def named(words: tuple[str, ...], names: tuple[str, ...]) -> tuple[str, ...]:
+    """The words behind these names, one behind each."""
+    expect(words[::2] == names)
+    return words[1::2]
+
+
+def code(word: str, names: tuple[str, ...]) -> int:
+    """The place of the word among the names, or the number that it is."""
+    return names.index(word) if word in names else number(word, WORD)
+
+
+def take_index(draft: Draft, _: str, index: str) -> None:
+    expect(draft.case.index is None)
+    draft.case.index = number(index, WORD)
+
+
+def take_object(draft: Draft, _: str, size: str) -> None:
+    draft.case.sizes.append(number(size, LONG))
+
+
+def take_reference(draft: Draft, name: str, source: str, target: str) -> None:
+    ends = pair(source, target, WORD)
+    if name == "subject":
+        draft.case.subjects.add(len(draft.case.references))
+    draft.case.references.append(ends)
+
+
+def take_lease(draft: Draft, _: str, lease: str) -> None:
+    draft.case.leases.append(number(lease, WORD))
+
+
+def take_setting(draft: Draft, name: str, value: str) -> None:
+    expect(name not in draft.case.settings)
+    draft.case.settings[name] = number(value, SETTINGS[name])
+
+
+def take_turn(draft: Draft, _: str, box: str, asked: str) -> None:
+    draft.case.turns.append(pair(box, asked, BYTE))
+
+
+def take_turns(draft: Draft, _: str, asked: str, colon: str, *boxes: str) -> None:
+    expect(colon == ":")
+    whom = number(asked, BYTE)
+    draft.case.turns += [(number(box, BYTE), whom) for box in boxes]
+
+
+def take_cards(draft: Draft, _: str, *cards: str) -> None:
+    draft.case.turns += dealt(draft.case, cards=tuple(number(card, LAST_CARD) for card in cards))
+
+
+def take_seed(draft: Draft, _: str, first: str, second: str, *rest: str) -> None:
+    (rounds,) = named(rest, ("rounds",))
+    draft.case.turns += dealt(draft.case, *pair(first, second, WORD), number(rounds, WORD))
+
+
+def take_added(draft: Draft, _: str, source: str, target: str) -> None:
+    draft.case.added.append(pair(source, target, WORD))
+
+
+def take_removed(draft: Draft, _: str, *words: str) -> None:
+    draft.removals.append(tuple(number(word, WORD) for word in words))
+
+
+def take_saved(draft: Draft, _: str, made: str) -> None:
+    expect(draft.case.saved is None)
+    draft.case.saved = Saved(number(made, WORD))
+
+
+def take_form(saved: Saved, _: str, form: str) -> None:
+    expect(saved.form == FORM)
+    saved.form = number(form, WORD)
+
+
+def take_count(saved: Saved, _: str, name: str, count: str) -> None:
+    expect(name in COUNTS and name not in saved.counts)
+    saved.counts[name] = number(count, LONG)
+
+
+def take_token(saved: Saved, _: str, holder: str, colour: str) -> None:
+    expect(saved.token is None)
+    paint = code(colour, COLOURS)
+    saved.token = (number(holder, WORD), paint)
+
+
+def take_black(saved: Saved, _: str, *boxes: str) -> None:
+    expect(saved.black is None)
+    saved.black = sum({1 << number(box, 31) for box in boxes})
+
+
+def take_box(saved: Saved, _: str, box: str, status: str, *rest: str) -> None:
+    asker, since, batch = named(rest, ("cell", "since", "batch"))
+    at, doing = number(box, BYTE), code(status, STATUSES)
+    cell = 0 if asker == "-" else number(asker, WORD - 1) + 1
+    told(saved.boxes, at, [doing, cell, number(since, WORD), number(batch, WORD)])
+
+
+def take_tally(saved: Saved, _: str, box: str, *rest: str) -> None:
+    counts = named(rest, TALLY)
+    told(saved.tallies, number(box, BYTE), [number(count, LONG) for count in counts])
+
+
+def take_mark(saved: Saved, _: str, at: str, mark: str) -> None:
+    told(saved.marks, *pair(at, mark, WORD))
+
+
+def take_run(saved: Saved, _: str, box: str, first: str, end: str) -> None:
+    saved.runs.setdefault(number(box, BYTE), []).append(pair(first, end, WORD))
+
+
+# The kinds of lines by their first word: how many words stand behind it, at least and at most, and what takes them in.
+ANY = sys.maxsize
+LINES = {
+    "index": (1, 1, take_index),
+    "object": (1, 1, take_object),
+    "reference": (2, 2, take_reference),
+    "subject": (2, 2, take_reference),
+    "lease": (1, 1, take_lease),
+    "boxes": (1, 1, take_setting),
+    "batch": (1, 1, take_setting),
+    "cutoff": (1, 1, take_setting),
+    "turn": (2, 2, take_turn),
+    "turns": (2, ANY, take_turns),
+    "cards": (1, ANY, take_cards),
+    "seed": (4, 4, take_seed),
+    "add": (2, 2, take_added),
+    "remove": (1, 2, take_removed),
+    "saved": (1, 1, take_saved),
+}
+# Those of a stopped collection.
+SAVED_LINES = {
+    "form": (1, 1, take_form),
+    "count": (2, 2, take_count),
+    "token": (2, 2, take_token),
+    "black": (1, ANY, take_black),
+    "box": (8, 8, take_box),
+    "tally": (9, 9, take_tally),
+    "mark": (2, 2, take_mark),
+    "run": (3, 3, take_run),
+}
+# Lines that tell what another kind of line tells, too; those of turns tell several.
+TOLD_BY = {"subject": "reference", "turns": "turn", "cards": "turn", "seed": "turn"}
+
+
+def take_line(draft: Draft, name: str, *words: str) -> None:
+    """Takes one line in."""
+    if name in LINES:
+        into, kind = draft, LINES[name]
+    elif name in SAVED_LINES and draft.case.saved is not None:
+        into, kind = draft.case.saved, SAVED_LINES[name]
+    else:
+        raise Unread
+    least, most, take = kind
+    expect(least <= len(words) <= most)
+    take(into, name, *words)
 
 
 def parse(text: str) -> Case:
     """The case that the text tells."""
-    case = Case()
-    removals = []
+    draft = Draft()
+    case = draft.case
     for at, line in enumerate(text.splitlines(), 1):
-        where = f"line {at}"
         words = line.split("#", 1)[0].replace(":", " : ").split()
         if not words:
             continue
-        name, rest = words[0], words[1:]
-        if name == "index" and len(rest) == 1 and case.index is None:
-            case.index = number(rest[0], WORD, where)
-        elif name == "object" and len(rest) == 1:
-            case.sizes.append(number(rest[0], LONG, where))
-        elif name in ("reference", "subject") and len(rest) == 2:
-            if name == "subject":
-                case.subjects.add(len(case.references))
-            case.references.append(pair(rest, WORD, where))
-        elif name == "lease" and len(rest) == 1:
-            case.leases.append(number(rest[0], WORD, where))
-        elif name in SETTINGS and len(rest) == 1 and name not in case.settings:
-            case.settings[name] = number(rest[0], SETTINGS[name], where)
-        elif name == "turn" and len(rest) == 2:
-            case.turns.append(pair(rest, BYTE, where))
-        elif name == "turns" and len(rest) >= 2 and rest[1] == ":":
-            asked = number(rest[0], BYTE, where)
-            case.turns.extend((number(word, BYTE, where), asked) for word in rest[2:])
-        elif name == "cards" and rest:
-            for word in rest:
-                case.turns += dealt(case.settings.get("boxes"), number(word, len(DECK) - 1, where), where)
-        elif name == "seed" and len(rest) == 4 and rest[2] == "rounds":
-            first, second = pair(rest[:2], WORD, where)
-            if first == 0:
-                raise Fault(f"{where}: the first word of a seed is not 0")
-            for card in drawn(first, second, number(rest[3], WORD, where)):
-                case.turns += dealt(case.settings.get("boxes"), card, where)
-        elif name == "add" and len(rest) == 2:
-            case.added.append(pair(rest, WORD, where))
-        elif name == "remove" and len(rest) in (1, 2):
-            removals.append(([number(word, WORD, where) for word in rest], where))
-        elif name == "saved" and len(rest) == 1 and case.saved is None:
-            case.saved = Saved(number(rest[0], WORD, where))
-        elif case.saved is not None and parse_saved(case.saved, name, rest, where):
-            pass
-        else:
-            raise Fault(f"{where}: cannot be read here: {line.strip()}")
+        try:
+            take_line(draft, *words)
+        except Unread:
+            raise Fault(f"cannot be read here: {line.strip()}", at) from None
+        except Fault as fault:
+            raise Fault(fault.text, at) from None
+        name = TOLD_BY.get(words[0], words[0])
+        case.lines[name] += [at] * (len(case.turns) - len(case.lines[name]) if name == "turn" else 1)
     if case.index is None:
         raise Fault("there is no index line")
     for name in SETTINGS:
         if name not in case.settings:
             raise Fault(f"there is no {name} line")
-    # Numbers are known only when all references are.
-    for words, where in removals:
-        case.removed += words if len(words) == 1 else numbers_of(case, tuple(words), where)
+    for at, words in zip(case.lines["remove"], draft.removals):
+        case.removed += words if len(words) == 1 else numbers_of(case, words, at)
     return case
 
 

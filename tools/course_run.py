@@ -1,7 +1,6 @@
 """A case run turn by turn by the proved library, as states and sentences. Nothing here knows the rules of a turn: what a
 sentence tells is read off the state before and the state after, which the library saved."""
 
-import re
 import subprocess
 import tempfile
 from dataclasses import dataclass, field
@@ -10,12 +9,13 @@ from typing import Optional
 
 import case
 
-TOP = Path(__file__).resolve().parents[1]
+TOP = case.TOP
 STEPS = TOP / "target" / "course" / "steps"
 # More turns than this are not taken one by one.
 MOST_TURNS = 20_000
 NO_HOPS = 4_294_967_295
 NOBODY = None
+LARGEST_SIZE, MOST_BOXES, MOST_LEASES = 1_099_511_627_776, 16, 256
 
 REFUSALS = {
     1: "the catalogue ends too soon for a record",
@@ -201,39 +201,28 @@ def followed(run: Run, before: State, after: State, b: int) -> tuple[str, str]:
     return "lost", f"{me} loses the claim of object {target} to {owner(before.marks[target])}{behind}."
 
 
-def blame(text: str, number: int) -> Optional[int]:
-    """The line of a case that causes this refusal, where one does."""
-    lines = [(at, line.split("#")[0].split()) for at, line in enumerate(text.splitlines(), 1)]
-    objects = sum(1 for _, words in lines if words[:1] == ["object"])
-    boxes = next((int(words[1]) for _, words in lines if words[:1] == ["boxes"] and len(words) == 2), 0)
-    leases = 0
-    for at, words in lines:
-        head, rest = words[:1], [int(word) for word in words[1:] if word.isdigit()]
-        if number == 5 and head in (["index"], ["reference"], ["subject"], ["lease"]) and any(v >= objects for v in rest):
-            return at
-        if number == 6 and head == ["object"] and rest and rest[0] > 1_099_511_627_776:
-            return at
-        if number == 8 and head == ["boxes"] and not 1 <= rest[0] <= 16:
-            return at
-        if number == 8 and head in (["batch"], ["cutoff"]) and not 1 <= rest[0] <= 65_535:
-            return at
-        if number == 9 and head == ["turn"] and rest[0] >= boxes:
-            return at
-        # In a line of turns the first word is whom they name, with a colon.
-        if number == 9 and head == ["turns"] and any(v >= boxes for v in rest):
-            return at
-        leases += head == ["lease"]
-        if number == 13 and leases > 256:
-            return at
-    return None
+def blame(one: case.Case, number: int) -> Optional[int]:
+    """The line that causes this refusal, where one does: of several, that of the part which the library looks at first."""
+    objects, boxes = len(one.sizes), one.settings["boxes"]
+    no_object, zero = lambda v: v >= objects, lambda v: v == 0
+    wrong = {
+        5: {"index": no_object, "reference": lambda ends: no_object(max(ends)), "lease": no_object},
+        6: {"object": lambda size: size > LARGEST_SIZE},
+        8: {"boxes": lambda v: not 1 <= v <= MOST_BOXES, "batch": zero, "cutoff": zero},
+        9: {"turn": lambda turn: turn[0] >= boxes},
+    }
+    if number == 13:
+        return one.lines["lease"][MOST_LEASES]
+    parts = one.parts()
+    lines = (line for name, test in wrong.get(number, {}).items() for line, part in zip(one.lines[name], parts[name]) if test(part))
+    return next(lines, None)
 
 
 def parse(text: str) -> case.Case:
     try:
         return case.parse(text)
     except case.Fault as fault:
-        where = re.search(r"line (\d+)", str(fault))
-        raise Fault(str(fault), line=int(where[1]) if where else None) from None
+        raise Fault(str(fault), line=fault.line) from None
 
 
 def play(text: str, most: int = MOST_TURNS) -> Run:
@@ -249,10 +238,10 @@ def play(text: str, most: int = MOST_TURNS) -> Run:
         done = subprocess.run([str(STEPS), folder, str(most)], capture_output=True, text=True)
     if done.returncode:
         raise Fault(done.stderr.strip())
-    return read(one, text, done.stdout)
+    return read(one, done.stdout)
 
 
-def read(one: case.Case, text: str, output: str) -> Run:
+def read(one: case.Case, output: str) -> Run:
     lines = iter(output.splitlines())
     told_lines: dict[str, list[int]] = {}
     run = None
@@ -260,7 +249,7 @@ def read(one: case.Case, text: str, output: str) -> Run:
         word, *rest = line.split()
         if word == "refusal":
             number = int(rest[0])
-            raise Fault(f"refusal {number}: {REFUSALS.get(number, 'told by the library')}", number, blame(text, number))
+            raise Fault(f"refusal {number}: {REFUSALS.get(number, 'told by the library')}", number, blame(one, number))
         numbers = [int(value) for value in rest]
         if word == "saved" and run is None:
             run = begun(one, told_lines, numbers)

@@ -83,26 +83,27 @@ int main(int count, char **word) {
     const size_t schedule_len = order_len - 5;
 
     uint64_t saved_words;
-    check(kullneyra_saved_words_into(store.n, workers, &saved_words), "saved words");
+    check(kullneyra_saved_words_into(store.n, workers, &saved_words), "saved_words");
     uint8_t *marks = lend(KULLNEYRA_MARKS(store.n), 1);
     uint32_t *work = lend(KULLNEYRA_WORK(store.n, workers), 4), *saved = lend(saved_words, 4);
     uint64_t *tallies = lend(KULLNEYRA_TALLIES(workers), 8);
     struct kullneyra_marked marked;
-#define TURNS(call, from, length)                                                                                      \
-    check(call(offsets, KULLNEYRA_OFFSETS(store.n), targets, KULLNEYRA_TARGETS(store.m), starts, store.starts, workers, \
-               batch, cutoff, schedule + (from), length, marks, KULLNEYRA_MARKS(store.n), work,                         \
-               KULLNEYRA_WORK(store.n, workers), tallies, KULLNEYRA_TALLIES(workers), saved, saved_words, &marked),     \
+#define TURNS(call, from, length)                                                                                       \
+    check(kullneyra_##call##_into(offsets, KULLNEYRA_OFFSETS(store.n), targets, KULLNEYRA_TARGETS(store.m), starts,      \
+                                  store.starts, workers, batch, cutoff, schedule + (from), length, marks,                \
+                                  KULLNEYRA_MARKS(store.n), work, KULLNEYRA_WORK(store.n, workers), tallies,             \
+                                  KULLNEYRA_TALLIES(workers), saved, saved_words, &marked),                              \
           #call)
     /* The whole order once, so that it is refused before a turn is drawn. */
-    TURNS(kullneyra_begin_into, 0, schedule_len);
-    TURNS(kullneyra_begin_into, 0, 0);
+    TURNS(begin, 0, schedule_len);
+    TURNS(begin, 0, 0);
 
     printf("store %u %u %u %u %u\n", (unsigned)store.n, (unsigned)store.m, (unsigned)workers, (unsigned)batch, (unsigned)cutoff);
     words("offsets", offsets, KULLNEYRA_OFFSETS(store.n));
     words("targets", targets, KULLNEYRA_TARGETS(store.m));
     words("starts", starts, store.starts);
     uint64_t hop_words;
-    check(kullneyra_hop_words_into(store.n, &hop_words), "hop words");
+    check(kullneyra_hop_words_into(store.n, &hop_words), "hop_words");
     uint32_t *hops = lend(store.n, 4), *links = lend(hop_words, 4);
     check(kullneyra_hops(offsets, KULLNEYRA_OFFSETS(store.n), targets, KULLNEYRA_TARGETS(store.m), starts, store.starts,
                          hops, store.n, links, hop_words),
@@ -112,7 +113,7 @@ int main(int count, char **word) {
     const size_t turns = schedule_len / 2;
     size_t turn = 0;
     while (turn < turns && turn < most && !marked.finished) {
-        TURNS(kullneyra_resume_into, 2 * turn, 2);
+        TURNS(resume, 2 * turn, 2);
         printf("turn %u %u %u\n", (unsigned)schedule[2 * turn], (unsigned)schedule[2 * turn + 1], (unsigned)marked.finished);
         words("saved", saved, saved_words);
         turn++;

@@ -101,6 +101,42 @@ class Runs(unittest.TestCase):
             play.play(CASE_A + "what 1\n")
         self.assertEqual((caught.exception.number, caught.exception.line), (None, len(lines) + 1))
 
+    def test_refused_line(self):
+        """The line that told what the library refuses, and no other that looks like it."""
+        head = "index 0\nobject 1\nobject 2\n"
+        settings = "boxes 2\nbatch 1\ncutoff 1\n"
+        texts = {
+            # Whom a turn names is never refused, however the colon is written.
+            head + settings + "turns 5 : 0 1\nturn 7 0\n": (9, "turn 7 0"),
+            head + settings + "turns 5: 0 1\nturn 0 7\nturns 0: 1 3 1\n": (9, "turns 0: 1 3 1"),
+            head + settings + "cards 0 719\nseed 1 0 rounds 2\nturn 2 0\nturn 3 0\n": (9, "turn 2 0"),
+            # The reader meets the index, then the references, then the leases, wherever their lines stand.
+            "lease 7\nreference 0 1\nreference 3 0\n" + head + settings: (5, "reference 3 0"),
+            "lease 7\nreference 0 1\n" + head + settings: (5, "lease 7"),
+            "subject 2 0\n" + head.replace("index 0", "index 2") + settings: (5, "index 2"),
+            head + "subject 0 2 # 9\n" + settings: (5, "subject 0 2 # 9"),
+            # A size is no number of an object, and the other way round.
+            head + "object 1099511627776\nobject 1099511627777\nobject 1099511627778\n" + settings: (6, "object 1099511627777"),
+            head + "cutoff 0\nbatch 0\nboxes 1\n": (8, "batch 0"),
+            head + "cutoff 0\nbatch 0\nboxes 0\n": (8, "boxes 0"),
+        }
+        for text, (number, line) in texts.items():
+            with self.assertRaises(play.Fault, msg=text) as caught:
+                play.play(text)
+            self.assertEqual((caught.exception.number, text.splitlines()[caught.exception.line - 1]), (number, line), text)
+
+    def test_refused_without_a_line(self):
+        with self.assertRaises(play.Fault) as caught:
+            play.play("index 0\nboxes 1\nbatch 1\ncutoff 1\n")
+        self.assertEqual((caught.exception.number, caught.exception.line), (4, None))
+
+    def test_not_dealt(self):
+        for line in ("cards 0", "seed 1 0 rounds 1"):
+            with self.assertRaises(play.Fault) as caught:
+                play.play(CASE_A.replace("boxes 2", f"boxes 7\n{line}"))
+            self.assertEqual(caught.exception.number, None)
+            self.assertEqual(CASE_A.replace("boxes 2", f"boxes 7\n{line}").splitlines()[caught.exception.line - 1], line)
+
     def test_too_many_leases(self):
         text = CASE_A.replace("boxes 2", "lease 1\n" * 257 + "boxes 2")
         with self.assertRaises(play.Fault) as caught:

@@ -1,18 +1,41 @@
 """Tests of tools/case.py: both ways, and what it refuses."""
 
 import random
+import shutil
 import struct
 import subprocess
 import sys
 import tempfile
 import unittest
+from itertools import permutations
 from pathlib import Path
+from unittest.mock import patch
 
 TOP = Path(__file__).resolve().parents[2]
 sys.path.insert(0, str(TOP / "tools"))
 import case  # noqa: E402
 
 SAMPLE = TOP / "samples" / "a.txt"
+FOR_BOXES = "cards are for 1 to 6 boxes, whose number stands before them"
+
+# Cards and seeds as SPECIFICATION 9 and 10 tell them, worked out here and not by the library.
+DECK = list(permutations(range(6)))
+
+
+def turns_of(boxes, cards):
+    """A round for each card: the boxes in its order, each naming the next, the last the first."""
+    rounds = [[box for box in DECK[card] if box < boxes] for card in cards]
+    return [turn for order in rounds for turn in zip(order, order[1:] + order[:1])]
+
+
+def drawn(first, second, rounds):
+    """The cards that so many draws from a seed give."""
+    for _ in range(rounds):
+        first ^= first << 13 & 0xFFFFFFFF
+        first ^= first >> 17
+        first ^= first << 5 & 0xFFFFFFFF
+        second = (second + 362_437) % 2**32
+        yield (first + second) % 2**32 % 720
 
 
 def some_case(rng):
@@ -195,30 +218,109 @@ class Cases(unittest.TestCase):
             with self.assertRaises(case.Fault, msg=bad.hex()):
                 case.read_update(bad)
 
+    HEAD = "index 0\nobject 1\nbatch 1\ncutoff 1\n"
+
     def test_cards(self):
-        head = "index 0\nobject 1\nbatch 1\ncutoff 1\n"
-        made = case.parse(head + "boxes 3\ncards 0 120\nturn 2 2\ncards 719\n")
+        made = case.parse(self.HEAD + "boxes 3\ncards 0 120\nturn 2 2\ncards 719\n")
         self.assertEqual(made.turns, [(0, 1), (1, 2), (2, 0), (1, 0), (0, 2), (2, 1), (2, 2), (2, 1), (1, 0), (0, 2)])
-        self.assertEqual(case.parse(head + "boxes 1\ncards 5\n").turns, [(0, 0)])
-        self.assertEqual(len(case.parse(head + "boxes 6\ncards 5\n").turns), 6)
-        for lines in ("cards 0\nboxes 2", "boxes 2\ncards", "boxes 2\ncards 720", "boxes 0\ncards 0", "boxes 7\ncards 0"):
-            with self.assertRaises(case.Fault):
-                case.parse(head + lines + "\n")
+        self.assertEqual(case.parse(self.HEAD + "boxes 1\ncards 5\n").turns, [(0, 0)])
+        self.assertEqual(len(case.parse(self.HEAD + "boxes 6\ncards 5\n").turns), 6)
+        refused = {
+            "cards 0\nboxes 2": (5, FOR_BOXES),
+            "boxes 2\ncards": (6, "cannot be read here: cards"),
+            "boxes 2\ncards 720": (6, "720 is above 719"),
+            "boxes 2\ncards 0 x": (6, "'x' is not a decimal number"),
+            **{f"boxes {boxes}\ncards 0": (6, FOR_BOXES) for boxes in (0, 7, 16, 17, 255)},
+        }
+        for lines, (line, text) in refused.items():
+            with self.assertRaises(case.Fault, msg=lines) as caught:
+                case.parse(self.HEAD + lines + "\n")
+            self.assertEqual((caught.exception.line, caught.exception.text), (line, text))
+
+    def test_every_card(self):
+        everything = " ".join(map(str, range(720)))
+        for boxes in range(1, 7):
+            made = case.parse(self.HEAD + f"boxes {boxes}\ncards {everything}\n")
+            self.assertEqual(made.turns, turns_of(boxes, range(720)))
 
     def test_seed(self):
-        self.assertEqual(list(case.drawn(1, 0, 5)), [646, 603, 612, 243, 538])
-        self.assertEqual(list(case.drawn(2463534242, 0, 5)), [152, 660, 671, 130, 394])
-        self.assertEqual(list(case.drawn(2**32 - 1, 2**32 - 1, 5)), [99, 600, 257, 541, 489])
-        head = "index 0\nobject 1\nbatch 1\ncutoff 1\nboxes 4\n"
+        self.assertEqual(list(drawn(1, 0, 5)), [646, 603, 612, 243, 538])
+        self.assertEqual(list(drawn(2463534242, 0, 5)), [152, 660, 671, 130, 394])
+        self.assertEqual(list(drawn(2**32 - 1, 2**32 - 1, 5)), [99, 600, 257, 541, 489])
+        rng = random.Random(9)
+        some = [(1, 0), (2**32 - 1, 2**32 - 1), (7, 2**32 - 362_437)] + [(rng.randrange(1, 2**32), rng.randrange(2**32)) for _ in range(20)]
+        for first, second in some:
+            boxes, rounds = rng.randrange(1, 7), rng.randrange(60)
+            made = case.parse(self.HEAD + f"boxes {boxes}\nseed {first} {second} rounds {rounds}\n")
+            self.assertEqual(made.turns, turns_of(boxes, drawn(first, second, rounds)))
+        head = self.HEAD + "boxes 4\n"
         self.assertEqual(case.parse(head + "seed 1 0 rounds 3\n"), case.parse(head + "cards 646 603 612\n"))
         self.assertEqual(case.parse(head + "seed 1 0 rounds 0\n").turns, [])
-        for line in ("seed 0 1 rounds 1", "seed 1 rounds 1", "seed 1 0 rounds", "seed 1 0 1", "seed 4294967296 0 rounds 1"):
-            with self.assertRaises(case.Fault):
+        refused = {
+            "seed 0 1 rounds 1": "the first word of a seed is not 0",
+            "seed 1 rounds 1": "cannot be read here: seed 1 rounds 1",
+            "seed 1 0 rounds": "cannot be read here: seed 1 0 rounds",
+            "seed 1 0 1": "cannot be read here: seed 1 0 1",
+            "seed 1 0 round 1": "cannot be read here: seed 1 0 round 1",
+            "seed 4294967296 0 rounds 1": "4294967296 is above 4294967295",
+        }
+        for line, text in refused.items():
+            with self.assertRaises(case.Fault, msg=line) as caught:
                 case.parse(head + line + "\n")
+            self.assertEqual((caught.exception.line, caught.exception.text), (6, text))
+        for boxes in (0, 7):
+            with self.assertRaisesRegex(case.Fault, f"^line 6: {FOR_BOXES}$"):
+                case.parse(self.HEAD + f"boxes {boxes}\nseed 1 0 rounds 1\n")
 
     def test_deck(self):
         printed = (TOP / "crates" / "deck" / "stdout").read_text()
-        self.assertEqual(printed, "".join("".join(map(str, card)) + "\n" for card in case.DECK))
+        self.assertEqual(printed, "".join("".join(map(str, card)) + "\n" for card in DECK))
+
+    def test_nothing_to_deal_with(self):
+        """Without the library only cards and seeds are refused, and the command that helps is told."""
+        with tempfile.TemporaryDirectory() as work:
+            tool, text = Path(work) / "tools" / "case.py", Path(work) / "case.txt"
+            tool.parent.mkdir()
+            shutil.copy(TOP / "tools" / "case.py", tool)
+            make = [sys.executable, tool, "make", text, Path(work) / "made"]
+            for line in ("cards 5", "seed 1 0 rounds 1"):
+                text.write_text(self.HEAD + "boxes 2\n" + line + "\n")
+                done = subprocess.run(make, capture_output=True, text=True)
+                told = "case.py: line 6: cards are dealt by target/course/deal, which is not there: make deal builds it\n"
+                self.assertEqual((done.returncode, done.stdout, done.stderr), (1, "", told))
+            text.write_text(SAMPLE.read_text())
+            done = subprocess.run(make, capture_output=True, text=True)
+            self.assertEqual((done.returncode, done.stdout, done.stderr), (0, "", ""))
+
+    def test_dealing_by_hand(self):
+        """The program itself: turns as lines of a case, a refusal, and words that it cannot read."""
+        def deal(*words, cards=""):
+            done = subprocess.run([case.DEAL, *words], input=cards, capture_output=True, text=True)
+            return done.returncode, done.stdout, done.stderr
+
+        self.assertEqual(deal("2", cards=" 0\n719 "), (0, "turn 0 1\nturn 1 0\nturn 1 0\nturn 0 1\n", ""))
+        self.assertEqual(deal("2", "1", "0", "1"), (0, "turn 1 0\nturn 0 1\n", ""))
+        self.assertEqual(deal("2"), (0, "", ""))
+        self.assertEqual(deal("2", cards="720"), (0, "refusal 15\n", ""))
+        self.assertEqual(deal("17", "0", "0", "1"), (0, "refusal 8\n", ""))
+        self.assertEqual(deal("2", cards="4294967295"), (0, "refusal 15\n", ""))
+        unread = (2, "", "deal: not a number of 32 bits\n")
+        for cards in ("4294967296", "1 x", "-1", "1\u00b2"):
+            self.assertEqual(deal("2", cards=cards), unread, cards)
+        for words in (("x",), ("",), ("4294967296",), ("2", "1", "0", "1x"), ("2", "-1", "0", "1")):
+            self.assertEqual(deal(*words), unread, words)
+        for words in ((), ("2", "1"), ("2", "1", "0"), ("2", "1", "0", "1", "1")):
+            self.assertEqual(deal(*words), (2, "", "deal: deal BOXES, or deal BOXES A B ROUNDS\n"), words)
+
+    def test_dealing_that_fails(self):
+        """What the program says is told, with the line."""
+        with tempfile.TemporaryDirectory() as work:
+            program = Path(work) / "deal"
+            for script, told in (("echo 'deal: no memory' >&2; exit 2", "deal: no memory"), ("kill -9 $$", "deal ended with status -9")):
+                program.write_text(f"#!/bin/sh\n{script}\n")
+                program.chmod(0o755)
+                with patch.object(case, "DEAL", program), self.assertRaisesRegex(case.Fault, f"^line 6: {told}$"):
+                    case.parse(self.HEAD + "boxes 6\nseed 1 0 rounds 1\n")
 
     def test_owners(self):
         sample = case.load_text(SAMPLE)
@@ -233,12 +335,95 @@ class Cases(unittest.TestCase):
 
     def test_refused_texts(self):
         good = case.show(case.load_text(SAMPLE))
-        for line in ("object -1", "object", "object x", "reference 1", "subject 1", "subject 1 2 3", "lease", "lease 1 2", "turn 256 0", "batch 1", "boxes 2", "index 0", "turns 0 1", "word 1"):
-            with self.assertRaises(case.Fault):
+        at = len(good.splitlines()) + 1
+        unread = """
+            object
+            object 1 2
+            reference 1
+            subject 1
+            subject 1 2 3
+            lease
+            lease 1 2
+            turn 1
+            turn 1 2 3
+            turns 0
+            turns 0 1
+            turns: 0 1
+            batch 1
+            boxes 2
+            boxes
+            cutoff 1
+            index 0
+            index
+            saved
+            saved 1 2
+            word 1
+            Object 1
+            form 1
+            count live 1
+            token 0 white
+            black 0
+            box 0 idle cell - since 0 batch 0
+            tally 0 followed 0 won 0 lost 0 handed 0
+            run 0 0 1
+        """
+        for line in unread.strip().splitlines():
+            with self.assertRaises(case.Fault, msg=line) as caught:
+                case.parse(good + line + " # read\n")
+            self.assertEqual(str(caught.exception), f"line {at}: cannot be read here: {line.strip()} # read")
+            self.assertEqual(caught.exception.line, at)
+        wrong = {
+            "object -1": "'-1' is not a decimal number",
+            "object x": "'x' is not a decimal number",
+            "object \u00b2": "'\u00b2' is not a decimal number",
+            f"object {2**64}": f"{2**64} is above {2**64 - 1}",
+            f"reference 0 {2**32}": f"{2**32} is above {2**32 - 1}",
+            f"subject {2**32} 0": f"{2**32} is above {2**32 - 1}",
+            f"lease {2**32}": f"{2**32} is above {2**32 - 1}",
+            "turn 256 0": "256 is above 255",
+            "turn 0 256": "256 is above 255",
+            "turns 256: 0": "256 is above 255",
+            "turns 0: 1 256": "256 is above 255",
+            f"saved {2**32}": f"{2**32} is above {2**32 - 1}",
+        }
+        for line, text in wrong.items():
+            with self.assertRaises(case.Fault, msg=line) as caught:
                 case.parse(good + line + "\n")
-        for name in ("index", "boxes", "batch", "cutoff"):
-            with self.assertRaises(case.Fault):
-                case.parse("\n".join(line for line in good.splitlines() if not line.startswith(name)))
+            self.assertEqual((caught.exception.line, caught.exception.text), (at, text))
+        for name, most in case.SETTINGS.items():
+            without = "\n".join(line for line in good.splitlines() if not line.startswith(name)) + "\n"
+            with self.assertRaisesRegex(case.Fault, f"^there is no {name} line$"):
+                case.parse(without)
+            with self.assertRaisesRegex(case.Fault, f"^line {at - 1}: {most + 1} is above {most}$"):
+                case.parse(without + f"{name} {most + 1}\n")
+        with self.assertRaisesRegex(case.Fault, "^there is no index line$"):
+            case.parse(good.replace("index 0\n", ""))
+
+    def test_turns(self):
+        """A colon parts the box that is asked from those that ask, with or without spaces."""
+        for line in ("turns 5: 0 1", "turns 5 : 0 1", "turns 5:0 1"):
+            self.assertEqual(case.parse(self.HEAD + "boxes 2\n" + line).turns, [(0, 5), (1, 5)])
+        self.assertEqual(case.parse(self.HEAD + "boxes 2\nturns 5:").turns, [])
+
+    def test_lines(self):
+        """Each part knows the line that told it."""
+        text = "# parts\nindex 0\nobject 1\n\nobject 2\nboxes 2\nsubject 0 1\nlease 1\nreference 0 1\nlease 0\nturns 1: 0 1 0\nbatch 3\n"
+        text += "cards 0 719\nturn 1 0\ncutoff 4\nseed 1 0 rounds 1\nobject 3\nremove 0 # by number\nremove 1 0\n"
+        made = case.parse(text)
+        lines = {
+            "index": [2],
+            "object": [3, 5, 17],
+            "boxes": [6],
+            "batch": [12],
+            "cutoff": [15],
+            "reference": [7, 9],
+            "lease": [8, 10],
+            "turn": [11] * 3 + [13] * 4 + [14] + [16] * 2,
+            "remove": [18, 19],
+        }
+        self.assertEqual(made.lines, lines)
+        self.assertEqual({name: len(part) for name, part in made.parts().items()}, {name: len(at) for name, at in lines.items() if name != "remove"})
+        self.assertEqual(case.read(case.store_bytes(made), case.order_bytes(made)).lines, {})
 
     def test_refused_files(self):
         sample = case.load_text(SAMPLE)
