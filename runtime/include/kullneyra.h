@@ -71,8 +71,12 @@ extern "C" {
 #define KULLNEYRA_LIST(n) ((size_t)(n))
 #define KULLNEYRA_SAVED(n, w) (16 + 12 * (size_t)(w) + (size_t)(n) + KULLNEYRA_WORK(n, w))
 
-/* What a call answers beside its number: a struct for each answer, whose fields are the result words in
- * their order. */
+/* The hop count of an object to which no chain of references leads. */
+#define KULLNEYRA_NO_HOPS 4294967295u
+
+/* From here on written by tools/boundary.py from crates/kullneyra/src/lib.rt. */
+
+/* What a call answers beside its number: a struct for each answer, whose fields are the result words in their order. */
 
 /* header: what the catalogue's header says; market_header and import: what the text's counts say, and index 0. */
 struct kullneyra_head {
@@ -81,7 +85,7 @@ struct kullneyra_head {
     uint32_t index; /* the object at which every collection starts */
 };
 
-/* read: the same, and how many starts the start buffer holds. */
+/* read: what header says, and how many starts the start buffer holds. */
 struct kullneyra_store {
     uint32_t n;      /* objects */
     uint32_t m;      /* references, and subjects */
@@ -109,8 +113,8 @@ struct kullneyra_marked {
 /* The counts of a marking by name, in the same order: X(live) X(followed) and so on. */
 #define KULLNEYRA_COUNTS(X) X(live) X(followed) X(handed) X(refused) X(moved) X(carrying)
 
-/* mark: what one worker did, over its own turns. Over all workers, followed and handed add up to those of
- * the marking, and the won claims and the different starts make its live. */
+/* mark: what one worker did, over its own turns. Over all workers, followed and handed add up to those of the
+ * marking, and the won claims and the different starts make its live. */
 struct kullneyra_tally {
     uint64_t followed; /* references followed */
     uint64_t won;      /* claims won: objects that it was the first to reach */
@@ -120,7 +124,7 @@ struct kullneyra_tally {
 
 /* sweep: the dead objects. */
 struct kullneyra_swept {
-    uint64_t count;
+    uint64_t count; /* how many they are */
     uint64_t freed; /* the sum of their sizes */
 };
 
@@ -141,75 +145,71 @@ struct kullneyra_drawn {
 };
 
 /* Exact lengths of the result words. */
-#define KULLNEYRA_HEADER_WORDS (sizeof(struct kullneyra_head) / sizeof(uint32_t))
-#define KULLNEYRA_READ_WORDS (sizeof(struct kullneyra_store) / sizeof(uint32_t))
-#define KULLNEYRA_PART_WORDS (sizeof(struct kullneyra_part) / sizeof(uint64_t))
-#define KULLNEYRA_MARK_WORDS (sizeof(struct kullneyra_marked) / sizeof(uint64_t)) /* begin and resume too */
-#define KULLNEYRA_SAVED_WORDS 1
-#define KULLNEYRA_HOP_WORDS 1
-#define KULLNEYRA_UPDATE_WORDS 1
-#define KULLNEYRA_EXPORT_WORDS 1
-#define KULLNEYRA_SWEEP_WORDS (sizeof(struct kullneyra_swept) / sizeof(uint64_t))
-#define KULLNEYRA_LENGTH_WORDS (sizeof(struct kullneyra_length) / sizeof(uint64_t))
-#define KULLNEYRA_SEED_WORDS (sizeof(struct kullneyra_seed) / sizeof(uint32_t))
-#define KULLNEYRA_DRAW_WORDS (sizeof(struct kullneyra_drawn) / sizeof(uint32_t))
+#define KULLNEYRA_HEADER_WORDS (sizeof(struct kullneyra_head) / sizeof(uint32_t)) /* header, market_header, import */
+#define KULLNEYRA_READ_WORDS (sizeof(struct kullneyra_store) / sizeof(uint32_t)) /* read */
+#define KULLNEYRA_PART_WORDS (sizeof(struct kullneyra_part) / sizeof(uint64_t)) /* references */
+#define KULLNEYRA_MARK_WORDS (sizeof(struct kullneyra_marked) / sizeof(uint64_t)) /* mark, begin, resume */
+#define KULLNEYRA_SWEEP_WORDS (sizeof(struct kullneyra_swept) / sizeof(uint64_t)) /* sweep */
+#define KULLNEYRA_LENGTH_WORDS (sizeof(struct kullneyra_length) / sizeof(uint64_t)) /* schedule_length */
+#define KULLNEYRA_SEED_WORDS (sizeof(struct kullneyra_seed) / sizeof(uint32_t)) /* draw, deal_seed */
+#define KULLNEYRA_DRAW_WORDS (sizeof(struct kullneyra_drawn) / sizeof(uint32_t)) /* draw */
+#define KULLNEYRA_SAVED_WORDS 1 /* saved_words */
+#define KULLNEYRA_HOP_WORDS 1 /* hop_words */
+#define KULLNEYRA_UPDATE_WORDS 1 /* update_words */
+#define KULLNEYRA_EXPORT_WORDS 1 /* export_length */
 
 /* Reads only the catalogue's header record. */
 uint32_t kullneyra_header(const uint8_t *bytes, size_t bytes_len, uint32_t *result, size_t result_len);
 
-/* Checks the whole catalogue and fills offsets, targets, sizes and starts: the index, the leases in their
- * order, and zeros behind them. A subject record fills in a reference from the subject to the object that
- * names it, so that a signature lives while its image does. */
+/* Checks the whole catalogue and fills offsets, targets, sizes and starts: the index, the leases in their order, and
+ * zeros behind them. A subject record fills in a reference from the subject to the object that names it, so that a
+ * signature lives while its image does. */
 uint32_t kullneyra_read(const uint8_t *bytes, size_t bytes_len, uint32_t *offsets, size_t offsets_len,
-                        uint32_t *targets, size_t targets_len, uint64_t *sizes, size_t sizes_len,
-                        uint32_t *starts, size_t starts_len, uint32_t *result, size_t result_len);
+                        uint32_t *targets, size_t targets_len, uint64_t *sizes, size_t sizes_len, uint32_t *starts,
+                        size_t starts_len, uint32_t *result, size_t result_len);
 
-/* The references of one object, as a part of the targets: where it starts, and its length. The part is
- * empty (0, 0) if there is no such object or its two offsets bound no part. */
-uint32_t kullneyra_references(const uint32_t *offsets, size_t offsets_len, const uint32_t *targets,
-                              size_t targets_len, uint32_t object, uint64_t *result, size_t result_len);
+/* The references of one object, as a part of the targets: where it starts, and its length. The part is empty (0, 0)
+ * if there is no such object or its two offsets bound no part. */
+uint32_t kullneyra_references(const uint32_t *offsets, size_t offsets_len, const uint32_t *targets, size_t targets_len,
+                              uint32_t object, uint64_t *result, size_t result_len);
 
-/* Marks what the starts reach, by the turns of the schedule: two bytes for each, the worker and whom it
- * asks. The starts are the index and then the leases; a repeated one adds nothing. Only when the
- * collection is finished are the objects with mark 0 unreachable. A mark tells who claimed the object:
- * b + 1 for worker b; a start has mark 1. The tallies are four words for each worker, worker 0's first:
- * the fields of struct kullneyra_tally. */
+/* Marks what the starts reach, by the turns of the schedule: two bytes for each, the worker and whom it asks. The
+ * starts are the index and then the leases; a repeated one adds nothing. Only when the collection is finished are
+ * the objects with mark 0 unreachable. A mark tells who claimed the object: b + 1 for worker b; a start has mark 1.
+ * The tallies are four words for each worker, worker 0's first: the fields of struct kullneyra_tally. */
 uint32_t kullneyra_mark(const uint32_t *offsets, size_t offsets_len, const uint32_t *targets, size_t targets_len,
-                        const uint32_t *starts, size_t starts_len, uint32_t workers, uint32_t batch,
-                        uint32_t cutoff, const uint8_t *schedule, size_t schedule_len, uint8_t *marks,
-                        size_t marks_len, uint32_t *work, size_t work_len, uint64_t *tallies,
-                        size_t tallies_len, uint64_t *result, size_t result_len);
+                        const uint32_t *starts, size_t starts_len, uint32_t workers, uint32_t batch, uint32_t cutoff,
+                        const uint8_t *schedule, size_t schedule_len, uint8_t *marks, size_t marks_len, uint32_t *work,
+                        size_t work_len, uint64_t *tallies, size_t tallies_len, uint64_t *result, size_t result_len);
 
 /* How many words a saved collection of n objects with so many workers takes, as KULLNEYRA_SAVED(n, w) has it. */
 uint32_t kullneyra_saved_words(uint32_t objects, uint32_t workers, uint64_t *result, size_t result_len);
 
-/* As kullneyra_mark, and saves the collection: everything that is needed to go on later stands in the saved
- * words, marks too. Nobody has to keep the other buffers, but the graph, the starts and the settings are
- * passed again. The words are for this library; docs/SPECIFICATION.md, 8.1, has their layout. */
+/* As kullneyra_mark, and saves the collection: everything that is needed to go on later stands in the saved words,
+ * marks too. Nobody has to keep the other buffers, but the graph, the starts and the settings are passed again. The
+ * words are for this library; docs/SPECIFICATION.md, 8.1, has their layout. */
 uint32_t kullneyra_begin(const uint32_t *offsets, size_t offsets_len, const uint32_t *targets, size_t targets_len,
-                         const uint32_t *starts, size_t starts_len, uint32_t workers, uint32_t batch,
-                         uint32_t cutoff, const uint8_t *schedule, size_t schedule_len, uint8_t *marks,
-                         size_t marks_len, uint32_t *work, size_t work_len, uint64_t *tallies,
-                         size_t tallies_len, uint32_t *saved, size_t saved_len, uint64_t *result,
-                         size_t result_len);
+                         const uint32_t *starts, size_t starts_len, uint32_t workers, uint32_t batch, uint32_t cutoff,
+                         const uint8_t *schedule, size_t schedule_len, uint8_t *marks, size_t marks_len, uint32_t *work,
+                         size_t work_len, uint64_t *tallies, size_t tallies_len, uint32_t *saved, size_t saved_len,
+                         uint64_t *result, size_t result_len);
 
-/* Takes a saved collection up with more turns, and saves it again. A collection that was begun with the same
- * graph, starts and settings ends as one call with all the turns would have ended it, counts and tallies
- * included. Marks, work and tallies need not hold anything before. Saved words that hold no sound collection
- * are KULLNEYRA_UNSOUND. Whoever wrote them: a collection that is finished has marked all that lives. */
+/* Takes a saved collection up with more turns, and saves it again. A collection that was begun with the same graph,
+ * starts and settings ends as one call with all the turns would have ended it, counts and tallies included. Marks,
+ * work and tallies need not hold anything before. Saved words that hold no sound collection are KULLNEYRA_UNSOUND.
+ * Whoever wrote them: a collection that is finished has marked all that lives. */
 uint32_t kullneyra_resume(const uint32_t *offsets, size_t offsets_len, const uint32_t *targets, size_t targets_len,
-                          const uint32_t *starts, size_t starts_len, uint32_t workers, uint32_t batch,
-                          uint32_t cutoff, const uint8_t *schedule, size_t schedule_len, uint8_t *marks,
-                          size_t marks_len, uint32_t *work, size_t work_len, uint64_t *tallies,
-                          size_t tallies_len, uint32_t *saved, size_t saved_len, uint64_t *result,
-                          size_t result_len);
+                          const uint32_t *starts, size_t starts_len, uint32_t workers, uint32_t batch, uint32_t cutoff,
+                          const uint8_t *schedule, size_t schedule_len, uint8_t *marks, size_t marks_len,
+                          uint32_t *work, size_t work_len, uint64_t *tallies, size_t tallies_len, uint32_t *saved,
+                          size_t saved_len, uint64_t *result, size_t result_len);
 
 /* Lists the objects whose mark is 0, upwards, then zeros; answers how many they are and what their sizes add up to. */
 uint32_t kullneyra_sweep(const uint8_t *marks, size_t marks_len, const uint64_t *sizes, size_t sizes_len,
                          uint32_t *list, size_t list_len, uint64_t *result, size_t result_len);
 
-/* How many bytes the schedule of so many cards has: two for each worker, for each card. KULLNEYRA_BUFFER where no buffer
- * is so long. */
+/* How many bytes the schedule of so many cards has: two for each worker, for each card. KULLNEYRA_BUFFER where no
+ * buffer is so long. */
 uint32_t kullneyra_schedule_length(size_t cards, uint32_t workers, uint64_t *result, size_t result_len);
 
 /* The schedule of a hand of cards, for the marker's call with so many workers: each card is a round in which every
@@ -218,26 +218,23 @@ uint32_t kullneyra_schedule_length(size_t cards, uint32_t workers, uint64_t *res
 uint32_t kullneyra_deal(const uint32_t *cards, size_t cards_len, uint32_t workers, uint8_t *schedule,
                         size_t schedule_len);
 
-/* Draws a card: moves the two words of the seed on and answers the card of the moved words. A seed of another length is
- * KULLNEYRA_BUFFER, before the result words are looked at. Beside a fault the seed is as it was. */
+/* Draws a card: moves the two words of the seed on and answers the card of the moved words. Beside a fault the seed
+ * is as it was. A seed of another length is KULLNEYRA_BUFFER, before the result words are looked at. */
 uint32_t kullneyra_draw(uint32_t *seed, size_t seed_len, uint32_t *result, size_t result_len);
 
-/* The schedule of so many draws, which is that of their cards; leaves the seed as those draws do. The schedule is as long
- * as that of so many cards. A seed of another length is KULLNEYRA_BUFFER, before anything else. Beside a fault seed and
- * schedule are as they were. Beside the number there is no answer. */
+/* The schedule of so many draws, which is that of their cards; leaves the seed as those draws do. The schedule is as
+ * long as that of so many cards. Beside a fault seed and schedule are as they were. A seed of another length is
+ * KULLNEYRA_BUFFER, before anything else. Beside the number there is no answer. */
 uint32_t kullneyra_deal_seed(uint32_t *seed, size_t seed_len, size_t rounds, uint32_t workers, uint8_t *schedule,
                              size_t schedule_len);
-
-/* The hop count of an object to which no chain of references leads. */
-#define KULLNEYRA_NO_HOPS 4294967295u
 
 /* How many work words kullneyra_hops takes for so many objects. */
 uint32_t kullneyra_hop_words(uint32_t objects, uint64_t *result, size_t result_len);
 
-/* For each object the least number of references from a start, KULLNEYRA_NO_HOPS where no chain leads to it. hops has
- * as many words as there are objects, and work as many as kullneyra_hop_words says; what they held before does not
- * matter. Offsets, targets and starts are checked as in kullneyra_mark. Beside a fault both are as they were. Beside the
- * number there is no answer. */
+/* For each object the least number of references from a start, KULLNEYRA_NO_HOPS where no chain leads to it. hops
+ * has as many words as there are objects, and work as many as kullneyra_hop_words says; what they held before does
+ * not matter. Offsets, targets and starts are checked as in kullneyra_mark. Beside a fault both are as they were.
+ * Beside the number there is no answer. */
 uint32_t kullneyra_hops(const uint32_t *offsets, size_t offsets_len, const uint32_t *targets, size_t targets_len,
                         const uint32_t *starts, size_t starts_len, uint32_t *hops, size_t hops_len, uint32_t *work,
                         size_t work_len);
@@ -245,11 +242,11 @@ uint32_t kullneyra_hops(const uint32_t *offsets, size_t offsets_len, const uint3
 /* How many work words kullneyra_add and kullneyra_remove take for so many objects. */
 uint32_t kullneyra_update_words(uint32_t objects, uint64_t *result, size_t result_len);
 
-/* Adds the references from[i] -> to[i] to a store. new_offsets has as many words as offsets, and new_targets as many as
- * targets and from together: an object's new references stand behind its old ones, in list order. An object that is newly
- * live gets the mark 255, and a mark that is set keeps its value. The marks must be closed under the old references
- * (KULLNEYRA_NOT_CLOSED), as those of a finished collection are. Beside a fault all four are as they were. Beside the number
- * there is no answer. */
+/* Adds the references from[i] -> to[i] to a store. new_offsets has as many words as offsets, and new_targets as many
+ * as targets and from together: an object's new references stand behind its old ones, in list order. An object that
+ * is newly live gets the mark 255, and a mark that is set keeps its value. The marks must be closed under the old
+ * references (KULLNEYRA_NOT_CLOSED), as those of a finished collection are. Beside a fault all four are as they
+ * were. Beside the number there is no answer. */
 uint32_t kullneyra_add(const uint32_t *offsets, size_t offsets_len, const uint32_t *targets, size_t targets_len,
                        const uint32_t *from, size_t from_len, const uint32_t *to, size_t to_len, uint32_t *new_offsets,
                        size_t new_offsets_len, uint32_t *new_targets, size_t new_targets_len, uint8_t *marks,
@@ -257,33 +254,34 @@ uint32_t kullneyra_add(const uint32_t *offsets, size_t offsets_len, const uint32
 
 /* Takes the references with these numbers out of a store; a number that stands in the list twice counts once.
  * new_targets has as many words as references remain. The marks are made afresh: 1 for a start, 255 for what else is
- * reached, 0 for the rest; what they held before does not matter. Beside a fault all four are as they were. Beside the
- * number there is no answer. */
+ * reached, 0 for the rest; what they held before does not matter. Beside a fault all four are as they were. Beside
+ * the number there is no answer. */
 uint32_t kullneyra_remove(const uint32_t *offsets, size_t offsets_len, const uint32_t *targets, size_t targets_len,
                           const uint32_t *numbers, size_t numbers_len, const uint32_t *starts, size_t starts_len,
                           uint32_t *new_offsets, size_t new_offsets_len, uint32_t *new_targets, size_t new_targets_len,
                           uint8_t *marks, size_t marks_len, uint32_t *work, size_t work_len);
 
-/* What the counts of a Matrix Market text say, so that buffers can be lent to kullneyra_import. Looks only at what stands
- * before the pairs. */
+/* What the counts of a Matrix Market text say, so that buffers can be lent to kullneyra_import. Looks only at what
+ * stands before the pairs. */
 uint32_t kullneyra_market_header(const uint8_t *text, size_t text_len, uint32_t *result, size_t result_len);
 
-/* A graph from a Matrix Market text: fills offsets, targets and sizes as kullneyra_read does from the catalogue of the same
- * pairs in the same order, with the sizes 0. The index is 0. */
-uint32_t kullneyra_import(const uint8_t *text, size_t text_len, uint32_t *offsets, size_t offsets_len, uint32_t *targets,
-                          size_t targets_len, uint64_t *sizes, size_t sizes_len, uint32_t *result, size_t result_len);
+/* A graph from a Matrix Market text: fills offsets, targets and sizes as kullneyra_read does from the catalogue of
+ * the same pairs in the same order, with the sizes 0. The index is 0. */
+uint32_t kullneyra_import(const uint8_t *text, size_t text_len, uint32_t *offsets, size_t offsets_len,
+                          uint32_t *targets, size_t targets_len, uint64_t *sizes, size_t sizes_len, uint32_t *result,
+                          size_t result_len);
 
 /* How many bytes the Matrix Market text of a graph has. */
 uint32_t kullneyra_export_length(const uint32_t *offsets, size_t offsets_len, const uint32_t *targets,
                                  size_t targets_len, uint64_t *result, size_t result_len);
 
-/* Writes the Matrix Market text of a graph into a buffer of exactly that many bytes. There is no zero byte behind it.
- * Beside the number there is no answer. */
+/* Writes the Matrix Market text of a graph into a buffer of exactly as many bytes as kullneyra_export_length says.
+ * There is no zero byte behind it. Beside the number there is no answer. */
 uint32_t kullneyra_export(const uint32_t *offsets, size_t offsets_len, const uint32_t *targets, size_t targets_len,
                           uint8_t *out, size_t out_len);
 
-/* The same calls with a struct for the answer, which is written in every case: what the call answers
- * where the number is 0, and zeros beside a fault. */
+/* The same calls with a struct for the answer, which is written in every case: what the call answers where the
+ * number is 0, and zeros beside a fault. */
 
 static inline uint32_t kullneyra_header_into(const uint8_t *bytes, size_t bytes_len, struct kullneyra_head *answer) {
     uint32_t words[KULLNEYRA_HEADER_WORDS] = {0};
@@ -293,9 +291,9 @@ static inline uint32_t kullneyra_header_into(const uint8_t *bytes, size_t bytes_
 }
 
 static inline uint32_t kullneyra_read_into(const uint8_t *bytes, size_t bytes_len, uint32_t *offsets,
-                                           size_t offsets_len, uint32_t *targets, size_t targets_len,
-                                           uint64_t *sizes, size_t sizes_len, uint32_t *starts,
-                                           size_t starts_len, struct kullneyra_store *answer) {
+                                           size_t offsets_len, uint32_t *targets, size_t targets_len, uint64_t *sizes,
+                                           size_t sizes_len, uint32_t *starts, size_t starts_len,
+                                           struct kullneyra_store *answer) {
     uint32_t words[KULLNEYRA_READ_WORDS] = {0};
     const uint32_t number = kullneyra_read(bytes, bytes_len, offsets, offsets_len, targets, targets_len, sizes,
                                            sizes_len, starts, starts_len, words, KULLNEYRA_READ_WORDS);
@@ -303,9 +301,8 @@ static inline uint32_t kullneyra_read_into(const uint8_t *bytes, size_t bytes_le
     return number;
 }
 
-static inline uint32_t kullneyra_references_into(const uint32_t *offsets, size_t offsets_len,
-                                                 const uint32_t *targets, size_t targets_len, uint32_t object,
-                                                 struct kullneyra_part *answer) {
+static inline uint32_t kullneyra_references_into(const uint32_t *offsets, size_t offsets_len, const uint32_t *targets,
+                                                 size_t targets_len, uint32_t object, struct kullneyra_part *answer) {
     uint64_t words[KULLNEYRA_PART_WORDS] = {0};
     const uint32_t number = kullneyra_references(offsets, offsets_len, targets, targets_len, object, words,
                                                  KULLNEYRA_PART_WORDS);
@@ -315,10 +312,9 @@ static inline uint32_t kullneyra_references_into(const uint32_t *offsets, size_t
 
 static inline uint32_t kullneyra_mark_into(const uint32_t *offsets, size_t offsets_len, const uint32_t *targets,
                                            size_t targets_len, const uint32_t *starts, size_t starts_len,
-                                           uint32_t workers, uint32_t batch, uint32_t cutoff,
-                                           const uint8_t *schedule, size_t schedule_len, uint8_t *marks,
-                                           size_t marks_len, uint32_t *work, size_t work_len,
-                                           uint64_t *tallies, size_t tallies_len,
+                                           uint32_t workers, uint32_t batch, uint32_t cutoff, const uint8_t *schedule,
+                                           size_t schedule_len, uint8_t *marks, size_t marks_len, uint32_t *work,
+                                           size_t work_len, uint64_t *tallies, size_t tallies_len,
                                            struct kullneyra_marked *answer) {
     uint64_t words[KULLNEYRA_MARK_WORDS] = {0};
     const uint32_t number = kullneyra_mark(offsets, offsets_len, targets, targets_len, starts, starts_len, workers,
@@ -334,48 +330,39 @@ static inline uint32_t kullneyra_saved_words_into(uint32_t objects, uint32_t wor
 }
 
 static inline uint32_t kullneyra_begin_into(const uint32_t *offsets, size_t offsets_len, const uint32_t *targets,
-                                           size_t targets_len, const uint32_t *starts, size_t starts_len,
-                                           uint32_t workers, uint32_t batch, uint32_t cutoff,
-                                           const uint8_t *schedule, size_t schedule_len, uint8_t *marks,
-                                           size_t marks_len, uint32_t *work, size_t work_len,
-                                           uint64_t *tallies, size_t tallies_len, uint32_t *saved,
-                                           size_t saved_len, struct kullneyra_marked *answer) {
+                                            size_t targets_len, const uint32_t *starts, size_t starts_len,
+                                            uint32_t workers, uint32_t batch, uint32_t cutoff, const uint8_t *schedule,
+                                            size_t schedule_len, uint8_t *marks, size_t marks_len, uint32_t *work,
+                                            size_t work_len, uint64_t *tallies, size_t tallies_len, uint32_t *saved,
+                                            size_t saved_len, struct kullneyra_marked *answer) {
     uint64_t words[KULLNEYRA_MARK_WORDS] = {0};
     const uint32_t number = kullneyra_begin(offsets, offsets_len, targets, targets_len, starts, starts_len, workers,
-                                           batch, cutoff, schedule, schedule_len, marks, marks_len, work, work_len,
-                                           tallies, tallies_len, saved, saved_len, words, KULLNEYRA_MARK_WORDS);
+                                            batch, cutoff, schedule, schedule_len, marks, marks_len, work, work_len,
+                                            tallies, tallies_len, saved, saved_len, words, KULLNEYRA_MARK_WORDS);
     memcpy(answer, words, sizeof *answer);
     return number;
 }
 
 static inline uint32_t kullneyra_resume_into(const uint32_t *offsets, size_t offsets_len, const uint32_t *targets,
-                                           size_t targets_len, const uint32_t *starts, size_t starts_len,
-                                           uint32_t workers, uint32_t batch, uint32_t cutoff,
-                                           const uint8_t *schedule, size_t schedule_len, uint8_t *marks,
-                                           size_t marks_len, uint32_t *work, size_t work_len,
-                                           uint64_t *tallies, size_t tallies_len, uint32_t *saved,
-                                           size_t saved_len, struct kullneyra_marked *answer) {
+                                             size_t targets_len, const uint32_t *starts, size_t starts_len,
+                                             uint32_t workers, uint32_t batch, uint32_t cutoff, const uint8_t *schedule,
+                                             size_t schedule_len, uint8_t *marks, size_t marks_len, uint32_t *work,
+                                             size_t work_len, uint64_t *tallies, size_t tallies_len, uint32_t *saved,
+                                             size_t saved_len, struct kullneyra_marked *answer) {
     uint64_t words[KULLNEYRA_MARK_WORDS] = {0};
     const uint32_t number = kullneyra_resume(offsets, offsets_len, targets, targets_len, starts, starts_len, workers,
-                                           batch, cutoff, schedule, schedule_len, marks, marks_len, work, work_len,
-                                           tallies, tallies_len, saved, saved_len, words, KULLNEYRA_MARK_WORDS);
+                                             batch, cutoff, schedule, schedule_len, marks, marks_len, work, work_len,
+                                             tallies, tallies_len, saved, saved_len, words, KULLNEYRA_MARK_WORDS);
     memcpy(answer, words, sizeof *answer);
     return number;
-}
-
-/* One worker's tally, of the words that mark left. */
-static inline struct kullneyra_tally kullneyra_tally_of(const uint64_t *tallies, uint32_t worker) {
-    struct kullneyra_tally tally;
-    memcpy(&tally, tallies + KULLNEYRA_TALLIES(worker), sizeof tally);
-    return tally;
 }
 
 static inline uint32_t kullneyra_sweep_into(const uint8_t *marks, size_t marks_len, const uint64_t *sizes,
                                             size_t sizes_len, uint32_t *list, size_t list_len,
                                             struct kullneyra_swept *answer) {
     uint64_t words[KULLNEYRA_SWEEP_WORDS] = {0};
-    const uint32_t number =
-        kullneyra_sweep(marks, marks_len, sizes, sizes_len, list, list_len, words, KULLNEYRA_SWEEP_WORDS);
+    const uint32_t number = kullneyra_sweep(marks, marks_len, sizes, sizes_len, list, list_len, words,
+                                            KULLNEYRA_SWEEP_WORDS);
     memcpy(answer, words, sizeof *answer);
     return number;
 }
@@ -388,7 +375,8 @@ static inline uint32_t kullneyra_schedule_length_into(size_t cards, uint32_t wor
 }
 
 static inline uint32_t kullneyra_draw_into(struct kullneyra_seed *seed, struct kullneyra_drawn *answer) {
-    uint32_t state[KULLNEYRA_SEED_WORDS], words[KULLNEYRA_DRAW_WORDS] = {0};
+    uint32_t words[KULLNEYRA_DRAW_WORDS] = {0};
+    uint32_t state[KULLNEYRA_SEED_WORDS];
     memcpy(state, seed, sizeof *seed);
     const uint32_t number = kullneyra_draw(state, KULLNEYRA_SEED_WORDS, words, KULLNEYRA_DRAW_WORDS);
     memcpy(seed, state, sizeof *seed);
@@ -400,8 +388,7 @@ static inline uint32_t kullneyra_deal_seed_into(struct kullneyra_seed *seed, siz
                                                 uint8_t *schedule, size_t schedule_len) {
     uint32_t state[KULLNEYRA_SEED_WORDS];
     memcpy(state, seed, sizeof *seed);
-    const uint32_t number =
-        kullneyra_deal_seed(state, KULLNEYRA_SEED_WORDS, rounds, workers, schedule, schedule_len);
+    const uint32_t number = kullneyra_deal_seed(state, KULLNEYRA_SEED_WORDS, rounds, workers, schedule, schedule_len);
     memcpy(seed, state, sizeof *seed);
     return number;
 }
@@ -425,8 +412,8 @@ static inline uint32_t kullneyra_market_header_into(const uint8_t *text, size_t 
 }
 
 static inline uint32_t kullneyra_import_into(const uint8_t *text, size_t text_len, uint32_t *offsets,
-                                             size_t offsets_len, uint32_t *targets, size_t targets_len,
-                                             uint64_t *sizes, size_t sizes_len, struct kullneyra_head *answer) {
+                                             size_t offsets_len, uint32_t *targets, size_t targets_len, uint64_t *sizes,
+                                             size_t sizes_len, struct kullneyra_head *answer) {
     uint32_t words[KULLNEYRA_HEADER_WORDS] = {0};
     const uint32_t number = kullneyra_import(text, text_len, offsets, offsets_len, targets, targets_len, sizes,
                                              sizes_len, words, KULLNEYRA_HEADER_WORDS);
@@ -438,6 +425,15 @@ static inline uint32_t kullneyra_export_length_into(const uint32_t *offsets, siz
                                                     const uint32_t *targets, size_t targets_len, uint64_t *answer) {
     *answer = 0;
     return kullneyra_export_length(offsets, offsets_len, targets, targets_len, answer, KULLNEYRA_EXPORT_WORDS);
+}
+
+/* Up to here. */
+
+/* One worker's tally, of the words that mark left. */
+static inline struct kullneyra_tally kullneyra_tally_of(const uint64_t *tallies, uint32_t worker) {
+    struct kullneyra_tally tally;
+    memcpy(&tally, tallies + KULLNEYRA_TALLIES(worker), sizeof tally);
+    return tally;
 }
 
 #ifdef __cplusplus

@@ -146,13 +146,13 @@ int main(void) {
     expect("tally, lost", 0, tally.lost);
     expect("tally, handed", 0, tally.handed);
 
-    REFUSED("saved words, no worker", KULLNEYRA_SETTING, kullneyra_saved_words_into(2, 0, &saved_words), saved_words);
-    REFUSED("saved words, no object", KULLNEYRA_COUNT, kullneyra_saved_words_into(0, 1, &saved_words), saved_words);
-    ACCEPTED("saved words", kullneyra_saved_words_into(2, 1, &saved_words), saved_words);
-    expect("saved words, how many", KULLNEYRA_SAVED(2, 1), saved_words);
-    ACCEPTED("saved words at the limits",
+    REFUSED("saved_words, no worker", KULLNEYRA_SETTING, kullneyra_saved_words_into(2, 0, &saved_words), saved_words);
+    REFUSED("saved_words, no object", KULLNEYRA_COUNT, kullneyra_saved_words_into(0, 1, &saved_words), saved_words);
+    ACCEPTED("saved_words", kullneyra_saved_words_into(2, 1, &saved_words), saved_words);
+    expect("saved_words, how many", KULLNEYRA_SAVED(2, 1), saved_words);
+    ACCEPTED("saved_words at the limits",
              kullneyra_saved_words_into(KULLNEYRA_MOST_OBJECTS, KULLNEYRA_MOST_WORKERS, &saved_words), saved_words);
-    expect("saved words at the limits, how many", KULLNEYRA_SAVED(KULLNEYRA_MOST_OBJECTS, KULLNEYRA_MOST_WORKERS),
+    expect("saved_words at the limits, how many", KULLNEYRA_SAVED(KULLNEYRA_MOST_OBJECTS, KULLNEYRA_MOST_WORKERS),
            saved_words);
 
     /* Two turns, kept in the saved words alone, and a third one. */
@@ -207,12 +207,12 @@ int main(void) {
     expect("sweep, freed", 200, swept.freed);
     expect("sweep, list", 1, list[0]);
 
-    REFUSED("schedule length, no workers", KULLNEYRA_SETTING, kullneyra_schedule_length_into(2, 0, &length), length);
-    REFUSED("schedule length, seven workers", KULLNEYRA_CARDS,
+    REFUSED("schedule_length, no workers", KULLNEYRA_SETTING, kullneyra_schedule_length_into(2, 0, &length), length);
+    REFUSED("schedule_length, seven workers", KULLNEYRA_CARDS,
             kullneyra_schedule_length_into(2, KULLNEYRA_CARD_WORKERS + 1, &length), length);
-    REFUSED("schedule length, too long", KULLNEYRA_BUFFER, kullneyra_schedule_length_into(SIZE_MAX, 1, &length), length);
-    ACCEPTED("schedule length", kullneyra_schedule_length_into(2, 2, &length), length);
-    expect("schedule length, bytes", 8, length.bytes);
+    REFUSED("schedule_length, too long", KULLNEYRA_BUFFER, kullneyra_schedule_length_into(SIZE_MAX, 1, &length), length);
+    ACCEPTED("schedule_length", kullneyra_schedule_length_into(2, 2, &length), length);
+    expect("schedule_length, bytes", 8, length.bytes);
     memset(dealt, 0x5a, sizeof dealt);
     expect("deal, no workers", KULLNEYRA_SETTING, kullneyra_deal(hand, 2, 0, dealt, 8));
     expect("deal, card 720", KULLNEYRA_CARDS, kullneyra_deal(hand, 3, 1, dealt, 6));
@@ -230,26 +230,26 @@ int main(void) {
     expect("draw, first word", 270369, seed.first);
     expect("draw, second word", 362437, seed.second);
     memset(dealt, 0x5a, sizeof dealt);
-    expect("deal of a seed, no workers", KULLNEYRA_SETTING, kullneyra_deal_seed_into(&none, 2, 0, dealt, 8));
-    expect("deal of a seed, first word 0", KULLNEYRA_NO_SEED, kullneyra_deal_seed_into(&none, 2, 7, dealt, 8));
-    expect("deal of a seed, seven workers", KULLNEYRA_CARDS, kullneyra_deal_seed_into(&seed, 2, 7, dealt, 8));
-    expect("deal of a seed, long schedule", KULLNEYRA_BUFFER, kullneyra_deal_seed_into(&seed, 2, 2, dealt, 9));
-    expect("deal of a seed, unchanged", 270369, seed.first);
-    expect("deal of a seed, bytes unchanged", 0x5a, dealt[0]);
+    expect("deal_seed, no workers", KULLNEYRA_SETTING, kullneyra_deal_seed_into(&none, 2, 0, dealt, 8));
+    expect("deal_seed, first word 0", KULLNEYRA_NO_SEED, kullneyra_deal_seed_into(&none, 2, 7, dealt, 8));
+    expect("deal_seed, seven workers", KULLNEYRA_CARDS, kullneyra_deal_seed_into(&seed, 2, 7, dealt, 8));
+    expect("deal_seed, long schedule", KULLNEYRA_BUFFER, kullneyra_deal_seed_into(&seed, 2, 2, dealt, 9));
+    expect("deal_seed, unchanged", 270369, seed.first);
+    expect("deal_seed, bytes unchanged", 0x5a, dealt[0]);
     /* Cards 603 and 612: 501342 and 503124. */
-    expect("deal of a seed", KULLNEYRA_OK, kullneyra_deal_seed_into(&seed, 2, 2, dealt, 8));
-    expect("deal of a seed, first round", 0, dealt[0]);
-    expect("deal of a seed, whom its worker asks", 1, dealt[1]);
-    expect("deal of a seed, second round", 0, dealt[4]);
-    expect("deal of a seed, first word", 2647435461u, seed.first);
-    expect("deal of a seed, behind it", 0x5a, dealt[8]);
+    expect("deal_seed", KULLNEYRA_OK, kullneyra_deal_seed_into(&seed, 2, 2, dealt, 8));
+    expect("deal_seed, first round", 0, dealt[0]);
+    expect("deal_seed, whom its worker asks", 1, dealt[1]);
+    expect("deal_seed, second round", 0, dealt[4]);
+    expect("deal_seed, first word", 2647435461u, seed.first);
+    expect("deal_seed, behind it", 0x5a, dealt[8]);
 
     uint64_t hop_words;
     uint32_t hops[2] = {7, 7}, links[4] = {7, 7, 7, 7};
-    expect("hop words, no objects", KULLNEYRA_COUNT, kullneyra_hop_words_into(0, &hop_words));
-    expect("hop words beside a fault", 0, (uint32_t)hop_words);
-    expect("hop words", KULLNEYRA_OK, kullneyra_hop_words_into(2, &hop_words));
-    expect("hop words of two objects", 4, (uint32_t)hop_words);
+    expect("hop_words, no objects", KULLNEYRA_COUNT, kullneyra_hop_words_into(0, &hop_words));
+    expect("hop_words beside a fault", 0, (uint32_t)hop_words);
+    expect("hop_words", KULLNEYRA_OK, kullneyra_hop_words_into(2, &hop_words));
+    expect("hop_words of two objects", 4, (uint32_t)hop_words);
     expect("hops, short work", KULLNEYRA_BUFFER,
            kullneyra_hops(offsets, 3, targets, 1, &head.index, 1, hops, 2, links, 3));
     expect("hops, no start", KULLNEYRA_NO_STARTS, kullneyra_hops(offsets, 3, targets, 1, NULL, 0, hops, 2, links, 4));
@@ -265,10 +265,10 @@ int main(void) {
     uint32_t new_offsets[3] = {7, 7, 7}, new_targets[2] = {7, 7}, todo[2] = {7, 7};
     uint8_t live[2] = {1, 0};
     const uint32_t zero = 0, two = 2;
-    expect("update words, no objects", KULLNEYRA_COUNT, kullneyra_update_words_into(0, &update_words));
-    expect("update words beside a fault", 0, (uint32_t)update_words);
-    expect("update words", KULLNEYRA_OK, kullneyra_update_words_into(2, &update_words));
-    expect("update words of two objects", 2, (uint32_t)update_words);
+    expect("update_words, no objects", KULLNEYRA_COUNT, kullneyra_update_words_into(0, &update_words));
+    expect("update_words beside a fault", 0, (uint32_t)update_words);
+    expect("update_words", KULLNEYRA_OK, kullneyra_update_words_into(2, &update_words));
+    expect("update_words of two objects", 2, (uint32_t)update_words);
     expect("add, marks not closed", KULLNEYRA_NOT_CLOSED,
            kullneyra_add(from_0, 3, &to_1, 1, &zero, 1, &to_1, 1, new_offsets, 3, new_targets, 2, live, 2, todo, 2));
     expect("add, no such object", KULLNEYRA_OBJECT,
@@ -297,10 +297,10 @@ int main(void) {
     const uint8_t *const bytes_of_text = (const uint8_t *)text;
     const size_t text_len = sizeof text - 1;
     struct kullneyra_head market;
-    REFUSED("market header, short text", KULLNEYRA_TEXT, kullneyra_market_header_into(bytes_of_text, 48, &market), market);
-    ACCEPTED("market header", kullneyra_market_header_into(bytes_of_text, text_len, &market), market);
-    expect("market header, objects", 2, market.n);
-    expect("market header, references", 1, market.m);
+    REFUSED("market_header, short text", KULLNEYRA_TEXT, kullneyra_market_header_into(bytes_of_text, 48, &market), market);
+    ACCEPTED("market_header", kullneyra_market_header_into(bytes_of_text, text_len, &market), market);
+    expect("market_header, objects", 2, market.n);
+    expect("market_header, references", 1, market.m);
     uint32_t read_offsets[3] = {7, 7, 7}, read_targets[1] = {7};
     uint64_t read_sizes[2] = {7, 7}, export_length;
     REFUSED("import, no last line feed", KULLNEYRA_TEXT,
@@ -313,10 +313,10 @@ int main(void) {
     expect("import, offset", 1, read_offsets[1]);
     expect("import, target", 1, read_targets[0]);
     expect("import, size", 0, read_sizes[1]);
-    expect("export length, no graph", KULLNEYRA_GRAPH, kullneyra_export_length_into(read_offsets, 2, NULL, 0, &export_length));
-    expect("export length beside a fault", 0, export_length);
-    expect("export length", KULLNEYRA_OK, kullneyra_export_length_into(read_offsets, 3, read_targets, 1, &export_length));
-    expect("export length, bytes", text_len, export_length);
+    expect("export_length, no graph", KULLNEYRA_GRAPH, kullneyra_export_length_into(read_offsets, 2, NULL, 0, &export_length));
+    expect("export_length beside a fault", 0, export_length);
+    expect("export_length", KULLNEYRA_OK, kullneyra_export_length_into(read_offsets, 3, read_targets, 1, &export_length));
+    expect("export_length, bytes", text_len, export_length);
     uint8_t written[sizeof text];
     memset(written, 0x5a, sizeof written);
     expect("export, long buffer", KULLNEYRA_BUFFER, kullneyra_export(read_offsets, 3, read_targets, 1, written, sizeof text));

@@ -52,7 +52,7 @@ int main(void) {
     expect("too many workers", KULLNEYRA_SETTING,
            kullneyra_mark(NULL, 0, NULL, 0, NULL, 0, KULLNEYRA_MOST_WORKERS + 1, 1, 1, NULL, 0, NULL, 0, NULL, 0,
                           NULL, 0, counts, KULLNEYRA_MARK_WORDS));
-    expect("no result words, saved words", KULLNEYRA_BUFFER, kullneyra_saved_words(1, 1, NULL, 0));
+    expect("no result words, saved_words", KULLNEYRA_BUFFER, kullneyra_saved_words(1, 1, NULL, 0));
     expect("no graph, begin", KULLNEYRA_COUNT,
            kullneyra_begin(NULL, 0, NULL, 0, NULL, 0, 1, 1, 1, NULL, 0, NULL, 0, NULL, 0, NULL, 0, NULL, 0, counts,
                            KULLNEYRA_MARK_WORDS));

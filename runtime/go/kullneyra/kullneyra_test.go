@@ -4,6 +4,7 @@ import (
 	"errors"
 	"fmt"
 	"math/rand"
+	"strings"
 	"sync"
 	"testing"
 
@@ -134,7 +135,7 @@ func check(rng *rand.Rand) error {
 	}
 	schedule := make([]byte, length)
 	seed := kullneyra.Seed{First: 1 + uint32(rng.Intn(1000)), Second: rng.Uint32()}
-	if err := seed.Deal(rounds, uint32(workers), schedule); err != nil {
+	if err := seed.DealSeed(rounds, uint32(workers), schedule); err != nil {
 		return err
 	}
 	b := buffers(n, workers)
@@ -203,7 +204,7 @@ func TestNoAllocation(t *testing.T) {
 		kullneyra.Deal(cards, 2, schedule[:8])
 		kullneyra.Hops(storeS, starts, hops, work)
 		seed.Draw()
-		seed.Deal(2, 2, schedule[:8])
+		seed.DealSeed(2, 2, schedule[:8])
 		kullneyra.Begin(storeS, nil, settings, nil, b, saved)
 		kullneyra.Add(storeS, nil, nil, renewed)
 		kullneyra.Remove(storeS, nil, starts, renewed)
@@ -212,5 +213,116 @@ func TestNoAllocation(t *testing.T) {
 	})
 	if allocations != 0 {
 		t.Errorf("%v allocations in a round of calls", allocations)
+	}
+}
+
+// catalogueS is the catalogue of store S, whose sizes are 100 to 600.
+func catalogueS() (out []byte) {
+	put := func(width int, number uint32) {
+		for ; width > 0; width-- {
+			out = append(out, byte(number))
+			number >>= 8
+		}
+	}
+	record := func(length, kind uint32, words ...uint32) {
+		put(2, length)
+		put(2, kind)
+		for _, word := range words {
+			put(4, word)
+		}
+	}
+	record(16, 1, 6, 6, 0)
+	for size := uint32(100); size <= 600; size += 100 {
+		record(12, 2, size, 0)
+	}
+	for v := uint32(0); v < 6; v++ {
+		for _, target := range storeS.Targets[storeS.Offsets[v]:storeS.Offsets[v+1]] {
+			record(12, 3, v, target)
+		}
+	}
+	return out
+}
+
+// say is what a call answers, or what was lent; a refusal is its number.
+func say(values ...any) string {
+	for i, value := range values {
+		if refusal, is := value.(kullneyra.Refusal); is {
+			values[i] = fmt.Sprintf("refusal %d", uint32(refusal))
+		}
+	}
+	return strings.TrimSuffix(fmt.Sprintln(values...), "\n")
+}
+
+// Each call with its answer and what it leaves, and refused: then the answer is zero and what was lent is as before.
+func TestCalls(t *testing.T) {
+	catalogue, text := catalogueS(), []byte("%%MatrixMarket matrix coordinate pattern general\n2 2 1\n1 2\n")
+	two := kullneyra.Graph{Offsets: []uint32{0, 1, 1}, Targets: []uint32{1}}
+	none := kullneyra.Graph{Offsets: []uint32{0}}
+	offsets, targets, sizes, starts := make([]uint32, 7), make([]uint32, 6), make([]uint64, 6), make([]uint32, kullneyra.Starts)
+	settings, b, list := kullneyra.Settings{Workers: 1, Batch: 2, Cutoff: 1}, buffers(6, 1), make([]uint32, 6)
+	saved, hops, work := make([]uint32, 50), make([]uint32, 6), make([]uint32, 12)
+	schedule, seed, noSeed := make([]byte, 6), kullneyra.Seed{First: 1}, kullneyra.Seed{Second: 5}
+	renewed := kullneyra.Renewed{Graph: kullneyra.Graph{Offsets: make([]uint32, 3), Targets: make([]uint32, 2)}, Marks: []byte{1, 2}, Work: make([]uint32, 2)}
+	removed := kullneyra.Renewed{Graph: kullneyra.Graph{Offsets: make([]uint32, 3)}, Marks: make([]byte, 2), Work: make([]uint32, 2)}
+	out, from := make([]byte, len(text)), []uint32{0}
+	for _, c := range []struct{ call, got, want string }{
+		{"Header", say(kullneyra.Header(catalogue)), "{6 6 0} <nil>"},
+		{"Header", say(kullneyra.Header(catalogue[:15])), "{0 0 0} refusal 1"},
+		{"Read", say(kullneyra.Read(catalogue, offsets, targets, sizes, starts)), "{6 6 0 1} <nil>"},
+		{"Read", say(kullneyra.Read(catalogue[1:], offsets, targets, sizes, starts)), "{0 0 0 0} refusal 1"},
+		{"Read", say(kullneyra.Read(catalogue, offsets, targets, sizes[1:], starts)), "{0 0 0 0} refusal 7"},
+		{"Read", say(offsets, targets, sizes, starts[:2]), "[0 2 3 4 5 5 6] [1 2 3 3 0 4] [100 200 300 400 500 600] [0 0]"},
+		{"References", say(kullneyra.References(storeS, 0), kullneyra.References(storeS, 6)), "[1 2] []"},
+		{"Mark", say(kullneyra.Mark(storeS, from, settings, make([]byte, 24), b)), "{true 4 5 0 0 12 0} <nil>"},
+		{"Mark", say(kullneyra.Mark(storeS, from, settings, []byte{1, 0}, b)), "{false 0 0 0 0 0 0} refusal 9"},
+		{"Mark", say(b.Marks, kullneyra.TallyOf(b.Tallies, 0)), "[1 1 1 1 0 0] {5 3 0 0}"},
+		{"SavedWords", say(kullneyra.SavedWords(6, 1)), "50 <nil>"},
+		{"SavedWords", say(kullneyra.SavedWords(6, 17)), "0 refusal 8"},
+		{"Begin", say(kullneyra.Begin(storeS, from, settings, make([]byte, 22), b, saved)), "{false 4 5 0 0 11 0} <nil>"},
+		{"Begin", say(kullneyra.Begin(storeS, from, settings, nil, b, saved[1:])), "{false 0 0 0 0 0 0} refusal 7"},
+		{"Resume", say(kullneyra.Resume(storeS, from, settings, make([]byte, 2), b, saved)), "{true 4 5 0 0 12 0} <nil>"},
+		{"Resume", say(kullneyra.Resume(storeS, from, settings, nil, b, make([]uint32, 50))), "{false 0 0 0 0 0 0} refusal 14"},
+		{"Resume", say(b.Marks, saved[:3], saved[9:10]), "[1 1 1 1 0 0] [2 4 0] [12]"},
+		{"Sweep", say(kullneyra.Sweep(b.Marks, sizes, list)), "{2 1100} <nil>"},
+		{"Sweep", say(kullneyra.Sweep(b.Marks[1:], sizes, list)), "{0 0} refusal 7"},
+		{"Sweep", say(list), "[4 5 0 0 0 0]"},
+		{"ScheduleLength", say(kullneyra.ScheduleLength(4, 6)), "48 <nil>"},
+		{"ScheduleLength", say(kullneyra.ScheduleLength(4, 7)), "0 refusal 15"},
+		{"Deal", say(kullneyra.Deal([]uint32{719}, 3, schedule)), "<nil>"},
+		{"Deal", say(kullneyra.Deal([]uint32{720}, 3, schedule)), "refusal 15"},
+		{"Deal", say(schedule), "[2 1 1 0 0 2]"},
+		{"Draw", say(seed.Draw()), "646 <nil>"},
+		{"Draw", say(noSeed.Draw()), "0 refusal 16"},
+		{"Draw", say(seed, noSeed), "{270369 362437} {0 5}"},
+		{"Seed.DealSeed", say(seed.DealSeed(1, 3, schedule)), "<nil>"},
+		{"Seed.DealSeed", say(noSeed.DealSeed(1, 3, schedule)), "refusal 16"},
+		{"Seed.DealSeed", say(seed, noSeed, schedule), "{67634689 724874} {0 5} [0 1 1 2 2 0]"},
+		{"HopWords", say(kullneyra.HopWords(6)), "12 <nil>"},
+		{"HopWords", say(kullneyra.HopWords(0)), "0 refusal 4"},
+		{"Hops", say(kullneyra.Hops(storeS, []uint32{3}, hops, work)), "<nil>"},
+		{"Hops", say(kullneyra.Hops(storeS, nil, hops, work)), "refusal 13"},
+		{"Hops", say(hops), "[1 2 2 0 4294967295 4294967295]"},
+		{"UpdateWords", say(kullneyra.UpdateWords(6)), "6 <nil>"},
+		{"UpdateWords", say(kullneyra.UpdateWords(65537)), "0 refusal 4"},
+		{"Add", say(kullneyra.Add(two, []uint32{1}, from, renewed)), "<nil>"},
+		{"Add", say(kullneyra.Add(two, []uint32{2}, from, renewed)), "refusal 5"},
+		{"Add", say(renewed.Graph, renewed.Marks), "{[0 1 2] [1 0]} [1 2]"},
+		{"Remove", say(kullneyra.Remove(two, []uint32{0}, from, removed)), "<nil>"},
+		{"Remove", say(kullneyra.Remove(two, []uint32{1}, from, removed)), "refusal 5"},
+		{"Remove", say(removed.Graph, removed.Marks), "{[0 0 0] []} [1 0]"},
+		{"MarketHeader", say(kullneyra.MarketHeader(text)), "{2 1 0} <nil>"},
+		{"MarketHeader", say(kullneyra.MarketHeader(text[1:])), "{0 0 0} refusal 18"},
+		{"Import", say(kullneyra.Import(text, offsets[:3], targets[:1], sizes[:2])), "{2 1 0} <nil>"},
+		{"Import", say(kullneyra.Import(text, offsets[:3], targets, sizes[:2])), "{0 0 0} refusal 7"},
+		{"Import", say(offsets, targets, sizes[:3]), "[0 1 1 4 5 5 6] [1 2 3 3 0 4] [0 0 300]"},
+		{"ExportLength", say(kullneyra.ExportLength(two)), fmt.Sprint(len(text), " <nil>")},
+		{"ExportLength", say(kullneyra.ExportLength(none)), "0 refusal 4"},
+		{"Export", say(kullneyra.Export(two, out)), "<nil>"},
+		{"Export", say(kullneyra.Export(two, out[1:])), "refusal 7"},
+		{"Export", string(out), string(text)},
+	} {
+		if c.got != c.want {
+			t.Errorf("%s: got %s, want %s", c.call, c.got, c.want)
+		}
 	}
 }

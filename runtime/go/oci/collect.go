@@ -159,7 +159,7 @@ func (s *Store) SeedOrder(seed kullneyra.Seed, workers uint32) (Order, error) {
 		return Order{}, err
 	}
 	schedule := make([]byte, length)
-	if err := seed.Deal(rounds, workers, schedule); err != nil {
+	if err := seed.DealSeed(rounds, workers, schedule); err != nil {
 		return Order{}, err
 	}
 	return Order{kullneyra.Settings{Workers: workers, Batch: batch, Cutoff: cutoff}, schedule}, nil

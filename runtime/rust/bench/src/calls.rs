@@ -23,7 +23,7 @@ pub struct Buffers {
 impl Buffers {
     fn new(graph: &Graph, workers: usize) -> Self {
         let (n, m) = (graph.n(), graph.m());
-        let work = kullneyra::work_words(n, workers);
+        let work = kullneyra::lengths::work(n, workers);
         let mut stack = vec![(1, 1); n + 1];
         stack.clear();
         Buffers {
@@ -33,7 +33,7 @@ impl Buffers {
             starts: vec![1; kullneyra::STARTS],
             marks: vec![1; n],
             work: vec![1; work],
-            tallies: vec![1; kullneyra::tally_words(workers)],
+            tallies: vec![1; kullneyra::lengths::tallies(workers)],
             list: vec![1; n],
             stack,
         }
@@ -249,7 +249,7 @@ pub fn stops(graph: &Graph, settings: Settings, repetitions: usize) -> Stops {
     let mut buffers = Buffers::new(graph, workers);
     let turns = schedule(graph, settings, &mut buffers);
     let wanted = run_proved(graph, settings, &turns, &mut buffers).words();
-    let mut saving = (buffers, vec![1; kullneyra::saved_words(graph.n(), workers)]);
+    let mut saving = (buffers, vec![1; kullneyra::lengths::saved(graph.n(), workers)]);
     let each = 2 * (turns.len() / 2).div_ceil(PARTS);
     let in_parts = |run: Part, saving: &mut Saving| {
         let mut last = [0; 7];

@@ -25,7 +25,7 @@ fn deal(workers: u32, repetitions: usize) -> Times {
 fn deal_seed(workers: u32, repetitions: usize) -> Times {
     let proved = |schedule: &mut Vec<u8>| {
         let mut seed = kullneyra::Seed { first: 1, second: 0 };
-        black_box(seed.deal(CARDS, workers, schedule)).expect("a seed");
+        black_box(seed.deal_seed(CARDS, workers, schedule)).expect("a seed");
     };
     let reference = |schedule: &mut Vec<u8>| {
         let mut seed = reference::Seed { first: 1, second: 0 };

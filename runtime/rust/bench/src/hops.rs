@@ -22,7 +22,7 @@ fn times(graph: &Graph, repetitions: usize) -> Times {
     let bag = |w: &mut Words| {
         black_box(tuned::hops(offsets, targets, &[0], &mut w.hops, &mut w.work)).expect("a graph");
     };
-    let mut words = Words { hops: vec![1; graph.n()], work: vec![1; kullneyra::hop_words(graph.n())] };
+    let mut words = Words { hops: vec![1; graph.n()], work: vec![1; kullneyra::lengths::hop_work(graph.n())] };
     Times::of(&medians(&mut words, repetitions, [&proved, &queue, &bag]))
 }
 

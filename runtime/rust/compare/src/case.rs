@@ -1,10 +1,16 @@
 //! One call with its inputs. Lent buffers that are written are given by their lengths.
 
+use crate::calls::NUMBER_CALLS;
 use std::fmt;
 
 /// A call and what it is given.
 #[derive(Clone, Debug, PartialEq, Eq)]
 pub enum Call {
+    /// One of [`NUMBER_CALLS`], by its place there.
+    Numbers {
+        which: usize,
+        given: Vec<u64>,
+    },
     Header {
         bytes: Vec<u8>,
     },
@@ -26,10 +32,6 @@ pub enum Call {
         sizes: Vec<u64>,
         list: usize,
     },
-    SavedWords {
-        objects: u32,
-        workers: u32,
-    },
     /// Also made in parts, cut before these turns.
     Begin {
         mark: Mark,
@@ -40,10 +42,6 @@ pub enum Call {
     Resume {
         mark: Mark,
         saved: Vec<u32>,
-    },
-    Length {
-        cards: usize,
-        workers: u32,
     },
     Deal {
         cards: Vec<u32>,
@@ -59,18 +57,12 @@ pub enum Call {
         workers: u32,
         schedule: usize,
     },
-    HopWords {
-        objects: u32,
-    },
     Hops {
         offsets: Vec<u32>,
         targets: Vec<u32>,
         starts: Vec<u32>,
         hops: usize,
         work: usize,
-    },
-    UpdateWords {
-        objects: u32,
     },
     Add {
         update: Update,
@@ -102,7 +94,7 @@ pub enum Call {
     },
 }
 
-/// What adding and taking out are both given: a graph, marks as they are beforehand, and lengths.
+/// What `add` and `remove` are both given: a graph, marks as they are beforehand, and lengths.
 #[derive(Clone, Debug, PartialEq, Eq)]
 pub struct Update {
     pub offsets: Vec<u32>,
@@ -174,93 +166,6 @@ impl Case {
             _ => true,
         };
         whole && self.result == self.call.result_words()
-    }
-}
-
-impl Call {
-    pub const CALLS: usize = 21;
-    pub const NAMES: [&'static str; Self::CALLS] = [
-        "header",
-        "read",
-        "references",
-        "mark",
-        "sweep",
-        "saved words",
-        "begin",
-        "resume",
-        "length",
-        "deal",
-        "draw",
-        "deal seed",
-        "hop words",
-        "hops",
-        "update words",
-        "add",
-        "remove",
-        "market header",
-        "import",
-        "export length",
-        "export",
-    ];
-
-    pub fn place(&self) -> usize {
-        match self {
-            Call::Header { .. } => 0,
-            Call::Read { .. } => 1,
-            Call::References { .. } => 2,
-            Call::Mark(_) => 3,
-            Call::Sweep { .. } => 4,
-            Call::SavedWords { .. } => 5,
-            Call::Begin { .. } => 6,
-            Call::Resume { .. } => 7,
-            Call::Length { .. } => 8,
-            Call::Deal { .. } => 9,
-            Call::Draw { .. } => 10,
-            Call::DealSeed { .. } => 11,
-            Call::HopWords { .. } => 12,
-            Call::Hops { .. } => 13,
-            Call::UpdateWords { .. } => 14,
-            Call::Add { .. } => 15,
-            Call::Remove { .. } => 16,
-            Call::MarketHeader { .. } => 17,
-            Call::Import { .. } => 18,
-            Call::ExportLength { .. } => 19,
-            Call::Export { .. } => 20,
-        }
-    }
-
-    /// The right length of the result buffer; 0 for a call that has none.
-    pub fn result_words(&self) -> usize {
-        const MARKED: usize = reference::Outcome::WORDS;
-        [3, 4, 2, MARKED, 2, 1, MARKED, MARKED, 1, 0, 1, 0, 1, 0, 1, 0, 0, 3, 3, 1, 0][self.place()]
-    }
-
-    /// The answers that the specification has for this call.
-    pub fn answers(place: usize) -> &'static [u32] {
-        const ANSWERS: [&[u32]; Call::CALLS] = [
-            &[0, 1, 2, 3, 4, 5, 7],
-            &[0, 1, 2, 3, 4, 5, 6, 7, 13],
-            &[0, 7],
-            &[0, 4, 5, 7, 8, 9, 10, 13],
-            &[0, 4, 6, 7],
-            &[0, 4, 7, 8],
-            &[0, 4, 5, 7, 8, 9, 10, 13],
-            &[0, 4, 5, 7, 8, 9, 10, 13, 14],
-            &[0, 7, 8, 15],
-            &[0, 7, 8, 15],
-            &[0, 7, 16],
-            &[0, 7, 8, 15, 16],
-            &[0, 4, 7],
-            &[0, 4, 5, 7, 10, 13],
-            &[0, 4, 7],
-            &[0, 4, 5, 7, 10, 17],
-            &[0, 4, 5, 7, 10, 13],
-            &[0, 4, 7, 18],
-            &[0, 4, 5, 7, 18],
-            &[0, 4, 7, 10],
-            &[0, 4, 7, 10],
-        ];
-        ANSWERS[place]
     }
 }
 
@@ -337,6 +242,11 @@ impl fmt::Display for Case {
     fn fmt(&self, f: &mut fmt::Formatter<'_>) -> fmt::Result {
         writeln!(f, "call {}", Call::NAMES[self.call.place()])?;
         match &self.call {
+            Call::Numbers { which, given } => {
+                for ((name, _), number) in NUMBER_CALLS[*which].given.iter().zip(given) {
+                    writeln!(f, "  {name} {number}")?;
+                }
+            }
             Call::Header { bytes } => catalogue(f, bytes)?,
             Call::Read { bytes, offsets, targets, sizes, starts } => {
                 catalogue(f, bytes)?;
@@ -353,7 +263,6 @@ impl fmt::Display for Case {
                 list(f, "sizes", sizes)?;
                 writeln!(f, "  length: list {length}")?;
             }
-            Call::SavedWords { objects, workers } => writeln!(f, "  {objects} objects, {workers} workers")?,
             Call::Begin { mark, saved, cuts } => {
                 write!(f, "{mark}")?;
                 writeln!(f, "  length: saved {saved}")?;
@@ -363,7 +272,6 @@ impl fmt::Display for Case {
                 write!(f, "{mark}")?;
                 list(f, "saved", saved)?;
             }
-            Call::Length { cards, workers } => writeln!(f, "  W {workers}, {cards} cards")?,
             Call::Deal { cards, workers, schedule } => {
                 list(f, "cards", cards)?;
                 writeln!(f, "  W {workers}, length: schedule {schedule}")?;
@@ -373,14 +281,12 @@ impl fmt::Display for Case {
                 list(f, "seed", seed)?;
                 writeln!(f, "  rounds {rounds}, W {workers}, length: schedule {schedule}")?;
             }
-            Call::HopWords { objects } => writeln!(f, "  {objects} objects")?,
             Call::Hops { offsets, targets, starts, hops, work } => {
                 list(f, "offsets", offsets)?;
                 list(f, "targets", targets)?;
                 list(f, "starts", starts)?;
                 writeln!(f, "  lengths: hops {hops}, work {work}")?;
             }
-            Call::UpdateWords { objects } => writeln!(f, "  {objects} objects")?,
             Call::Add { update, from, to } => {
                 write!(f, "{update}")?;
                 list(f, "from", from)?;

@@ -1,37 +1,38 @@
 //! Small cases, drawn.
 
+use crate::calls::NUMBER_CALLS;
 use crate::case::{Call, Case, Mark, Update};
 use crate::damage;
 use crate::judge::reached;
 use crate::rng::Rng;
 use crate::states;
 use crate::store::{self, Store};
-use reference::{Tally, LARGEST_SIZE, MOST_LEASES, STARTS};
+use reference::{Tally, CARD_WORKERS, LARGEST_SIZE, MOST_LEASES, MOST_OBJECTS, STARTS};
+
+/// The weights of the calls that are not of numbers; each of those has the weight 1.
+const OTHERS: usize = 50;
 
 /// A small case.
 pub fn small(rng: &mut Rng) -> Case {
-    let call = match rng.below(54) {
+    let call = match rng.below(OTHERS + NUMBER_CALLS.len()) {
         0 | 1 => Call::Header { bytes: catalogue(rng).0 },
         2..=8 => read(rng),
         9 | 10 => references(rng),
         11..=17 => Call::Mark(mark(rng)),
         18 | 19 => sweep(rng),
-        20 => saved_words(rng),
-        21..=24 => begin(rng),
-        25..=31 => resume(rng),
-        32 => length(rng),
-        33 => deal(rng),
-        34 => Call::Draw { seed: seed(rng) },
-        35 => deal_seed(rng),
-        36 => hop_words(rng),
-        37..=39 => hops(rng),
-        40 => update_words(rng),
-        41..=43 => add(rng),
-        44..=46 => remove(rng),
-        47 => Call::MarketHeader { text: market(rng).0 },
-        48..=50 => import(rng),
-        51 => export_length(rng),
-        _ => export(rng),
+        20..=23 => begin(rng),
+        24..=30 => resume(rng),
+        31 => deal(rng),
+        32 => Call::Draw { seed: seed(rng) },
+        33 => deal_seed(rng),
+        34..=36 => hops(rng),
+        37..=39 => add(rng),
+        40..=42 => remove(rng),
+        43 => Call::MarketHeader { text: market(rng).0 },
+        44..=46 => import(rng),
+        47 => export_length(rng),
+        48 | 49 => export(rng),
+        behind => numbers(rng, behind - OTHERS),
     };
     let result = match call.result_words() {
         0 => 0,
@@ -40,9 +41,30 @@ pub fn small(rng: &mut Rng) -> Case {
     Case { result, fill: rng.word(), call }
 }
 
-fn hop_words(rng: &mut Rng) -> Call {
-    let any = rng.word() as u32;
-    Call::HopWords { objects: rng.pick(&[0, 1, 6, 65_535, 65_536, 65_537, u32::MAX, any]) }
+/// A call of numbers. Those that have to fit one another are drawn for the same workers.
+fn numbers(rng: &mut Rng, which: usize) -> Call {
+    let workers = if rng.once_in(3) { rng.between(1, 16) as u32 } else { card_workers(rng) };
+    let given = NUMBER_CALLS[which].given.iter();
+    Call::Numbers { which, given: given.map(|&(name, largest)| number(rng, name, largest, workers)).collect() }
+}
+
+/// A number by its name, at most the largest of its type; of a name that is not known, often at the edges of its type.
+pub fn number(rng: &mut Rng, name: &str, largest: u64, workers: u32) -> u64 {
+    let any = rng.word() >> rng.below(64);
+    let edges = match name {
+        "objects" => {
+            let (some, most) = (rng.between(1, MOST_OBJECTS) as u64, MOST_OBJECTS as u64);
+            vec![some, some, any, 0, 1, 6, most - 1, most, most + 1, largest]
+        }
+        "workers" => vec![workers.into()],
+        // As many as any buffer has room for, with so many workers.
+        "cards" => {
+            let most = largest / (2 * u64::from(workers.clamp(1, CARD_WORKERS)));
+            vec![rng.below(1_000) as u64, any, 0, most - 1, most, most + 1, largest]
+        }
+        _ => vec![any, any, 0, 1, largest - 1, largest],
+    };
+    rng.pick(&edges) & largest
 }
 
 /// A graph and starts as the marker is given, with words for the hop counts.
@@ -51,11 +73,6 @@ fn hops(rng: &mut Rng) -> Call {
     let n = offsets.len().saturating_sub(1);
     let (hops, work) = (damage::length_once_in(rng, 15, n), damage::length_once_in(rng, 15, 2 * n));
     Call::Hops { offsets, targets, starts, hops, work }
-}
-
-fn update_words(rng: &mut Rng) -> Call {
-    let any = rng.word() as u32;
-    Call::UpdateWords { objects: rng.pick(&[0, 1, 6, 65_535, 65_536, 65_537, u32::MAX, any]) }
 }
 
 /// A graph, and buffers for one with so many targets.
@@ -199,14 +216,6 @@ fn card_workers(rng: &mut Rng) -> u32 {
         0 => rng.pick(&[0, 7, 8, 16, 17, u32::MAX, any]),
         _ => rng.between(1, 6) as u32,
     }
-}
-
-fn length(rng: &mut Rng) -> Call {
-    let workers = card_workers(rng);
-    let most = usize::MAX / (2 * (workers as usize).clamp(1, 6));
-    let any = rng.word() as usize;
-    let few = rng.below(1_000);
-    Call::Length { cards: rng.pick(&[few, 0, most - 1, most, most + 1, usize::MAX, any]), workers }
 }
 
 /// A seed: any two words, some at the edges, some with a first word of 0, and now and then not two.
@@ -355,15 +364,6 @@ fn damaged_once_in(rng: &mut Rng, times: usize, mut call: Mark) -> Mark {
     call
 }
 
-fn saved_words(rng: &mut Rng) -> Call {
-    let (objects, workers) = (rng.between(1, 65_536) as u32, rng.between(1, 16) as u32);
-    let any = rng.word() as u32;
-    Call::SavedWords {
-        objects: rng.pick(&[objects, objects, 0, 1, 65_536, 65_537, u32::MAX, any]),
-        workers: rng.pick(&[workers, workers, workers, 0, 1, 16, 17, any]),
-    }
-}
-
 /// Where turns are parted: nowhere, anywhere, and the same place more than once.
 pub fn cuts(rng: &mut Rng, call: &Mark) -> Vec<usize> {
     let turns = call.schedule.len() / 2;
@@ -397,9 +397,9 @@ fn resume(rng: &mut Rng) -> Call {
         saved = states::written(rng, &call, saved, changes);
     }
     match sort {
-        0 | 1 | 2 => {}
+        0..=2 => {}
         3 => saved = states::changed(rng, &call, saved),
-        4 | 5 | 6 | 7 => {
+        4..=7 => {
             for _ in 0..rng.pick(&[1, 1, 1, 2]) {
                 states::damage(rng, call.places(), &mut saved);
             }

@@ -1,7 +1,8 @@
 //! What is asked of every case: both sides agree, and what the specification demands holds of the answer.
 
 use crate::case::{Call, Case, Mark};
-use crate::sides::{after, after_parts, place, After, Proved, Reference, Side, Tuned, Typed, Untouched};
+use crate::lent::{after, after_parts, place, After};
+use crate::sides::{Proved, Reference, Side, Tuned, Typed, Untouched};
 use kullneyra::Marked;
 use reference::Tally;
 use std::collections::BTreeSet;
@@ -62,6 +63,9 @@ fn difference(got: &After, wanted: &After) -> Option<String> {
 
 /// The demands that can be tested on an answer.
 pub fn demands(case: &Case, got: &After) -> Result<(), String> {
+    if !Call::ANSWERS[case.call.place()].contains(&got.number) {
+        return Err(format!("{} is no answer of the call", got.number));
+    }
     if got.number != 0 && got.buffers != after(case, &Untouched).buffers {
         return Err(format!("a buffer is changed beside refusal {}", got.number));
     }

@@ -4,14 +4,18 @@
 //! compare [CASES [SEED]]                that many cases (300,000 of seed 1)
 //! compare replay SEED NUMBER            one of them, printed
 //! compare program PATH [CASES [SEED]]   the program at this path, on that many pairs of files (3,000 of seed 1)
+//! compare vectors FILE                  the answers to the stored cases of a file, if all sides agree on each
 //! ```
 //! It ends with exit status 1 at the first difference and prints how to replay it.
 
+mod calls;
 mod case;
 mod damage;
 mod draw;
 mod judge;
 mod large;
+mod lent;
+mod plain;
 mod program;
 mod rng;
 mod sides;
@@ -20,10 +24,12 @@ mod store;
 mod tally;
 #[cfg(test)]
 mod tests;
+mod vectors;
 
 use case::Case;
 use rng::Rng;
 use std::env;
+use std::fs;
 use std::panic;
 use std::path::Path;
 use std::process::ExitCode;
@@ -112,11 +118,15 @@ fn chosen(arguments: &[String]) -> Result<(), String> {
             println!("compare: no difference");
             Ok(())
         }
-        _ if arguments.len() <= 2 => compare(number(arguments.first(), CASES)?, number(arguments.get(1), SEED)?),
-        _ => {
-            Err("usage: compare [CASES [SEED]], compare replay SEED NUMBER or compare program PATH [CASES [SEED]]"
-                .into())
+        Some("vectors") if arguments.len() == 2 => {
+            let cases = fs::read_to_string(&arguments[1]).map_err(|what| format!("{}: {what}", arguments[1]))?;
+            print!("{}", vectors::answers(&cases)?);
+            Ok(())
         }
+        _ if arguments.len() <= 2 => compare(number(arguments.first(), CASES)?, number(arguments.get(1), SEED)?),
+        _ => Err("usage: compare [CASES [SEED]], compare replay SEED NUMBER, compare program PATH [CASES [SEED]] or \
+                 compare vectors FILE"
+            .into()),
     }
 }
 

@@ -1,7 +1,7 @@
 //! How often each call gave each answer, so that a run shows what it covered.
 
 use crate::case::{Call, Case};
-use crate::sides::After;
+use crate::lent::After;
 use std::fmt;
 
 #[derive(Default)]
@@ -43,9 +43,8 @@ impl Tally {
         if cases < 10_000 {
             return Ok(());
         }
-        for (place, name) in Call::NAMES.iter().enumerate() {
-            if let Some(answer) = Call::answers(place).iter().find(|&&answer| self.answers[place][answer as usize] == 0)
-            {
+        for ((name, wanted), met) in Call::NAMES.iter().zip(Call::ANSWERS).zip(&self.answers) {
+            if let Some(answer) = wanted.iter().find(|&&answer| met[answer as usize] == 0) {
                 return Err(format!("no case of {name} was answered {answer}"));
             }
         }
@@ -62,7 +61,7 @@ impl Tally {
 impl fmt::Display for Tally {
     fn fmt(&self, f: &mut fmt::Formatter<'_>) -> fmt::Result {
         for (name, answers) in Call::NAMES.iter().zip(&self.answers) {
-            write!(f, "  {name:<10} accepted {}, refused", answers[0])?;
+            write!(f, "  {name:<15} accepted {}, refused", answers[0])?;
             for (number, count) in answers.iter().enumerate().skip(1).filter(|(_, &count)| count > 0) {
                 write!(f, " {number}: {count}")?;
             }

@@ -1,9 +1,12 @@
 //! The comparison finds what it should: sides with one fault each, made from the reference.
 
 use crate::case::{Call, Case, Mark, Update};
+use crate::draw::number;
 use crate::judge::{demands, judge, same};
 use crate::large::LARGE;
-use crate::sides::{after, Buffers, Reference, Renewal, Side};
+use crate::lent::after;
+use crate::rng::Rng;
+use crate::sides::{Buffers, Reference, Renewal, Side, Untouched};
 use crate::{case_of, SEED};
 
 /// The reference with one fault.
@@ -32,6 +35,8 @@ enum Fault {
     ChecksExchanged,
     /// A word too few is told.
     SavedWordsShort,
+    /// The largest hand that has a schedule is refused.
+    LargestHandRefused,
     /// The since of a worker that is not busy is not saved.
     SinceForgotten,
     /// The saved words are touched before they are found unsound.
@@ -96,10 +101,6 @@ impl Side for Fault {
         number
     }
 
-    fn references(&self, offsets: &[u32], targets: &[u32], object: u32, result: &mut [u64]) -> u32 {
-        Reference.references(offsets, targets, object, result)
-    }
-
     fn mark(&self, call: &Mark, marks: &mut [u8], work: &mut [u32], tallies: &mut [u64], result: &mut [u64]) -> u32 {
         let before = tallies.to_vec();
         let number = Reference.mark(call, marks, work, tallies, result);
@@ -140,6 +141,13 @@ impl Side for Fault {
         number
     }
 
+    fn schedule_length(&self, cards: usize, workers: u32, result: &mut [u64]) -> u32 {
+        match (self, Reference.schedule_length(cards, workers, &mut [0])) {
+            (Fault::LargestHandRefused, 0) if cards == usize::MAX / (2 * workers as usize) => 7,
+            _ => Reference.schedule_length(cards, workers, result),
+        }
+    }
+
     fn begin(&self, call: &Mark, lent: &mut Buffers<'_>) -> u32 {
         let number = Reference.begin(call, lent);
         if *self == Fault::SinceForgotten && number == 0 {
@@ -174,10 +182,6 @@ impl Side for Fault {
         }
     }
 
-    fn schedule_length(&self, cards: usize, workers: u32, result: &mut [u64]) -> u32 {
-        Reference.schedule_length(cards, workers, result)
-    }
-
     fn deal(&self, cards: &[u32], workers: u32, schedule: &mut [u8]) -> u32 {
         let number = Reference.deal(cards, workers, schedule);
         if *self == Fault::LastAsksItself && number == 0 {
@@ -206,10 +210,6 @@ impl Side for Fault {
         number
     }
 
-    fn hop_words(&self, objects: u32, result: &mut [u64]) -> u32 {
-        Reference.hop_words(objects, result)
-    }
-
     fn hops(&self, offsets: &[u32], targets: &[u32], starts: &[u32], hops: &mut [u32], work: &mut [u32]) -> u32 {
         let number = Reference.hops(offsets, targets, starts, hops, work);
         if *self == Fault::FarthestLost && number == 0 {
@@ -219,28 +219,20 @@ impl Side for Fault {
         number
     }
 
-    fn update_words(&self, objects: u32, result: &mut [u64]) -> u32 {
-        Reference.update_words(objects, result)
-    }
-
-    fn add(&self, update: &Update, from: &[u32], to: &[u32], lent: &mut Renewal<'_>) -> u32 {
-        let number = Reference.add(update, from, to, lent);
+    fn add(&self, offsets: &[u32], targets: &[u32], from: &[u32], to: &[u32], lent: &mut Renewal<'_>) -> u32 {
+        let number = Reference.add(offsets, targets, from, to, lent);
         if *self == Fault::OlderMarkLost && number == 0 {
             lent.marks.iter_mut().filter(|mark| **mark != 0).for_each(|mark| *mark = 255);
         }
         number
     }
 
-    fn remove(&self, update: &Update, numbers: &[u32], starts: &[u32], lent: &mut Renewal<'_>) -> u32 {
-        let number = Reference.remove(update, numbers, starts, lent);
+    fn remove(&self, offsets: &[u32], targets: &[u32], numbers: &[u32], starts: &[u32], lent: &mut Renewal<'_>) -> u32 {
+        let number = Reference.remove(offsets, targets, numbers, starts, lent);
         if *self == Fault::StartsNotTold && number == 0 {
             lent.marks.iter_mut().filter(|mark| **mark != 0).for_each(|mark| *mark = 255);
         }
         number
-    }
-
-    fn market_header(&self, text: &[u8], result: &mut [u32]) -> u32 {
-        Reference.market_header(text, result)
     }
 
     fn import(
@@ -262,10 +254,6 @@ impl Side for Fault {
             offsets.fill(0);
         }
         number
-    }
-
-    fn export_length(&self, offsets: &[u32], targets: &[u32], result: &mut [u64]) -> u32 {
-        Reference.export_length(offsets, targets, result)
     }
 
     fn export(&self, offsets: &[u32], targets: &[u32], out: &mut [u8]) -> u32 {
@@ -299,6 +287,7 @@ fn faults_are_found() {
     assert!(found(Fault::LongResultTaken).is_some());
     assert!(found(Fault::ChecksExchanged).is_some());
     assert!(found(Fault::SavedWordsShort).is_some());
+    assert!(found(Fault::LargestHandRefused).is_some());
     assert!(found(Fault::SinceForgotten).is_some());
     assert!(found(Fault::SavedClearedBesideRefusal).is_some());
     assert!(found(Fault::RefusedRestarted).is_some());
@@ -341,6 +330,34 @@ fn the_enlarged_store_at_its_limit() {
         assert_eq!(plain.number, wanted);
         assert_eq!(judge(&case), Ok(plain));
     }
+}
+
+/// A number of any name is drawn at its edges, and fits its type.
+#[test]
+fn numbers_at_their_edges() {
+    let (word, long, hand) = (u64::from(u32::MAX), u64::MAX, u64::MAX / 12);
+    for (name, largest, edges) in [
+        ("objects", word, &[0, 1, 65_535, 65_536, 65_537, word][..]),
+        ("cards", long, &[0, hand - 1, hand, hand + 1, long]),
+        ("cards", word, &[0, word]),
+        ("of a new call", word, &[0, 1, word - 1, word]),
+        ("of a new call", long, &[0, 1, long - 1, long]),
+    ] {
+        let mut rng = Rng::of(SEED, 0);
+        let drawn: Vec<u64> = (0..1_000).map(|_| number(&mut rng, name, largest, 6)).collect();
+        assert!(drawn.iter().all(|&number| number <= largest), "{name}");
+        assert!(edges.iter().all(|edge| drawn.contains(edge)), "{name}");
+    }
+}
+
+/// An answer that the specification does not have for the call is found, though the sides agree on it.
+#[test]
+fn foreign_answers_are_found() {
+    let case = case_of(SEED, LARGE);
+    let mut after = after(&case, &Untouched);
+    assert_eq!(demands(&case, &after), Ok(()));
+    after.number = 11;
+    assert_eq!(demands(&case, &after), Err("11 is no answer of the call".into()));
 }
 
 /// A million draws of the library and of the reference.

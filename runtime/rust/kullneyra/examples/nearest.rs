@@ -1,7 +1,7 @@
 //! What to fetch first: reads the store in a folder and prints its objects nearest first, each with the least number of
 //! references from a start, its number and its size. Objects to which no chain leads are left out.
 
-use kullneyra::{header, hop_words, hops, read, NO_HOPS, STARTS};
+use kullneyra::{header, hops, lengths, read, NO_HOPS, STARTS};
 use std::error::Error;
 use std::path::PathBuf;
 use std::{env, fs};
@@ -13,7 +13,7 @@ fn main() -> Result<(), Box<dyn Error>> {
     let (n, m) = (head.objects as usize, head.references as usize);
     let (mut offsets, mut targets, mut sizes, mut starts) = (vec![0; n + 1], vec![0; m], vec![0; n], [0; STARTS]);
     let store = read(&catalogue, &mut offsets, &mut targets, &mut sizes, &mut starts)?;
-    let (mut counts, mut work) = (vec![0; n], vec![0; hop_words(n)]);
+    let (mut counts, mut work) = (vec![0; n], vec![0; lengths::hop_work(n)]);
     hops(&offsets, &targets, &starts[..store.starts as usize], &mut counts, &mut work)?;
 
     let mut order: Vec<usize> = (0..n).filter(|&object| counts[object] != NO_HOPS).collect();

@@ -2,7 +2,7 @@
 //! marks to the file `marks` there, a byte for each object. `tools/case.py show FOLDER --marks FOLDER/marks` takes
 //! them.
 
-use kullneyra::{header, mark, owners, read, tally_words, work_words, Schedule, Settings, STARTS};
+use kullneyra::{header, lengths, mark, owners, read, Schedule, Settings, STARTS};
 use std::error::Error;
 use std::path::PathBuf;
 use std::{env, fs};
@@ -24,8 +24,8 @@ fn main() -> Result<(), Box<dyn Error>> {
     let (mut offsets, mut targets, mut sizes, mut starts) = (vec![0; n + 1], vec![0; m], vec![0; n], [0; STARTS]);
     let store = read(&catalogue, &mut offsets, &mut targets, &mut sizes, &mut starts)?;
     let starts = &starts[..store.starts as usize];
-    let (mut marks, mut work) = (vec![0; n], vec![0; work_words(n, usize::from(workers))]);
-    let mut tallies = vec![0; tally_words(usize::from(workers))];
+    let (mut marks, mut work) = (vec![0; n], vec![0; lengths::work(n, usize::from(workers))]);
+    let mut tallies = vec![0; lengths::tallies(usize::from(workers))];
     let schedule = Schedule::from_bytes(schedule);
     mark(&offsets, &targets, starts, settings, schedule, &mut marks, &mut work, &mut tallies)?;
 

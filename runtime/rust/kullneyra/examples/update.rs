@@ -11,7 +11,7 @@
 
 mod catalogue;
 
-use kullneyra::{add, header, read, remove, update_words, STARTS};
+use kullneyra::{add, header, lengths, read, remove, STARTS};
 use std::collections::HashSet;
 use std::error::Error;
 use std::path::Path;
@@ -43,7 +43,7 @@ fn main() -> Result<(), Box<dyn Error>> {
     let starts = &starts[..store.starts as usize];
     let (from, to, numbers) =
         update(&fs::read(folder.join("store.update"))?).ok_or("store.update has another length")?;
-    let (mut marks, mut work) = (vec![0; n], vec![0; update_words(n)]);
+    let (mut marks, mut work) = (vec![0; n], vec![0; lengths::update_work(n)]);
 
     if numbers.is_empty() {
         marks = fs::read(folder.join("marks"))?;

@@ -20,7 +20,7 @@
 //! # One collection
 //!
 //! ```
-//! use kullneyra::{header, mark, read, references, sweep, tallies, tally_words, work_words};
+//! use kullneyra::{header, lengths, mark, read, references, sweep, tallies};
 //! use kullneyra::{Schedule, Settings, Turn, STARTS};
 //!
 //! // Two objects, 0 and 1, and the reference 0→0: object 1 hangs on nothing.
@@ -41,7 +41,7 @@
 //!
 //! let settings = Settings { workers: 1, batch: 64, cutoff: 64 };
 //! let turns = [Turn { worker: 0, asked: 0 }; 3];
-//! let (mut marks, mut work, mut words) = ([0; 2], [0; work_words(2, 1)], [0; tally_words(1)]);
+//! let (mut marks, mut work, mut words) = ([0; 2], [0; lengths::work(2, 1)], [0; lengths::tallies(1)]);
 //! let schedule = Schedule::new(&turns);
 //! let marked = mark(&offsets, &targets, starts, settings, schedule, &mut marks, &mut work, &mut words)?;
 //! assert!(marked.finished);
@@ -61,17 +61,17 @@
 //! words that were kept in a file, in another. However the turns are parted, the collection ends as one call ends it.
 //!
 //! ```
-//! use kullneyra::{begin, mark, resume, saved_words, tally_words, work_words};
+//! use kullneyra::{begin, lengths, mark, resume};
 //! use kullneyra::{Refusal, Schedule, Settings, Turn};
 //!
 //! // Three objects, 0→1 and 1→2, one worker.
 //! let (offsets, targets, starts) = ([0, 1, 2, 2], [1, 2], [0]);
 //! let settings = Settings { workers: 1, batch: 1, cutoff: 1 };
 //! let turns = [Turn { worker: 0, asked: 0 }; 8];
-//! let (mut marks, mut work, mut words) = ([0; 3], [0; work_words(3, 1)], [0; tally_words(1)]);
+//! let (mut marks, mut work, mut words) = ([0; 3], [0; lengths::work(3, 1)], [0; lengths::tallies(1)]);
 //! let whole = mark(&offsets, &targets, &starts, settings, Schedule::new(&turns), &mut marks, &mut work, &mut words)?;
 //!
-//! let mut saved = [0; saved_words(3, 1)];
+//! let mut saved = [0; lengths::saved(3, 1)];
 //! let (first, later) = turns.split_at(5);
 //! let first = Schedule::new(first);
 //! let stopped =
@@ -79,7 +79,7 @@
 //! assert!(!stopped.finished);
 //!
 //! // An hour later. Only the saved words were kept.
-//! (marks, work, words) = ([7; 3], [7; work_words(3, 1)], [7; tally_words(1)]);
+//! (marks, work, words) = ([7; 3], [7; lengths::work(3, 1)], [7; lengths::tallies(1)]);
 //! let later = Schedule::new(later);
 //! let done =
 //!     resume(&offsets, &targets, &starts, settings, later, &mut marks, &mut work, &mut words, &mut saved)?;
@@ -91,10 +91,75 @@
 //! assert_eq!(other, Err(Refusal::Saved));
 //! # Ok::<(), kullneyra::Refusal>(())
 //! ```
+//! # Cards
+//!
+//! ```
+//! use kullneyra::deal;
+//!
+//! // Card 0 is 012345 and card 719 is 543210; with two workers the others are skipped.
+//! let mut schedule = [0; 8];
+//! deal(&[0, 719], 2, &mut schedule)?;
+//! assert_eq!(schedule, [0, 1, 1, 0, 1, 0, 0, 1]);
+//! # Ok::<(), kullneyra::Refusal>(())
+//! ```
+//!
+//! # Hops
+//!
+//! ```
+//! use kullneyra::{hops, lengths, NO_HOPS};
+//!
+//! // 0→1, 0→2, 1→3, 2→3, and nothing leads to 4.
+//! let (offsets, targets) = ([0, 2, 3, 4, 4, 4], [1, 2, 3, 3]);
+//! let (mut counts, mut work) = ([0; 5], [0; lengths::hop_work(5)]);
+//! hops(&offsets, &targets, &[0], &mut counts, &mut work)?;
+//! assert_eq!(counts, [0, 1, 1, 2, NO_HOPS]);
+//! # Ok::<(), kullneyra::Refusal>(())
+//! ```
+//!
+//! # References that come and go
+//!
+//! ```
+//! use kullneyra::{add, lengths, remove, NEWLY_LIVE};
+//!
+//! // 0→1, 2→3, and 0 and 1 live. With 1→2 the others do, too.
+//! let (offsets, targets, mut marks) = ([0, 1, 1, 2, 2], [1, 3], [1, 1, 0, 0]);
+//! let (mut new_offsets, mut new_targets, mut work) = ([0; 5], [0; 3], [0; lengths::update_work(4)]);
+//! add(&offsets, &targets, &[1], &[2], &mut new_offsets, &mut new_targets, &mut marks, &mut work)?;
+//! assert_eq!((new_offsets, new_targets), ([0, 1, 2, 3, 3], [1, 2, 3]));
+//! assert_eq!(marks, [1, 1, NEWLY_LIVE, NEWLY_LIVE]);
+//!
+//! // 0→1, 0→2, 1→2: without reference 1 object 2 is still reached.
+//! let (offsets, targets, mut marks) = ([0, 2, 3, 3], [1, 2, 2], [0; 3]);
+//! let (mut new_offsets, mut new_targets, mut work) = ([0; 4], [0; 2], [0; lengths::update_work(3)]);
+//! remove(&offsets, &targets, &[1, 1], &[0], &mut new_offsets, &mut new_targets, &mut marks, &mut work)?;
+//! assert_eq!((new_offsets, new_targets), ([0, 1, 2, 2], [1, 2]));
+//! assert_eq!(marks, [1, NEWLY_LIVE, NEWLY_LIVE]);
+//! # Ok::<(), kullneyra::Refusal>(())
+//! ```
+//!
+//! # Course graphs
+//!
+//! ```
+//! use kullneyra::{export, export_length, import, market_header};
+//!
+//! // The pairs come in any order, and go out object after object.
+//! let text = b"%%MatrixMarket matrix coordinate pattern general\n% two pages\n2 2 2\n2 1\n1 2\n";
+//! let header = market_header(text)?;
+//! let (mut offsets, mut targets, mut sizes) = ([9; 3], [9; 2], [9; 2]);
+//! assert_eq!(import(text, &mut offsets, &mut targets, &mut sizes)?, header);
+//! assert_eq!((offsets, targets, sizes), ([0, 1, 2], [1, 0], [0, 0]));
+//! let mut out = vec![0; export_length(&offsets, &targets)? as usize];
+//! export(&offsets, &targets, &mut out)?;
+//! assert_eq!(out, b"%%MatrixMarket matrix coordinate pattern general\n2 2 2\n1 2\n2 1\n");
+//! # Ok::<(), kullneyra::Refusal>(())
+//! ```
 #![no_std]
 #![deny(missing_docs)]
 
+mod calls;
 pub mod raw;
+
+pub use calls::*;
 
 /// The most objects that a store has.
 pub const MOST_OBJECTS: usize = 65_536;
@@ -225,32 +290,6 @@ fn answer(number: u32) -> Result<(), Refusal> {
     }
 }
 
-/// What a catalogue's header says.
-#[derive(Clone, Copy, Debug, Default, PartialEq, Eq)]
-#[non_exhaustive]
-pub struct Header {
-    /// n, 1 to 65,536.
-    pub objects: u32,
-    /// m, up to 1,048,576; subjects count in it.
-    pub references: u32,
-    /// The index object.
-    pub index: u32,
-}
-
-/// What a catalogue holds.
-#[derive(Clone, Copy, Debug, Default, PartialEq, Eq)]
-#[non_exhaustive]
-pub struct Store {
-    /// n, 1 to 65,536.
-    pub objects: u32,
-    /// m, up to 1,048,576; subjects count in it.
-    pub references: u32,
-    /// The index object, which is the first start.
-    pub index: u32,
-    /// How many starts the start buffer holds: the index and the leases.
-    pub starts: u32,
-}
-
 /// The settings of a marking.
 #[derive(Clone, Copy, Debug, PartialEq, Eq)]
 pub struct Settings {
@@ -289,76 +328,8 @@ impl<'a> Schedule<'a> {
     }
 }
 
-/// What a marking did. The fields stand in the order of the result words.
-#[derive(Clone, Copy, Debug, Default, PartialEq, Eq)]
-#[non_exhaustive]
-pub struct Marked {
-    /// Every worker has ended: the marks are exactly the reachable objects.
-    pub finished: bool,
-    /// Marks set.
-    pub live: u64,
-    /// References followed.
-    pub followed: u64,
-    /// Hand-overs.
-    pub handed: u64,
-    /// Asks answered no.
-    pub refused: u64,
-    /// Turns that changed something.
-    pub moved: u64,
-    /// Workers that carry references now; 0 where nothing is left to follow.
-    pub carrying: u64,
-}
-
-impl Marked {
-    /// How many result words [`raw::mark`] has.
-    pub const WORDS: usize = 7;
-
-    /// These result words by name.
-    pub fn from_words([finished, live, followed, handed, refused, moved, carrying]: [u64; Self::WORDS]) -> Self {
-        Marked { finished: finished == 1, live, followed, handed, refused, moved, carrying }
-    }
-
-    /// The result words.
-    pub fn words(self) -> [u64; Self::WORDS] {
-        let Marked { finished, live, followed, handed, refused, moved, carrying } = self;
-        [u64::from(finished), live, followed, handed, refused, moved, carrying]
-    }
-}
-
-/// What one worker did, over its own turns. The fields stand in the order of its words.
-///
-/// Over all workers, followed and handed add up to those of [`Marked`], and the won claims and the different starts make
-/// its live. A reference whose target was marked when the worker looked is followed without a claim.
-#[derive(Clone, Copy, Debug, Default, PartialEq, Eq)]
-#[non_exhaustive]
-pub struct Tally {
-    /// References followed.
-    pub followed: u64,
-    /// Claims won: objects that it was the first to reach.
-    pub won: u64,
-    /// Claims lost to another worker.
-    pub lost: u64,
-    /// Hand-overs that it gave.
-    pub handed: u64,
-}
-
-impl Tally {
-    /// How many words of the lent tallies it has.
-    pub const WORDS: usize = 4;
-
-    /// These words by name.
-    pub fn from_words([followed, won, lost, handed]: [u64; Self::WORDS]) -> Self {
-        Tally { followed, won, lost, handed }
-    }
-
-    /// Its words.
-    pub fn words(self) -> [u64; Self::WORDS] {
-        let Tally { followed, won, lost, handed } = self;
-        [followed, won, lost, handed]
-    }
-}
-
-/// The tallies by worker, worker 0's first, of the words that [`mark`] left.
+/// The tallies by worker, worker 0's first, of the words that [`mark`] left. A reference whose target was marked when the
+/// worker looked is followed without a claim.
 ///
 /// ```
 /// use kullneyra::tallies;
@@ -368,16 +339,6 @@ impl Tally {
 /// ```
 pub fn tallies(words: &[u64]) -> impl Iterator<Item = Tally> + '_ {
     words.chunks_exact(Tally::WORDS).map(|four| Tally::from_words([four[0], four[1], four[2], four[3]]))
-}
-
-/// What a sweep found.
-#[derive(Clone, Copy, Debug, Default, PartialEq, Eq)]
-#[non_exhaustive]
-pub struct Swept {
-    /// How many objects are dead.
-    pub count: u64,
-    /// The sum of their sizes.
-    pub freed: u64,
 }
 
 /// Who claimed an object. Its text is what the drawings say: `start`, `box 0`, `nobody`.
@@ -421,43 +382,32 @@ pub fn owners<'a>(starts: &'a [u32], marks: &'a [u8]) -> impl Iterator<Item = Ow
     })
 }
 
-/// How many work words a marking of n objects by so many workers takes.
-pub const fn work_words(objects: usize, workers: usize) -> usize {
-    workers * (2 * objects + 4)
-}
+/// Exact lengths of the lent buffers, for arrays: n objects and so many workers.
+pub mod lengths {
+    /// The work words of a marking.
+    pub const fn work(objects: usize, workers: usize) -> usize {
+        workers * (2 * objects + 4)
+    }
 
-/// How many words the tallies of so many workers are.
-pub const fn tally_words(workers: usize) -> usize {
-    workers * Tally::WORDS
-}
+    /// The words of the tallies.
+    pub const fn tallies(workers: usize) -> usize {
+        workers * crate::Tally::WORDS
+    }
 
-/// How many words a collection of n objects by so many workers is saved in.
-pub const fn saved_words(objects: usize, workers: usize) -> usize {
-    16 + 12 * workers + objects + work_words(objects, workers)
-}
+    /// The words of a saved collection, as [`saved_words`](crate::saved_words) answers.
+    pub const fn saved(objects: usize, workers: usize) -> usize {
+        16 + 12 * workers + objects + work(objects, workers)
+    }
 
-/// Reads only the catalogue's header record.
-pub fn header(catalogue: &[u8]) -> Result<Header, Refusal> {
-    let mut result = [0; 3];
-    answer(raw::header(catalogue, &mut result))?;
-    let [objects, references, index] = result;
-    Ok(Header { objects, references, index })
-}
+    /// The work words of [`hops`](crate::hops), as [`hop_words`](crate::hop_words) answers.
+    pub const fn hop_work(objects: usize) -> usize {
+        2 * objects
+    }
 
-/// Checks the whole catalogue and fills n + 1 offsets, m targets, n sizes and [`STARTS`] words of starts: the index,
-/// the leases in catalogue order, and zeros behind them. A subject record fills in a reference from the subject to the
-/// object that names it, so that a signature lives while its image does.
-pub fn read(
-    catalogue: &[u8],
-    offsets: &mut [u32],
-    targets: &mut [u32],
-    sizes: &mut [u64],
-    starts: &mut [u32],
-) -> Result<Store, Refusal> {
-    let mut result = [0; 4];
-    answer(raw::read(catalogue, offsets, targets, sizes, starts, &mut result))?;
-    let [objects, references, index, starts] = result;
-    Ok(Store { objects, references, index, starts })
+    /// The work words of [`add`](crate::add) and [`remove`](crate::remove), as [`update_words`](crate::update_words) answers.
+    pub const fn update_work(objects: usize) -> usize {
+        objects
+    }
 }
 
 /// The references of one object: that part of the targets, or the empty part.
@@ -467,128 +417,6 @@ pub fn references<'a>(offsets: &[u32], targets: &'a [u32], object: u32) -> &'a [
     debug_assert_eq!(number, 0);
     let (start, length) = (part[0] as usize, part[1] as usize);
     &targets[start..start + length]
-}
-
-/// Marks what the starts reach, by the turns of the schedule. The starts are the index and then the
-/// leases, 1 to [`STARTS`] in all; a repeated one adds nothing. Marks are n bytes, work is
-/// [`work_words`] words and tallies are [`tally_words`] words; all may hold anything before.
-///
-/// A mark is 0 where the object was not reached, 1 at a start, and b + 1 where worker b claimed the
-/// object; [`owners`] gives them by name. The words of the tallies tell what each worker did; [`tallies`]
-/// gives them by name.
-#[allow(clippy::too_many_arguments)]
-pub fn mark(
-    offsets: &[u32],
-    targets: &[u32],
-    starts: &[u32],
-    settings: Settings,
-    schedule: Schedule<'_>,
-    marks: &mut [u8],
-    work: &mut [u32],
-    tallies: &mut [u64],
-) -> Result<Marked, Refusal> {
-    let Settings { workers, batch, cutoff } = settings;
-    let mut result = [0; Marked::WORDS];
-    let number =
-        raw::mark(offsets, targets, starts, workers, batch, cutoff, schedule.0, marks, work, tallies, &mut result);
-    answer(number)?;
-    Ok(Marked::from_words(result))
-}
-
-/// How many words a saved collection of n objects with so many workers takes, by the library; [`saved_words`] is the same
-/// number for an array's length.
-///
-/// ```
-/// use kullneyra::{saved_length, saved_words, Refusal};
-///
-/// assert_eq!(saved_length(6, 2), Ok(saved_words(6, 2) as u64));
-/// assert_eq!(saved_length(6, 17), Err(Refusal::Setting));
-/// ```
-pub fn saved_length(objects: u32, workers: u32) -> Result<u64, Refusal> {
-    let mut result = [0];
-    answer(raw::saved_words(objects, workers, &mut result))?;
-    Ok(result[0])
-}
-
-/// As [`mark`], and saves the collection in [`saved_words`] words, which may hold anything before. Whoever wants to go on
-/// later keeps these words and nothing else of the run: marks and tallies are in them.
-#[allow(clippy::too_many_arguments)]
-pub fn begin(
-    offsets: &[u32],
-    targets: &[u32],
-    starts: &[u32],
-    settings: Settings,
-    schedule: Schedule<'_>,
-    marks: &mut [u8],
-    work: &mut [u32],
-    tallies: &mut [u64],
-    saved: &mut [u32],
-) -> Result<Marked, Refusal> {
-    let Settings { workers, batch, cutoff } = settings;
-    let mut result = [0; Marked::WORDS];
-    let turns = schedule.0;
-    let number =
-        raw::begin(offsets, targets, starts, workers, batch, cutoff, turns, marks, work, tallies, saved, &mut result);
-    answer(number)?;
-    Ok(Marked::from_words(result))
-}
-
-/// Takes a saved collection up with more turns, and saves it again. The graph, the starts and the settings are those that
-/// it was begun with; marks, work and tallies may hold anything before.
-///
-/// A collection begun afresh ends as one call with all the turns ends it, counts and tallies included. Words that hold no
-/// sound collection are [`Refusal::Saved`]. Whoever wrote them, a collection that is finished has marked every object that
-/// lives.
-#[allow(clippy::too_many_arguments)]
-pub fn resume(
-    offsets: &[u32],
-    targets: &[u32],
-    starts: &[u32],
-    settings: Settings,
-    schedule: Schedule<'_>,
-    marks: &mut [u8],
-    work: &mut [u32],
-    tallies: &mut [u64],
-    saved: &mut [u32],
-) -> Result<Marked, Refusal> {
-    let Settings { workers, batch, cutoff } = settings;
-    let mut result = [0; Marked::WORDS];
-    let turns = schedule.0;
-    let number =
-        raw::resume(offsets, targets, starts, workers, batch, cutoff, turns, marks, work, tallies, saved, &mut result);
-    answer(number)?;
-    Ok(Marked::from_words(result))
-}
-
-/// Lists the objects whose mark is 0, upwards, then zeros, in a list of n words.
-pub fn sweep(marks: &[u8], sizes: &[u64], list: &mut [u32]) -> Result<Swept, Refusal> {
-    let mut result = [0; 2];
-    answer(raw::sweep(marks, sizes, list, &mut result))?;
-    let [count, freed] = result;
-    Ok(Swept { count, freed })
-}
-
-/// How many bytes the schedule of so many cards has: two for each worker, for each card.
-pub fn schedule_length(cards: usize, workers: u32) -> Result<u64, Refusal> {
-    let mut result = [0];
-    answer(raw::schedule_length(cards, workers, &mut result))?;
-    Ok(result[0])
-}
-
-/// Writes the schedule of a hand of cards into a buffer of exactly [`schedule_length`] bytes. Each card is a round in which
-/// every worker has a turn, in the card's order, and asks the one after it, the last the first.
-///
-/// ```
-/// use kullneyra::deal;
-///
-/// // Card 0 is 012345 and card 719 is 543210; with two workers the others are skipped.
-/// let mut schedule = [0; 8];
-/// deal(&[0, 719], 2, &mut schedule)?;
-/// assert_eq!(schedule, [0, 1, 1, 0, 1, 0, 0, 1]);
-/// # Ok::<(), kullneyra::Refusal>(())
-/// ```
-pub fn deal(cards: &[u32], workers: u32, schedule: &mut [u8]) -> Result<(), Refusal> {
-    answer(raw::deal(cards, workers, schedule))
 }
 
 /// Two words from which cards are drawn; each draw moves them on. The first is not 0, and never becomes 0.
@@ -602,7 +430,7 @@ pub fn deal(cards: &[u32], workers: u32, schedule: &mut [u8]) -> Result<(), Refu
 ///
 /// // The schedule of two draws is that of the two cards, and it leaves the seed as the draws do.
 /// let (mut drawn, mut written) = ([0; 12], [0; 12]);
-/// again.deal(2, 3, &mut drawn)?;
+/// again.deal_seed(2, 3, &mut drawn)?;
 /// deal(&[646, 603], 3, &mut written)?;
 /// assert_eq!((drawn, again), (written, seed));
 /// # Ok::<(), kullneyra::Refusal>(())
@@ -615,193 +443,11 @@ pub struct Seed {
     pub second: u32,
 }
 
-impl Seed {
-    /// Draws a card. A seed that is refused is not moved.
-    pub fn draw(&mut self) -> Result<u32, Refusal> {
-        let (mut words, mut result) = ([self.first, self.second], [0]);
-        answer(raw::draw(&mut words, &mut result))?;
-        [self.first, self.second] = words;
-        Ok(result[0])
-    }
-
-    /// Writes the schedule of so many draws into a buffer of exactly the [`schedule_length`] of so many cards. Beside a
-    /// refusal the seed is not moved.
-    pub fn deal(&mut self, rounds: usize, workers: u32, schedule: &mut [u8]) -> Result<(), Refusal> {
-        let mut words = [self.first, self.second];
-        answer(raw::deal_seed(&mut words, rounds, workers, schedule))?;
-        [self.first, self.second] = words;
-        Ok(())
-    }
-}
-
 /// The hop count of an object to which no chain of references leads.
 pub const NO_HOPS: u32 = 4_294_967_295;
 
-/// How many work words [`hops`] takes for n objects.
-pub const fn hop_words(objects: usize) -> usize {
-    2 * objects
-}
-
-/// The same number by the library.
-///
-/// ```
-/// use kullneyra::{hop_length, hop_words, Refusal};
-///
-/// assert_eq!(hop_length(6), Ok(hop_words(6) as u64));
-/// assert_eq!(hop_length(0), Err(Refusal::Count));
-/// ```
-pub fn hop_length(objects: u32) -> Result<u64, Refusal> {
-    let mut result = [0];
-    answer(raw::hop_words(objects, &mut result))?;
-    Ok(result[0])
-}
-
-/// For each object the least number of references from a start, [`NO_HOPS`] where no chain leads to it. What `hops` and
-/// the [`hop_words`] work words held before does not matter.
-///
-/// ```
-/// use kullneyra::{hop_words, hops, NO_HOPS};
-///
-/// // 0→1, 0→2, 1→3, 2→3, and nothing leads to 4.
-/// let (offsets, targets) = ([0, 2, 3, 4, 4, 4], [1, 2, 3, 3]);
-/// let (mut counts, mut work) = ([0; 5], [0; hop_words(5)]);
-/// hops(&offsets, &targets, &[0], &mut counts, &mut work)?;
-/// assert_eq!(counts, [0, 1, 1, 2, NO_HOPS]);
-/// # Ok::<(), kullneyra::Refusal>(())
-/// ```
-pub fn hops(
-    offsets: &[u32],
-    targets: &[u32],
-    starts: &[u32],
-    hops: &mut [u32],
-    work: &mut [u32],
-) -> Result<(), Refusal> {
-    answer(raw::hops(offsets, targets, starts, hops, work))
-}
-
 /// The mark of an object that [`add`] or [`remove`] finds live, where it is no start.
 pub const NEWLY_LIVE: u8 = 255;
-
-/// How many work words [`add`] and [`remove`] take for n objects.
-pub const fn update_words(objects: usize) -> usize {
-    objects
-}
-
-/// The same number by the library.
-///
-/// ```
-/// use kullneyra::{update_length, update_words, Refusal};
-///
-/// assert_eq!(update_length(6), Ok(update_words(6) as u64));
-/// assert_eq!(update_length(0), Err(Refusal::Count));
-/// ```
-pub fn update_length(objects: u32) -> Result<u64, Refusal> {
-    let mut result = [0];
-    answer(raw::update_words(objects, &mut result))?;
-    Ok(result[0])
-}
-
-/// Adds the references from `from[i]` to `to[i]` to a store and brings its marks up to date. The enlarged store goes to
-/// `new_offsets`, as long as `offsets`, and `new_targets`, as long as `targets` and `from` together; an object's new
-/// references stand behind its old ones. Objects newly live get [`NEWLY_LIVE`], and marks that are set keep their value.
-///
-/// ```
-/// use kullneyra::{add, update_words, NEWLY_LIVE};
-///
-/// // 0→1, 2→3, and 0 and 1 live. With 1→2 the others do, too.
-/// let (offsets, targets, mut marks) = ([0, 1, 1, 2, 2], [1, 3], [1, 1, 0, 0]);
-/// let (mut new_offsets, mut new_targets, mut work) = ([0; 5], [0; 3], [0; update_words(4)]);
-/// add(&offsets, &targets, &[1], &[2], &mut new_offsets, &mut new_targets, &mut marks, &mut work)?;
-/// assert_eq!((new_offsets, new_targets), ([0, 1, 2, 3, 3], [1, 2, 3]));
-/// assert_eq!(marks, [1, 1, NEWLY_LIVE, NEWLY_LIVE]);
-/// # Ok::<(), kullneyra::Refusal>(())
-/// ```
-#[allow(clippy::too_many_arguments)]
-pub fn add(
-    offsets: &[u32],
-    targets: &[u32],
-    from: &[u32],
-    to: &[u32],
-    new_offsets: &mut [u32],
-    new_targets: &mut [u32],
-    marks: &mut [u8],
-    work: &mut [u32],
-) -> Result<(), Refusal> {
-    answer(raw::add(offsets, targets, from, to, new_offsets, new_targets, marks, work))
-}
-
-/// Takes the references with these numbers out of a store, a repeated number counting once, and marks afresh: 1 for a
-/// start, [`NEWLY_LIVE`] for what else is reached. `new_targets` is as long as references remain.
-///
-/// ```
-/// use kullneyra::{remove, update_words, NEWLY_LIVE};
-///
-/// // 0→1, 0→2, 1→2: without reference 1 object 2 is still reached.
-/// let (offsets, targets, mut marks) = ([0, 2, 3, 3], [1, 2, 2], [0; 3]);
-/// let (mut new_offsets, mut new_targets, mut work) = ([0; 4], [0; 2], [0; update_words(3)]);
-/// remove(&offsets, &targets, &[1, 1], &[0], &mut new_offsets, &mut new_targets, &mut marks, &mut work)?;
-/// assert_eq!((new_offsets, new_targets), ([0, 1, 2, 2], [1, 2]));
-/// assert_eq!(marks, [1, NEWLY_LIVE, NEWLY_LIVE]);
-/// # Ok::<(), kullneyra::Refusal>(())
-/// ```
-#[allow(clippy::too_many_arguments)]
-pub fn remove(
-    offsets: &[u32],
-    targets: &[u32],
-    numbers: &[u32],
-    starts: &[u32],
-    new_offsets: &mut [u32],
-    new_targets: &mut [u32],
-    marks: &mut [u8],
-    work: &mut [u32],
-) -> Result<(), Refusal> {
-    answer(raw::remove(offsets, targets, numbers, starts, new_offsets, new_targets, marks, work))
-}
-
-/// What the counts of a Matrix Market text say, so that buffers can be lent to [`import`]. Looks only at what stands before
-/// the pairs. The index is 0.
-pub fn market_header(text: &[u8]) -> Result<Header, Refusal> {
-    let mut result = [0; 3];
-    answer(raw::market_header(text, &mut result))?;
-    let [objects, references, index] = result;
-    Ok(Header { objects, references, index })
-}
-
-/// A graph from the text of a Matrix Market file: the pairs in their order, sizes of 0, and index 0.
-///
-/// ```
-/// use kullneyra::{export, export_length, import, market_header};
-///
-/// let text = b"%%MatrixMarket matrix coordinate pattern general\n% two pages\n2 2 2\n2 1\n1 2\n";
-/// let header = market_header(text)?;
-/// let (mut offsets, mut targets, mut sizes) = ([9; 3], [9; 2], [9; 2]);
-/// assert_eq!(import(text, &mut offsets, &mut targets, &mut sizes)?, header);
-/// assert_eq!((offsets, targets, sizes), ([0, 1, 2], [1, 0], [0, 0]));
-///
-/// let mut out = vec![0; export_length(&offsets, &targets)? as usize];
-/// export(&offsets, &targets, &mut out)?;
-/// assert_eq!(out, b"%%MatrixMarket matrix coordinate pattern general\n2 2 2\n1 2\n2 1\n");
-/// # Ok::<(), kullneyra::Refusal>(())
-/// ```
-pub fn import(text: &[u8], offsets: &mut [u32], targets: &mut [u32], sizes: &mut [u64]) -> Result<Header, Refusal> {
-    let mut result = [0; 3];
-    answer(raw::import(text, offsets, targets, sizes, &mut result))?;
-    let [objects, references, index] = result;
-    Ok(Header { objects, references, index })
-}
-
-/// How many bytes the Matrix Market text of a graph has.
-pub fn export_length(offsets: &[u32], targets: &[u32]) -> Result<u64, Refusal> {
-    let mut result = [0];
-    answer(raw::export_length(offsets, targets, &mut result))?;
-    Ok(result[0])
-}
-
-/// Writes the Matrix Market text of a graph, object after object, into a buffer of exactly its [`export_length`]. It is read
-/// as the same offsets and targets.
-pub fn export(offsets: &[u32], targets: &[u32], out: &mut [u8]) -> Result<(), Refusal> {
-    answer(raw::export(offsets, targets, out))
-}
 
 #[cfg(test)]
 mod tests {
@@ -847,7 +493,7 @@ mod tests {
         let marked =
             resume(&[0, 0], &[], &[0], settings, none, &mut [0], &mut [], &mut [], &mut []).unwrap_or_default();
         assert_eq!(marked.words(), [0; Marked::WORDS]);
-        assert_eq!(saved_length(0, 0).unwrap_or_default(), 0);
+        assert_eq!(saved_words(0, 0).unwrap_or_default(), 0);
         assert_eq!(Tally::default().words(), [0; Tally::WORDS]);
         assert_eq!(sweep(&[], &[], &mut []).unwrap_or_default(), Swept { count: 0, freed: 0 });
     }
@@ -866,12 +512,12 @@ mod tests {
         let (mut marks, mut list) = ([0], [0]);
         assert_eq!(sweep(&marks, &[LARGEST_SIZE], &mut list).map(|swept| swept.freed), Ok(LARGEST_SIZE));
         assert_eq!(sweep(&marks, &[LARGEST_SIZE + 1], &mut list), Err(Refusal::Size));
-        let mut work = [0; work_words(1, MOST_WORKERS as usize)];
-        let mut tallies = [0; tally_words(MOST_WORKERS as usize)];
+        let mut work = [0; lengths::work(1, MOST_WORKERS as usize)];
+        let mut tallies = [0; lengths::tallies(MOST_WORKERS as usize)];
         let mut alone = |starts: usize, workers: u32, setting| {
             let settings = Settings { workers, batch: setting, cutoff: setting };
             let workers = workers.min(MOST_WORKERS) as usize;
-            let (work, tallies) = (&mut work[..work_words(1, workers)], &mut tallies[..tally_words(workers)]);
+            let (work, tallies) = (&mut work[..lengths::work(1, workers)], &mut tallies[..lengths::tallies(workers)]);
             let starts = &[0; STARTS + 1][..starts];
             mark(&[0, 0], &[], starts, settings, Schedule::new(&[]), &mut marks, work, tallies)
         };
@@ -884,20 +530,25 @@ mod tests {
     }
 
     #[test]
-    fn saved_lengths_are_the_library_s() {
+    fn lengths_are_the_library_s() {
         for (objects, workers) in [(1, 1), (1, 16), (6, 2), (MOST_OBJECTS, 1), (MOST_OBJECTS, 16)] {
-            assert_eq!(saved_length(objects as u32, workers as u32), Ok(saved_words(objects, workers) as u64));
+            assert_eq!(saved_words(objects as u32, workers as u32), Ok(lengths::saved(objects, workers) as u64));
+            assert_eq!(hop_words(objects as u32), Ok(lengths::hop_work(objects) as u64));
+            assert_eq!(update_words(objects as u32), Ok(lengths::update_work(objects) as u64));
         }
-        assert_eq!(saved_length(1, 0), Err(Refusal::Setting));
-        assert_eq!(saved_length(0, MOST_WORKERS + 1), Err(Refusal::Setting));
-        assert_eq!(saved_length(0, 1), Err(Refusal::Count));
-        assert_eq!(saved_length(MOST_OBJECTS as u32 + 1, 1), Err(Refusal::Count));
+        for objects in [0, MOST_OBJECTS as u32 + 1] {
+            assert_eq!((hop_words(objects), update_words(objects)), (Err(Refusal::Count), Err(Refusal::Count)));
+        }
+        assert_eq!(saved_words(1, 0), Err(Refusal::Setting));
+        assert_eq!(saved_words(0, MOST_WORKERS + 1), Err(Refusal::Setting));
+        assert_eq!(saved_words(0, 1), Err(Refusal::Count));
+        assert_eq!(saved_words(MOST_OBJECTS as u32 + 1, 1), Err(Refusal::Count));
     }
 
     /// An object without references: begun without a turn, taken up with one; one word more or less, and all zeros.
     #[test]
     fn saved_words_are_exact() {
-        const WORDS: usize = saved_words(1, 1);
+        const WORDS: usize = lengths::saved(1, 1);
         let settings = Settings { workers: 1, batch: 1, cutoff: 1 };
         let (mut marks, mut work, mut words, mut saved) = ([7], [7; 6], [7; 4], [7; WORDS + 1]);
         let (none, one) = (Schedule::from_bytes(&[]), Schedule::from_bytes(&[0, 0]));
@@ -950,12 +601,12 @@ mod tests {
         let mut none = Seed { first: 0, second: 5 };
         assert_eq!(none.draw(), Err(Refusal::Seed));
         let mut schedule = [9; 4];
-        assert_eq!(none.deal(2, 0, &mut schedule), Err(Refusal::Setting));
-        assert_eq!(none.deal(2, 7, &mut schedule), Err(Refusal::Seed));
+        assert_eq!(none.deal_seed(2, 0, &mut schedule), Err(Refusal::Setting));
+        assert_eq!(none.deal_seed(2, 7, &mut schedule), Err(Refusal::Seed));
         assert_eq!(none, Seed { first: 0, second: 5 });
         let mut one = Seed { first: 1, second: 5 };
-        assert_eq!(one.deal(2, 7, &mut schedule), Err(Refusal::Cards));
-        assert_eq!(one.deal(1, 1, &mut schedule), Err(Refusal::Buffer));
+        assert_eq!(one.deal_seed(2, 7, &mut schedule), Err(Refusal::Cards));
+        assert_eq!(one.deal_seed(1, 1, &mut schedule), Err(Refusal::Buffer));
         assert_eq!((one, schedule), (Seed { first: 1, second: 5 }, [9; 4]));
     }
 

@@ -1,9 +1,8 @@
-//! The proved functions that the C header declares: the answer is 0 or a refusal's number, and result
-//! words go to a lent buffer. Its length is looked at before all else (another one is 7), and beside a
-//! refusal the words are left as they are. Most callers want the functions of the crate itself.
+//! The C functions on slices, written by tools/boundary.py from crates/kullneyra/src/lib.rt: the answer is 0 or a
+//! refusal's number, and result words go to a lent buffer. Its length is looked at before all else (another one is 7),
+//! and beside a refusal the words are left as they are. Most callers want the functions of the crate itself.
 
 mod c {
-    // As in include/kullneyra.h.
     extern "C" {
         pub fn kullneyra_header(bytes: *const u8, bytes_len: usize, result: *mut u32, result_len: usize) -> u32;
         pub fn kullneyra_read(
@@ -124,35 +123,6 @@ mod c {
             schedule: *mut u8,
             schedule_len: usize,
         ) -> u32;
-        pub fn kullneyra_market_header(text: *const u8, text_len: usize, result: *mut u32, result_len: usize) -> u32;
-        pub fn kullneyra_import(
-            text: *const u8,
-            text_len: usize,
-            offsets: *mut u32,
-            offsets_len: usize,
-            targets: *mut u32,
-            targets_len: usize,
-            sizes: *mut u64,
-            sizes_len: usize,
-            result: *mut u32,
-            result_len: usize,
-        ) -> u32;
-        pub fn kullneyra_export_length(
-            offsets: *const u32,
-            offsets_len: usize,
-            targets: *const u32,
-            targets_len: usize,
-            result: *mut u64,
-            result_len: usize,
-        ) -> u32;
-        pub fn kullneyra_export(
-            offsets: *const u32,
-            offsets_len: usize,
-            targets: *const u32,
-            targets_len: usize,
-            out: *mut u8,
-            out_len: usize,
-        ) -> u32;
         pub fn kullneyra_hop_words(objects: u32, result: *mut u64, result_len: usize) -> u32;
         pub fn kullneyra_hops(
             offsets: *const u32,
@@ -203,17 +173,45 @@ mod c {
             work: *mut u32,
             work_len: usize,
         ) -> u32;
+        pub fn kullneyra_market_header(text: *const u8, text_len: usize, result: *mut u32, result_len: usize) -> u32;
+        pub fn kullneyra_import(
+            text: *const u8,
+            text_len: usize,
+            offsets: *mut u32,
+            offsets_len: usize,
+            targets: *mut u32,
+            targets_len: usize,
+            sizes: *mut u64,
+            sizes_len: usize,
+            result: *mut u32,
+            result_len: usize,
+        ) -> u32;
+        pub fn kullneyra_export_length(
+            offsets: *const u32,
+            offsets_len: usize,
+            targets: *const u32,
+            targets_len: usize,
+            result: *mut u64,
+            result_len: usize,
+        ) -> u32;
+        pub fn kullneyra_export(
+            offsets: *const u32,
+            offsets_len: usize,
+            targets: *const u32,
+            targets_len: usize,
+            out: *mut u8,
+            out_len: usize,
+        ) -> u32;
     }
 }
 
-/// Reads only the catalogue's header record. Result words: n, m, index.
+/// [`crate::header`] on words. Result words: n, m, index.
 pub fn header(bytes: &[u8], result: &mut [u32]) -> u32 {
-    // SAFETY: each pointer comes with the length of its own slice, and the slices do not overlap.
+    // SAFETY: each pointer comes with the length of its own slice, and a slice that is written overlaps no other.
     unsafe { c::kullneyra_header(bytes.as_ptr(), bytes.len(), result.as_mut_ptr(), result.len()) }
 }
 
-/// Checks the whole catalogue and fills offsets, targets, sizes and starts. Result words: n, m, index and the number
-/// of starts.
+/// [`crate::read`] on words. Result words: n, m, index, starts.
 pub fn read(
     bytes: &[u8],
     offsets: &mut [u32],
@@ -222,7 +220,7 @@ pub fn read(
     starts: &mut [u32],
     result: &mut [u32],
 ) -> u32 {
-    // SAFETY: as in `header`.
+    // SAFETY: each pointer comes with the length of its own slice, and a slice that is written overlaps no other.
     unsafe {
         c::kullneyra_read(
             bytes.as_ptr(),
@@ -241,9 +239,9 @@ pub fn read(
     }
 }
 
-/// The references of one object. Result words: where its part of the targets starts, and its length.
+/// [`crate::references`] on words. Result words: start, length.
 pub fn references(offsets: &[u32], targets: &[u32], object: u32, result: &mut [u64]) -> u32 {
-    // SAFETY: as in `header`.
+    // SAFETY: each pointer comes with the length of its own slice, and a slice that is written overlaps no other.
     unsafe {
         c::kullneyra_references(
             offsets.as_ptr(),
@@ -257,9 +255,7 @@ pub fn references(offsets: &[u32], targets: &[u32], object: u32, result: &mut [u
     }
 }
 
-/// Marks by the turns of the schedule. Result words: the fields of [`Marked`](crate::Marked), with 1 or
-/// 0 for finished; [`Marked::from_words`](crate::Marked::from_words) names them. The tallies are the fields of
-/// [`Tally`](crate::Tally) for each worker.
+/// [`crate::mark`] on words. Result words: finished, live, followed, handed, refused, moved, carrying.
 #[allow(clippy::too_many_arguments)]
 pub fn mark(
     offsets: &[u32],
@@ -274,7 +270,7 @@ pub fn mark(
     tallies: &mut [u64],
     result: &mut [u64],
 ) -> u32 {
-    // SAFETY: as in `header`.
+    // SAFETY: each pointer comes with the length of its own slice, and a slice that is written overlaps no other.
     unsafe {
         c::kullneyra_mark(
             offsets.as_ptr(),
@@ -300,13 +296,13 @@ pub fn mark(
     }
 }
 
-/// How many words a saved collection takes. One result word.
+/// [`crate::saved_words`] on words. One result word.
 pub fn saved_words(objects: u32, workers: u32, result: &mut [u64]) -> u32 {
-    // SAFETY: as in `header`.
+    // SAFETY: each pointer comes with the length of its own slice, and a slice that is written overlaps no other.
     unsafe { c::kullneyra_saved_words(objects, workers, result.as_mut_ptr(), result.len()) }
 }
 
-/// As [`mark`], and saves the collection.
+/// [`crate::begin`] on words. Result words: finished, live, followed, handed, refused, moved, carrying.
 #[allow(clippy::too_many_arguments)]
 pub fn begin(
     offsets: &[u32],
@@ -322,7 +318,7 @@ pub fn begin(
     saved: &mut [u32],
     result: &mut [u64],
 ) -> u32 {
-    // SAFETY: as in `header`.
+    // SAFETY: each pointer comes with the length of its own slice, and a slice that is written overlaps no other.
     unsafe {
         c::kullneyra_begin(
             offsets.as_ptr(),
@@ -350,7 +346,7 @@ pub fn begin(
     }
 }
 
-/// Takes a saved collection up, and saves it again. Result words as of [`mark`].
+/// [`crate::resume`] on words. Result words: finished, live, followed, handed, refused, moved, carrying.
 #[allow(clippy::too_many_arguments)]
 pub fn resume(
     offsets: &[u32],
@@ -366,7 +362,7 @@ pub fn resume(
     saved: &mut [u32],
     result: &mut [u64],
 ) -> u32 {
-    // SAFETY: as in `header`.
+    // SAFETY: each pointer comes with the length of its own slice, and a slice that is written overlaps no other.
     unsafe {
         c::kullneyra_resume(
             offsets.as_ptr(),
@@ -394,9 +390,9 @@ pub fn resume(
     }
 }
 
-/// Lists the objects whose mark is 0, upwards, then zeros. Result words: count, freed.
+/// [`crate::sweep`] on words. Result words: count, freed.
 pub fn sweep(marks: &[u8], sizes: &[u64], list: &mut [u32], result: &mut [u64]) -> u32 {
-    // SAFETY: as in `header`.
+    // SAFETY: each pointer comes with the length of its own slice, and a slice that is written overlaps no other.
     unsafe {
         c::kullneyra_sweep(
             marks.as_ptr(),
@@ -411,41 +407,41 @@ pub fn sweep(marks: &[u8], sizes: &[u64], list: &mut [u32], result: &mut [u64]) 
     }
 }
 
-/// How many bytes the schedule of so many cards has. Result words: bytes.
+/// [`crate::schedule_length`] on words. Result words: bytes.
 pub fn schedule_length(cards: usize, workers: u32, result: &mut [u64]) -> u32 {
-    // SAFETY: as in `header`.
+    // SAFETY: each pointer comes with the length of its own slice, and a slice that is written overlaps no other.
     unsafe { c::kullneyra_schedule_length(cards, workers, result.as_mut_ptr(), result.len()) }
 }
 
-/// The schedule of a hand of cards. There are no result words.
+/// [`crate::deal`] on words. There are no result words.
 pub fn deal(cards: &[u32], workers: u32, schedule: &mut [u8]) -> u32 {
-    // SAFETY: as in `header`.
+    // SAFETY: each pointer comes with the length of its own slice, and a slice that is written overlaps no other.
     unsafe { c::kullneyra_deal(cards.as_ptr(), cards.len(), workers, schedule.as_mut_ptr(), schedule.len()) }
 }
 
-/// A draw, which moves the two words of the seed. Result words: the card.
+/// [`crate::Seed::draw`] on words. Result words: card.
 pub fn draw(seed: &mut [u32], result: &mut [u32]) -> u32 {
-    // SAFETY: as in `header`.
+    // SAFETY: each pointer comes with the length of its own slice, and a slice that is written overlaps no other.
     unsafe { c::kullneyra_draw(seed.as_mut_ptr(), seed.len(), result.as_mut_ptr(), result.len()) }
 }
 
-/// The schedule of so many draws, which move the two words of the seed. There are no result words.
+/// [`crate::Seed::deal_seed`] on words. There are no result words.
 pub fn deal_seed(seed: &mut [u32], rounds: usize, workers: u32, schedule: &mut [u8]) -> u32 {
-    // SAFETY: as in `header`.
+    // SAFETY: each pointer comes with the length of its own slice, and a slice that is written overlaps no other.
     unsafe {
         c::kullneyra_deal_seed(seed.as_mut_ptr(), seed.len(), rounds, workers, schedule.as_mut_ptr(), schedule.len())
     }
 }
 
-/// How many work words the hop counts take. One result word.
+/// [`crate::hop_words`] on words. One result word.
 pub fn hop_words(objects: u32, result: &mut [u64]) -> u32 {
-    // SAFETY: as in `header`.
+    // SAFETY: each pointer comes with the length of its own slice, and a slice that is written overlaps no other.
     unsafe { c::kullneyra_hop_words(objects, result.as_mut_ptr(), result.len()) }
 }
 
-/// The hop count of each object. There are no result words.
+/// [`crate::hops`] on words. There are no result words.
 pub fn hops(offsets: &[u32], targets: &[u32], starts: &[u32], hops: &mut [u32], work: &mut [u32]) -> u32 {
-    // SAFETY: as in `header`.
+    // SAFETY: each pointer comes with the length of its own slice, and a slice that is written overlaps no other.
     unsafe {
         c::kullneyra_hops(
             offsets.as_ptr(),
@@ -462,13 +458,13 @@ pub fn hops(offsets: &[u32], targets: &[u32], starts: &[u32], hops: &mut [u32], 
     }
 }
 
-/// How many work words adding and taking out take. One result word.
+/// [`crate::update_words`] on words. One result word.
 pub fn update_words(objects: u32, result: &mut [u64]) -> u32 {
-    // SAFETY: as in `header`.
+    // SAFETY: each pointer comes with the length of its own slice, and a slice that is written overlaps no other.
     unsafe { c::kullneyra_update_words(objects, result.as_mut_ptr(), result.len()) }
 }
 
-/// Adds references and brings the marks up to date. There are no result words.
+/// [`crate::add`] on words. There are no result words.
 #[allow(clippy::too_many_arguments)]
 pub fn add(
     offsets: &[u32],
@@ -480,7 +476,7 @@ pub fn add(
     marks: &mut [u8],
     work: &mut [u32],
 ) -> u32 {
-    // SAFETY: as in `header`.
+    // SAFETY: each pointer comes with the length of its own slice, and a slice that is written overlaps no other.
     unsafe {
         c::kullneyra_add(
             offsets.as_ptr(),
@@ -503,7 +499,7 @@ pub fn add(
     }
 }
 
-/// Takes references out and marks afresh. There are no result words.
+/// [`crate::remove`] on words. There are no result words.
 #[allow(clippy::too_many_arguments)]
 pub fn remove(
     offsets: &[u32],
@@ -515,7 +511,7 @@ pub fn remove(
     marks: &mut [u8],
     work: &mut [u32],
 ) -> u32 {
-    // SAFETY: as in `header`.
+    // SAFETY: each pointer comes with the length of its own slice, and a slice that is written overlaps no other.
     unsafe {
         c::kullneyra_remove(
             offsets.as_ptr(),
@@ -538,15 +534,15 @@ pub fn remove(
     }
 }
 
-/// The counts of a Matrix Market text. Result words: n, m, index.
+/// [`crate::market_header`] on words. Result words: n, m, index.
 pub fn market_header(text: &[u8], result: &mut [u32]) -> u32 {
-    // SAFETY: as in `header`.
+    // SAFETY: each pointer comes with the length of its own slice, and a slice that is written overlaps no other.
     unsafe { c::kullneyra_market_header(text.as_ptr(), text.len(), result.as_mut_ptr(), result.len()) }
 }
 
-/// A graph from a Matrix Market text. Result words: n, m, index.
+/// [`crate::import`] on words. Result words: n, m, index.
 pub fn import(text: &[u8], offsets: &mut [u32], targets: &mut [u32], sizes: &mut [u64], result: &mut [u32]) -> u32 {
-    // SAFETY: as in `header`.
+    // SAFETY: each pointer comes with the length of its own slice, and a slice that is written overlaps no other.
     unsafe {
         c::kullneyra_import(
             text.as_ptr(),
@@ -563,9 +559,9 @@ pub fn import(text: &[u8], offsets: &mut [u32], targets: &mut [u32], sizes: &mut
     }
 }
 
-/// How many bytes the Matrix Market text of a graph has. One result word.
+/// [`crate::export_length`] on words. One result word.
 pub fn export_length(offsets: &[u32], targets: &[u32], result: &mut [u64]) -> u32 {
-    // SAFETY: as in `header`.
+    // SAFETY: each pointer comes with the length of its own slice, and a slice that is written overlaps no other.
     unsafe {
         c::kullneyra_export_length(
             offsets.as_ptr(),
@@ -578,9 +574,9 @@ pub fn export_length(offsets: &[u32], targets: &[u32], result: &mut [u64]) -> u3
     }
 }
 
-/// The Matrix Market text of a graph. There are no result words.
+/// [`crate::export`] on words. There are no result words.
 pub fn export(offsets: &[u32], targets: &[u32], out: &mut [u8]) -> u32 {
-    // SAFETY: as in `header`.
+    // SAFETY: each pointer comes with the length of its own slice, and a slice that is written overlaps no other.
     unsafe {
         c::kullneyra_export(
             offsets.as_ptr(),

@@ -5,8 +5,8 @@
 //! byte first: how many turns of the order were made, and the saved words. It is written beside and renamed, so a crash
 //! leaves the old one or the new one; whichever it is, the next call goes on from there.
 
-use kullneyra::{begin, header, read, resume, saved_words, sweep, tallies, tally_words, work_words};
-use kullneyra::{Marked, Refusal, Schedule, Settings, MOST_SETTING, MOST_WORKERS, STARTS};
+use kullneyra::{begin, header, lengths, read, resume, sweep, tallies};
+use kullneyra::{Marked, Refusal, Schedule, Settings, Tally, MOST_SETTING, MOST_WORKERS, STARTS};
 use std::fmt::Write as _;
 use std::fs::{self, File};
 use std::io::{self, ErrorKind, Write as _};
@@ -62,19 +62,21 @@ fn keep(made: usize, saved: &[u32]) -> io::Result<()> {
 
 fn lines(marked: Marked, words: &[u64]) -> String {
     let mut text = String::from(if marked.finished { "finished\n" } else { "unfinished\n" });
-    let names = ["live", "followed", "handed", "refused", "moved", "carrying"];
-    for (name, count) in names.iter().zip(&marked.words()[1..]) {
+    for (name, count) in Marked::NAMES.iter().zip(marked.words()).skip(1) {
         let _ = writeln!(text, "{name} {count}");
     }
     for (b, tally) in tallies(words).enumerate() {
-        let [followed, won, lost, handed] = tally.words();
-        let _ = writeln!(text, "box {b} followed {followed} won {won} lost {lost} handed {handed}");
+        let _ = write!(text, "box {b}");
+        for (name, count) in Tally::NAMES.iter().zip(tally.words()) {
+            let _ = write!(text, " {name} {count}");
+        }
+        text.push('\n');
     }
     text
 }
 
 /// Makes so many turns, keeps the collection, and returns what is printed.
-fn go_on(turns: usize) -> Result<String, Stop> {
+fn collect(turns: usize) -> Result<String, Stop> {
     let (catalogue, order) = (load("store.cat")?, load("order.run")?);
     let &[workers, d0, d1, k0, k1, ref schedule @ ..] = &order[..] else {
         return Err(Stop::Refused(UNREADABLE));
@@ -98,8 +100,8 @@ fn go_on(turns: usize) -> Result<String, Stop> {
     }
 
     let w = usize::from(workers);
-    let (mut marks, mut work, mut words) = (vec![0; n], vec![0; work_words(n, w)], vec![0; tally_words(w)]);
-    let found = kept(saved_words(n, w))?;
+    let (mut marks, mut work, mut words) = (vec![0; n], vec![0; lengths::work(n, w)], vec![0; lengths::tallies(w)]);
+    let found = kept(lengths::saved(n, w))?;
     let made = found.as_ref().map_or(0, |&(made, _)| made);
     // The last part has the whole rest, half an entry too.
     let from = 2 * made;
@@ -109,7 +111,7 @@ fn go_on(turns: usize) -> Result<String, Stop> {
     let end = if turns < (schedule.len() - from) / 2 { from + 2 * turns } else { schedule.len() };
     let part = Schedule::from_bytes(&schedule[from..end]);
     let fresh = found.is_none();
-    let mut saved = found.map_or_else(|| vec![0; saved_words(n, w)], |(_, saved)| saved);
+    let mut saved = found.map_or_else(|| vec![0; lengths::saved(n, w)], |(_, saved)| saved);
     let call = if fresh { begin } else { resume };
     let marked = call(&offsets, &targets, starts, settings, part, &mut marks, &mut work, &mut words, &mut saved)?;
     keep(end / 2, &saved).map_err(Stop::NotKept)?;
@@ -135,7 +137,7 @@ fn main() -> ExitCode {
             return ExitCode::FAILURE;
         }
     };
-    let text = match go_on(turns) {
+    let text = match collect(turns) {
         Ok(text) => text,
         Err(Stop::Refused(number)) => format!("refusal {number}\n"),
         Err(Stop::NotKept(error)) => {
@@ -148,6 +150,30 @@ fn main() -> ExitCode {
         Err(error) => {
             eprintln!("pause: the answer was not written whole: {error}");
             ExitCode::FAILURE
+        }
+    }
+}
+
+#[cfg(test)]
+mod tests {
+    use super::*;
+
+    /// Every word of the answer and of each tally has its line or its place in one, in their order.
+    #[test]
+    fn every_count_is_printed() {
+        let counts: [u64; Marked::WORDS] = std::array::from_fn(|i| i as u64 + 1);
+        let words: Vec<u64> = (10..10 + 2 * Tally::WORDS as u64).collect();
+        let text = lines(Marked::from_words(counts), &words);
+        let told: Vec<&str> = text.lines().collect();
+        assert_eq!(told.len(), Marked::WORDS + 2);
+        assert_eq!(told[0], "finished");
+        for (i, name) in Marked::NAMES.iter().enumerate().skip(1) {
+            assert_eq!(told[i], format!("{name} {}", counts[i]));
+        }
+        for (b, tally) in words.chunks(Tally::WORDS).enumerate() {
+            let named: String =
+                Tally::NAMES.iter().zip(tally).map(|(name, count)| format!(" {name} {count}")).collect();
+            assert_eq!(told[Marked::WORDS + b], format!("box {b}{named}"));
         }
     }
 }

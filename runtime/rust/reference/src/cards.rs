@@ -37,13 +37,13 @@ pub(crate) fn check_workers(workers: u32) -> Result<(), u8> {
 }
 
 /// How many bytes the schedule of so many cards has.
-pub fn schedule_length(cards: u64, workers: u32) -> Result<u64, u8> {
+pub fn schedule_length(cards: usize, workers: u32) -> Result<u64, u8> {
     check_workers(workers)?;
-    cards.checked_mul(2 * u64::from(workers)).ok_or(7)
+    (cards as u64).checked_mul(2 * u64::from(workers)).ok_or(7)
 }
 
 /// The turns of one card.
-pub fn round(card: u32, workers: u32) -> impl Iterator<Item = [u8; 2]> {
+fn round(card: u32, workers: u32) -> impl Iterator<Item = [u8; 2]> {
     let order = deck()[card as usize].into_iter().filter(move |&b| u32::from(b) < workers);
     order.clone().zip(order.clone().skip(1).chain(order.take(1))).map(|(b, asked)| [b, asked])
 }
@@ -54,7 +54,7 @@ pub fn deal(cards: &[u32], workers: u32, schedule: &mut [u8]) -> Result<(), u8> 
     if cards.iter().any(|&card| card >= DECK) {
         return Err(15);
     }
-    if schedule_length(cards.len() as u64, workers) != Ok(schedule.len() as u64) {
+    if schedule_length(cards.len(), workers) != Ok(schedule.len() as u64) {
         return Err(7);
     }
     let turns = cards.iter().flat_map(|&card| round(card, workers));

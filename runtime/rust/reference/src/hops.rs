@@ -7,9 +7,9 @@ use std::collections::VecDeque;
 pub const NO_HOPS: u32 = 4_294_967_295;
 
 /// How many work words the proved call takes.
-pub fn hop_words(objects: usize) -> Result<u64, u8> {
-    if (1..=MOST_OBJECTS).contains(&objects) {
-        Ok(2 * objects as u64)
+pub fn hop_words(objects: u32) -> Result<u64, u8> {
+    if (1..=MOST_OBJECTS).contains(&(objects as usize)) {
+        Ok(2 * u64::from(objects))
     } else {
         Err(4)
     }

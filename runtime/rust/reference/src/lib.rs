@@ -14,16 +14,16 @@ mod seed;
 mod sweep;
 mod updates;
 
-pub use cards::{deal, deck, schedule_length, CARD_WORKERS, DECK};
-pub use catalogue::{header, part, read, references, Contents, Header};
-pub use hops::{hop_words, hops, NO_HOPS};
-pub use machine::{depth_first, mark, tallies, Call, Outcome, Tally};
-pub use market::{export, export_length, import, market_header, BANNER};
-pub use report::report;
-pub use saved::{begin, resume, saved_words, unsound, Places, FORM};
-pub use seed::{deal_seed, draw, Seed};
-pub use sweep::{sweep, Swept};
-pub use updates::{add, remove, update_words, Renewed};
+pub use cards::*;
+pub use catalogue::*;
+pub use hops::*;
+pub use machine::*;
+pub use market::*;
+pub use report::*;
+pub use saved::*;
+pub use seed::*;
+pub use sweep::*;
+pub use updates::*;
 
 pub const MOST_OBJECTS: usize = 65_536;
 pub const MOST_REFERENCES: usize = 1_048_576;

@@ -6,9 +6,9 @@ use crate::{MOST_OBJECTS, MOST_REFERENCES, STARTS};
 const NEW: u8 = 255;
 
 /// How many work words the proved calls take.
-pub fn update_words(objects: usize) -> Result<u64, u8> {
-    if (1..=MOST_OBJECTS).contains(&objects) {
-        Ok(objects as u64)
+pub fn update_words(objects: u32) -> Result<u64, u8> {
+    if (1..=MOST_OBJECTS).contains(&(objects as usize)) {
+        Ok(objects.into())
     } else {
         Err(4)
     }

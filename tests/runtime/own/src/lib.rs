@@ -2,7 +2,7 @@
 //! `match` on a refusal that must have a way for those still to come.
 #![deny(unreachable_patterns)]
 
-use kullneyra::{header, mark, read, sweep, tally_words, work_words, Refusal, Schedule, Settings, Turn, STARTS};
+use kullneyra::{header, lengths, mark, read, sweep, Refusal, Schedule, Settings, Turn, STARTS};
 use std::error::Error;
 
 /// What to do about a refusal.
@@ -38,7 +38,7 @@ pub fn dead(catalogue: &[u8]) -> Result<Vec<u32>, Box<dyn Error>> {
     let starts = &starts[..store.starts as usize];
     let settings = Settings { workers: 1, batch: 64, cutoff: 64 };
     let turns = vec![Turn { worker: 0, asked: 0 }; 7 * m + 1];
-    let (mut marks, mut work, mut tallies) = (vec![0; n], vec![0; work_words(n, 1)], [0; tally_words(1)]);
+    let (mut marks, mut work, mut tallies) = (vec![0; n], vec![0; lengths::work(n, 1)], [0; lengths::tallies(1)]);
     let schedule = Schedule::new(&turns);
     let marked = mark(&offsets, &targets, starts, settings, schedule, &mut marks, &mut work, &mut tallies)?;
     assert!(marked.finished);

@@ -1,0 +1,339 @@
+"""Tests of tools/boundary.py on a copy of the files that it reads and writes, each with something changed."""
+
+import contextlib
+import io
+import os
+import shutil
+import subprocess
+import tempfile
+import unittest
+from pathlib import Path
+
+import boundary
+from boundary import COMPARE, GO, HEADER, RAW, TOP, TYPED
+from boundary_source import COUNTS, EXPORTS, TABLE
+
+WRITTEN = (HEADER, RAW, TYPED, COMPARE, GO)
+HOP_WORDS = 'pub extern "C" fn kullneyra_hop_words(objects: u32, result: &mut [u64]) -> u32'
+HOP_BYTES = '[calls.hop_bytes]\nwords = "BYTES"\nrefusals = [4, 7]\nverb = "is"\ndoc = "How many bytes {hops} takes."\n\n'
+
+
+class Boundary(unittest.TestCase):
+    def setUp(self):
+        self.top = Path(tempfile.mkdtemp())
+        for path in (EXPORTS, COUNTS, TABLE, *WRITTEN):
+            (self.top / path).parent.mkdir(parents=True, exist_ok=True)
+            shutil.copy(TOP / path, self.top / path)
+
+    def tearDown(self):
+        shutil.rmtree(self.top)
+
+    def text(self, path):
+        return (self.top / path).read_text(encoding="utf-8")
+
+    def edit(self, path, old, new):
+        """The first place of a text changed; answers its line."""
+        before = self.text(path)
+        self.assertTrue(old in before, old)
+        (self.top / path).write_text(before.replace(old, new, 1), encoding="utf-8")
+        return before[: before.index(old)].count("\n") + 1
+
+    def run_tool(self, *arguments):
+        out = io.StringIO()
+        with contextlib.redirect_stdout(out):
+            status = boundary.main(list(arguments), self.top)
+        return status, out.getvalue()
+
+    def differing(self):
+        """The files that the check names."""
+        status, told = self.run_tool("--check")
+        self.assertEqual(status, 1 if told else 0)
+        return [line.removeprefix("boundary: ").split(":")[0] for line in told.splitlines()]
+
+    def assert_fault(self, *parts):
+        """Nothing is checked or written, and the one line that is printed has these parts."""
+        before = [self.text(path) for path in WRITTEN]
+        for arguments in (["--check"], []):
+            status, told = self.run_tool(*arguments)
+            self.assertEqual((status, told.count("\n")), (1, 1), told)
+            for part in parts:
+                self.assertIn(part, told)
+        self.assertEqual(before, [self.text(path) for path in WRITTEN])
+
+    def compiles(self, source):
+        """The header as it was written, by a program over it."""
+        command = ["gcc", "-fsyntax-only", "-Wall", "-Wextra", "-Werror", "-pedantic", f"-I{(self.top / HEADER).parent}"]
+        subprocess.run([*command, "-std=c99", source], check=True)
+        subprocess.run([*command, "-std=c++17", "-x", "c++", self.top / HEADER], check=True)
+
+    def add_export(self, signature):
+        """Another exported function in front of `kullneyra_hop_words`; answers its line."""
+        self.edit(EXPORTS, "#[no_mangle]\n" + HOP_WORDS, f"#[no_mangle]\n{signature} {{ 0 }}\n#[no_mangle]\n{HOP_WORDS}")
+        return self.text(EXPORTS)[: self.text(EXPORTS).index(signature)].count("\n") + 1
+
+
+class Files(Boundary):
+    def test_as_committed(self):
+        self.assertEqual(self.run_tool("--check"), (0, ""))
+        self.assertEqual(self.run_tool(), (0, ""))
+        for path in WRITTEN:
+            self.assertEqual(self.text(path), (TOP / path).read_text(encoding="utf-8"))
+
+    def test_changed_by_hand(self):
+        for path, old, new in (
+            (HEADER, "uint32_t object, uint64_t *result", "uint64_t object, uint64_t *result"),
+            (HEADER, "const uint8_t *marks, size_t marks_len, const uint64_t", "uint8_t *marks, size_t marks_len, const uint64_t"),
+            (HEADER, "uint64_t carrying;", "uint32_t carrying;"),
+            (HEADER, "                                            KULLNEYRA_SWEEP_WORDS);", "                                            KULLNEYRA_MARK_WORDS);"),
+            (RAW, "            object: u32,", "            object: u64,"),
+            (RAW, "            object,", "            0,"),
+            (RAW, "offsets.len()", "targets.len()"),
+            (TYPED, "pub fn hop_words(objects: u32)", "pub fn hop_words(objects: u64)"),
+            (TYPED, "pub carrying: u64", "pub carrying: u32"),
+            (COMPARE, "raw::sweep(marks, sizes, list, result)", "plain::sweep(marks, sizes, list, result)"),
+            (GO, "size_t targets_len, uint32_t object)", "size_t targets_len, uint64_t object)"),
+            (GO, "C.uint32_t(object)", "C.uint64_t(object)"),
+            (GO, "Carrying: uint64(a.carrying),", "Carrying: uint64(a.moved),"),
+        ):
+            line = self.edit(path, old, new)
+            status, told = self.run_tool("--check")
+            self.assertEqual((status, told.count("\n")), (1, 1), told)
+            self.assertTrue(told.startswith(f"boundary: {path}:{line}: "), told)
+            self.assertEqual(self.run_tool(), (0, ""))
+            self.assertEqual(self.differing(), [])
+
+    def test_more_less_or_none(self):
+        for path in WRITTEN[1:]:
+            text = self.text(path)
+            for other in (text + "\n", text[:-1], ""):
+                (self.top / path).write_text(other, encoding="utf-8")
+                self.assertEqual(self.differing(), [path])
+            (self.top / path).unlink()
+            self.assertEqual(self.differing(), [path])
+            self.assertEqual(self.run_tool(), (0, ""))
+            self.assertEqual(self.text(path), text)
+
+    def test_by_hand_around_the_marks(self):
+        self.edit(HEADER, "#define KULLNEYRA_DECK 720", "#define KULLNEYRA_DECK 721")
+        self.assertEqual(self.differing(), [])
+        self.edit(HEADER, boundary.MARKS[1], "")
+        self.assert_fault(HEADER, "/* Up to here. */")
+
+    def test_usage(self):
+        self.assertEqual(self.run_tool("--write")[0], 2)
+
+
+class Signatures(Boundary):
+    def test_a_type_reaches_every_file(self):
+        for old, new in (
+            ("kullneyra_hop_words(objects: u32,", "kullneyra_hop_words(objects: u64,"),
+            ("    object: u32,", "    object: usize,"),
+            ("    list: &mut [u32],", "    list: &mut [u64],"),
+            ("    marks: &[u8],", "    marks: &[u32],"),
+            ("kullneyra_export(offsets: &[u32], targets: &[u32], out: &mut [u8])", "kullneyra_export(targets: &[u32], offsets: &[u32], out: &mut [u8])"),
+        ):
+            self.edit(EXPORTS, old, new)
+            # The crate's function `references` is by hand.
+            self.assertEqual(self.differing(), [path for path in WRITTEN if path != TYPED or "object: u32" not in old])
+            self.assertEqual(self.run_tool(), (0, ""))
+
+    def test_a_new_call(self):
+        line = self.add_export(HOP_WORDS.replace("hop_words", "hop_bytes"))
+        self.assert_fault(f"{EXPORTS}:{line}: kullneyra_hop_bytes has no row")
+        self.edit(TABLE, "[calls.hops]", f"{HOP_BYTES}[calls.hops]")
+        self.assertEqual(self.differing(), list(WRITTEN))
+        self.assertEqual(self.run_tool(), (0, ""))
+        for path, parts in {
+            HEADER: ("kullneyra_hop_bytes(uint32_t objects, uint64_t *result, size_t result_len);", "kullneyra_hop_bytes_into(", "KULLNEYRA_BYTES_WORDS 1"),
+            RAW: ("pub fn kullneyra_hop_bytes(objects: u32, result: *mut u64, result_len: usize) -> u32;", "pub fn hop_bytes(objects: u32, result: &mut [u64]) -> u32"),
+            TYPED: ("/// How many bytes [`hops`] takes.\npub fn hop_bytes(objects: u32) -> Result<u64, Refusal>",),
+            COMPARE: ('"hop_bytes",', "        &[0, 4, 7],\n        &[0, 4, 7],\n", "raw::hop_bytes(objects, result)", "kullneyra::hop_bytes(objects)"),
+            GO: ("// HopBytes is how many bytes Hops takes.\nfunc HopBytes(objects uint32) (uint64, error)",),
+        }.items():
+            for part in parts:
+                self.assertTrue(part in self.text(path), part)
+        self.compiles(TOP / "runtime/c/collect.c")
+
+    def test_which_calls_are_of_numbers(self):
+        row = 'make: |side, given, result| side.hop_words(given[0] as u32, result),'
+        kept = self.text(EXPORTS)
+        self.assertIn(row, self.text(COMPARE))
+        for new, is_one in (
+            ("objects: u64, result: &mut [u64]", "side.hop_words(given[0], result)"),
+            ("cards: usize, objects: u32, result: &mut [u64]", "side.hop_words(given[0] as usize, given[1] as u32, result)"),
+            ("objects: &[u32], result: &mut [u64]", ""),
+            ("objects: u32, list: &mut [u32], result: &mut [u64]", ""),
+            ("objects: u32, result: &mut [u32]", ""),
+            ("result: &mut [u64]", ""),
+        ):
+            self.edit(EXPORTS, "kullneyra_hop_words(objects: u32, result: &mut [u64])", f"kullneyra_hop_words({new})")
+            self.assertEqual(self.run_tool(), (0, ""))
+            text = self.text(COMPARE)
+            with self.subTest(new):
+                # Where it is none, the compiler asks for a variant and a function by hand.
+                self.assertEqual("Call::HopWords { .. } => 12," in text, not is_one)
+                self.assertEqual("plain::hop_words(" in text, not is_one)
+                self.assertEqual("reference::hop_words(" in text, bool(is_one))
+                self.assertEqual(text.count("    NumberCall {"), 4 if is_one else 3)
+                self.assertIn(is_one, text)
+            (self.top / EXPORTS).write_text(kept, encoding="utf-8")
+        # Several result words are not one number.
+        self.edit(TABLE, 'fields = { bytes = "" }', 'fields = { bytes = "", turns = "" }')
+        self.assertEqual(self.run_tool(), (0, ""))
+        self.assertIn("Call::ScheduleLength { .. } => 8,", self.text(COMPARE))
+
+    def test_a_call_of_numbers_needs_no_other_file(self):
+        shutil.copytree(TOP / "runtime/rust", self.top / "runtime/rust", dirs_exist_ok=True)
+        (self.top / "libkullneyra.a").touch()
+        self.add_export(HOP_WORDS.replace("hop_words(", "hop_bytes(width: u64, "))
+        self.edit(TABLE, "[calls.hops]", f"{HOP_BYTES}[calls.hops]")
+        self.assertEqual(self.run_tool(), (0, ""))
+        status, told = self.check_compare()
+        self.assertNotEqual(status, 0)
+        self.assertEqual([line for line in told.splitlines() if line.startswith("error")][0], "error[E0425]: cannot find function `hop_bytes` in crate `reference`", told)
+        text = "pub fn hop_bytes(width: u64, objects: u32) -> Result<u64, u8> {\n    Ok(width * hop_words(objects)?)\n}\n\n/// How many work"
+        self.edit("runtime/rust/reference/src/hops.rs", "/// How many work", text)
+        self.assertEqual(self.check_compare(), (0, ""))
+
+    def check_compare(self):
+        """What the compiler says of the comparison in the copy, where warnings are errors."""
+        place = {"CARGO_TARGET_DIR": str(self.top / "target"), "KULLNEYRA_LIB_DIR": str(self.top), "RUSTFLAGS": "-D warnings"}
+        command = ["cargo", "check", "--offline", "--quiet", "--package", "compare", "--manifest-path"]
+        done = subprocess.run([*command, self.top / "runtime/rust/Cargo.toml"], env={**os.environ, **place}, capture_output=True, text=True)
+        return done.returncode, done.stderr
+
+    def test_a_comment_is_no_call(self):
+        self.edit(EXPORTS, "#[no_mangle]", f"// #[no_mangle]\n// {HOP_WORDS}\n#[no_mangle]")
+        self.assertEqual(self.differing(), [])
+
+    def test_not_understood(self):
+        one = "kullneyra_hop_words(objects: u32, result: &mut [u64]) -> u32"
+        kept = self.text(EXPORTS)
+        for new in (
+            "kullneyra_hop_words(objects: u16, result: &mut [u64]) -> u32",
+            "kullneyra_hop_words(objects: bool, result: &mut [u64]) -> u32",
+            "kullneyra_hop_words(objects: &[u16], result: &mut [u64]) -> u32",
+            "kullneyra_hop_words(objects: [u32; 4], result: &mut [u64]) -> u32",
+            "kullneyra_hop_words(objects: *const u32, result: &mut [u64]) -> u32",
+            "kullneyra_hop_words(objects: Option<&[u8]>, result: &mut [u64]) -> u32",
+            "kullneyra_hop_words(objects, result: &mut [u64]) -> u32",
+            "kullneyra_hop_words(objects: u32, result: &mut [u64]) -> u64",
+            "kullneyra_hop_words(result: &mut [u64], objects: u32) -> u32",
+            "kullneyra_hop_words(objects: u32, result: &[u64]) -> u32",
+            "kullneyra_hop_words(objects: u32, result: &mut [u8]) -> u32",
+            "kullneyra_hop_words(objects: u32, result: u64) -> u32",
+            "kullneyra_header(objects: u32, result: &mut [u64]) -> u32",
+            "hop_words(objects: u32, result: &mut [u64]) -> u32",
+        ):
+            line = self.edit(EXPORTS, one, new)
+            self.assert_fault(f"{EXPORTS}:{line}: ")
+            (self.top / EXPORTS).write_text(kept, encoding="utf-8")
+        lead = '#[no_mangle]\npub extern "C" fn '
+        for old, new in (
+            (lead + one, lead + "kullneyra_hop_words(objects: (u32, u32), result: &mut [u64]) -> u32"),
+            (lead + one, lead + "kullneyra_hop_words<T>(objects: u32, result: &mut [u64]) -> u32"),
+            (lead + one, lead + "kullneyra_hop_words(objects: u32, result: &mut [u64])"),
+            (lead + "kullneyra_hop_words", 'pub extern "C" fn kullneyra_hop_words'),
+            (lead + "kullneyra_hop_words", "#[no_mangle]\npub fn kullneyra_hop_words"),
+            (lead + "kullneyra_hop_words", '#[no_mangle]\nextern "C" fn kullneyra_hop_words'),
+            (lead + "kullneyra_hop_words", '#[no_mangle]\npub extern "system" fn kullneyra_hop_words'),
+            ("#[no_mangle]\npub", '#[export_name = "kullneyra_header"]\npub'),
+        ):
+            line = self.edit(EXPORTS, old, new)
+            self.assert_fault(f"{EXPORTS}:{line}: a signature that is not understood")
+            (self.top / EXPORTS).write_text(kept, encoding="utf-8")
+
+    def test_a_parameter_in_its_line(self):
+        line = self.edit(EXPORTS, "    object: u32,\n", "    object: u8,\n")
+        self.assert_fault(f"{EXPORTS}:{line}: kullneyra_references: not understood: object: u8")
+
+
+class Counts(Boundary):
+    def test_a_new_count(self):
+        self.edit(COUNTS, "    pub carrying: u64,\n", "    pub parked: u64,\n    pub carrying: u64,\n")
+        self.assert_fault("does not say what the count parked is")
+        self.edit(TABLE, 'live = "marked objects"\n', 'live = "marked objects"\nparked = "workers that wait"\n')
+        self.assertEqual(self.differing(), list(WRITTEN))
+        self.assertEqual(self.run_tool(), (0, ""))
+        for path, parts in {
+            HEADER: ("uint64_t moved;    /* turns that changed something */\n    uint64_t parked;   /* workers that wait */", "X(moved) X(parked) X(carrying)"),
+            RAW: ("moved, parked, carrying.",),
+            TYPED: ("    /// Workers that wait.\n    pub parked: u64,", '"moved", "parked", "carrying"', "pub const WORDS: usize = 8;", "u64::from(finished), live, followed, handed, refused, moved, parked, carrying]"),
+            COMPARE: ("[3, 4, 2, 8, 1, 8, 8,",),
+            GO: ("Parked   uint64 // workers that wait", "Parked:   uint64(a.parked),"),
+        }.items():
+            for part in parts:
+                self.assertTrue(part in self.text(path), part)
+        # The C example prints every count by the header's list.
+        self.compiles(TOP / "runtime/c/collect.c")
+
+    def test_many_counts_fit(self):
+        names = [f"count_{number}" for number in range(12)]
+        self.edit(COUNTS, "    pub carrying: u64,\n", "".join(f"    pub {name}: u64,\n" for name in ("carrying", *names)))
+        self.edit(TABLE, 'live = "marked', "".join(f'{name} = "{name}"\n' for name in names) + 'live = "marked')
+        self.assertEqual(self.run_tool(), (0, ""))
+        self.assertTrue(all(len(line) <= 120 for path in (HEADER, TYPED) for line in self.text(path).split("\n")))
+        self.compiles(TOP / "runtime/c/collect.c")
+
+    def test_not_understood(self):
+        kept = self.text(COUNTS)
+        for new in ("pub carrying: u32,", "carrying: u64,", "pub carrying: Option<u64>,"):
+            line = self.edit(COUNTS, "pub carrying: u64,", new)
+            self.assert_fault(f"{COUNTS}:{line}: not understood: {new}")
+            (self.top / COUNTS).write_text(kept, encoding="utf-8")
+        self.edit(COUNTS, "    pub carrying: u64,\n", "")
+        self.assert_fault(f"{COUNTS} has no count carrying")
+        self.edit(COUNTS, "pub struct Counts {", "pub struct Numbers {")
+        self.assert_fault(f"{COUNTS}: no struct Counts")
+
+
+class Table(Boundary):
+    def test_what_does_not_fit(self):
+        kept = self.text(TABLE)
+        for old, new, told in (
+            ("[calls.hops]", "[calls.hopps]", "[calls.hopps]: crates/kullneyra/src/lib.rt has no kullneyra_hopps"),
+            ('words = "HOP"\n', "", "[calls.hop_words]: a call with result words has one of answer and words"),
+            ('words = "HOP"\n', 'words = "HOP"\nanswer = "length"\n', "[calls.hop_words]: a call with result words has one"),
+            ("[calls.hops]\n", '[calls.hops]\nwords = "HOPS"\n', "[calls.hops]: a call with result words has one"),
+            ('answer = "swept"', 'answer = "sweeped"', "[calls.sweep]: no record sweeped"),
+            ('answer = "swept"', 'answer = "head"', "[records.head]: its words have 2 types"),
+            ('answer = "swept"', 'answer = "part"', "[records.swept]: its words have 0 types"),
+            ('verb = "gives"', 'verbs = "gives"', "[calls.hops]: verbs is not understood"),
+            ('doc = "Reads only the', 'c = "Reads only the', "[calls.header] has no doc"),
+            ("fields = { card = \"\" }", "", "[records.drawn] has no fields"),
+            ("work words {hops} takes", "work words {hopps} takes", "{hopps} is no call, no record and no name"),
+            ('gives = "g.Offsets, g.Targets"', 'gives = "g.Offsets"', "g Graph takes 2 and gives 1"),
+            ('moved = "turns', 'gone = "turns', "does not say what the count moved is"),
+            ("[calls.sweep]", "[calls.mark]", TABLE),
+            ("\n[names]\n", "\n[nouns]\n", "is not"),
+            (', go = "NoHops" }', " }", "[names]: NO_HOPS is said in c, rust and go"),
+            ("the fields of {tally}", "the fields of {part}", "{part} has no name in rust"),
+            ("[[groups.compare]]", "[[groups.compared]]", "[groups]: rust, go and compare"),
+            ('as = "g Graph"\n', "", "[groups.go]: a row has takes, as, gives"),
+            ("refusals = [4, 6, 7]\n", "", "[calls.sweep] has no refusals"),
+            ("refusals = [4, 6, 7]\n", "refusals = []\n", "[calls.sweep] has no refusals"),
+            ("refusals = [4, 6, 7]", "refusal = [4, 6, 7]", "[calls.sweep]: refusal is not understood"),
+            *(
+                ("refusals = [4, 6, 7]", f"refusals = {wrong}", "[calls.sweep]: refusals are numbers above 0, each once, upwards")
+                for wrong in ("[0, 4, 6, 7]", "[4, 7, 6]", "[4, 6, 6, 7]", "[4, 6, 7, 8.0]", '["4", "6", "7"]', "[true, 4, 6, 7]", "7", '"467"')
+            ),
+            ("refusals = [4, 6, 7]", "refusals = [4, 6]", "[calls.sweep]: a call that is lent a buffer refuses with 7, too"),
+            ("refusals = [7, 8, 15]\nverb = \"makes\"", "refusals = [8, 15]\nverb = \"makes\"", "[calls.deal]: a call that is lent"),
+        ):
+            self.edit(TABLE, old, new)
+            with self.subTest(new):
+                self.assert_fault(told)
+            (self.top / TABLE).write_text(kept, encoding="utf-8")
+        self.edit(TABLE, kept[kept.index("[calls.hops]") : kept.index("[calls.update_words]")], "")
+        self.assert_fault(f"{EXPORTS}:", "kullneyra_hops has no row in tools/boundary.toml")
+
+    def test_a_text_reaches_every_language(self):
+        self.edit(TABLE, "Reads only the catalogue's header record.", "Reads the header as {read} does.")
+        self.assertEqual(self.run_tool(), (0, ""))
+        self.assertIn("/* Reads the header as kullneyra_read does. */\nuint32_t kullneyra_header(", self.text(HEADER))
+        self.assertIn("/// Reads the header as [`read`] does.\npub fn header(", self.text(TYPED))
+        self.assertIn("// Header reads the header as Read does.\nfunc Header(", self.text(GO))
+
+
+if __name__ == "__main__":
+    unittest.main()

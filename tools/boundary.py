@@ -1,0 +1,83 @@
+#!/usr/bin/env python3
+"""The boundary from one source: C, Rust and Go as the signatures in crates/kullneyra/src/lib.rt have the calls.
+
+    tools/boundary.py             writes the files below, the header between its two marks
+    tools/boundary.py --check     writes nothing, says where a file is another, and ends with 1 then
+
+    runtime/include/kullneyra.h             structs, prototypes, and the forms that give their answer in a struct
+    runtime/rust/kullneyra/src/raw.rs       the C functions on slices
+    runtime/rust/kullneyra/src/calls.rs     the functions with Rust's own types
+    runtime/rust/compare/src/calls.rs       what each call may answer, the calls of numbers, the sides that only pass on
+    runtime/go/kullneyra/calls.go           the functions in Go
+
+tools/boundary.toml has what a signature does not say. What is not understood is an error, and nothing is written then.
+"""
+
+import sys
+from pathlib import Path
+from typing import Dict, Iterator, List
+
+import boundary_c
+import boundary_go
+import boundary_rust
+from boundary_source import WRITTEN, Boundary, Fault
+
+TOP = Path(__file__).resolve().parent.parent
+HEADER = "runtime/include/kullneyra.h"
+RAW = "runtime/rust/kullneyra/src/raw.rs"
+TYPED = "runtime/rust/kullneyra/src/calls.rs"
+COMPARE = "runtime/rust/compare/src/calls.rs"
+GO = "runtime/go/kullneyra/calls.go"
+MARKS = (f"/* From here on {WRITTEN}. */\n\n", "/* Up to here. */\n")
+
+
+def between_marks(text: str, part: str) -> str:
+    """The header with this part between its marks."""
+    start, end = (text.find(mark) for mark in MARKS)
+    if start < 0 or end < start:
+        raise Fault(f"{HEADER}: the lines {MARKS[0].strip()} and {MARKS[1].strip()} are not there")
+    return text[: start + len(MARKS[0])] + part + text[end:]
+
+
+def files(top: Path) -> Dict[str, str]:
+    """The files as they should be."""
+    boundary = Boundary(top)
+    return {
+        HEADER: between_marks((top / HEADER).read_text(encoding="utf-8"), boundary_c.header(boundary)),
+        RAW: boundary_rust.raw(boundary),
+        TYPED: boundary_rust.typed(boundary),
+        COMPARE: boundary_rust.compare(boundary),
+        GO: boundary_go.go(boundary),
+    }
+
+
+def differences(top: Path) -> Iterator[str]:
+    """Each file that is another, and the first line in which it is."""
+    for path, wanted in files(top).items():
+        found = (top / path).read_text(encoding="utf-8") if (top / path).exists() else ""
+        if found != wanted:
+            lines = [[*text.split("\n"), "the end"] for text in (found, wanted)]
+            number, one, other = next((at, *pair) for at, pair in enumerate(zip(*lines), 1) if pair[0] != pair[1])
+            yield f"{path}:{number}: {one.strip()!r} and not {other.strip()!r}"
+
+
+def main(arguments: List[str], top: Path = TOP) -> int:
+    if arguments not in ([], ["--check"]):
+        print(__doc__)
+        return 2
+    try:
+        if arguments:
+            found = list(differences(top))
+            for line in found:
+                print(f"boundary: {line}")
+            return 1 if found else 0
+        for path, text in files(top).items():
+            (top / path).write_text(text, encoding="utf-8")
+        return 0
+    except Fault as fault:
+        print(f"boundary: {fault}")
+        return 1
+
+
+if __name__ == "__main__":
+    sys.exit(main(sys.argv[1:]))

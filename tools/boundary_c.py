@@ -1,0 +1,127 @@
+"""The boundary in C: structs, lengths, prototypes, and the forms that give their answer in a struct."""
+
+from typing import List, Optional
+
+from boundary_source import Boundary, Call, Parameter, Record
+from boundary_text import filled, wrapped
+
+TYPES = {"u8": "uint8_t", "u32": "uint32_t", "u64": "uint64_t", "usize": "size_t"}
+
+
+def comment(text: str) -> str:
+    return "\n".join(wrapped(text, "/* ", " * ", " */")) + " */"
+
+
+def declared(parameters: List[Parameter], moved: Optional[Record] = None, by: str = "*") -> List[str]:
+    """Parameters; a record that is moved is a pointer to its struct, or the struct itself."""
+    parts = []
+    for one in parameters:
+        if moved and one.name == moved.moved:
+            parts.append(f"struct kullneyra_{moved.name} {by}{one.name}")
+        elif one.lent:
+            const = "const " if one.lent == "&" else ""
+            parts += [f"{const}{TYPES[one.type]} *{one.name}", f"size_t {one.name}_len"]
+        else:
+            parts.append(f"{TYPES[one.type]} {one.name}")
+    return parts
+
+
+def passed(parameters: List[Parameter], moved: Optional[Record] = None, *instead: str) -> List[str]:
+    """What is passed for them, something instead of a record that is moved."""
+    parts: List[str] = []
+    for one in parameters:
+        if moved and one.name == moved.moved:
+            parts += instead
+        else:
+            parts += [one.name, f"{one.name}_len"] if one.lent else [one.name]
+    return parts
+
+
+def length(words: str) -> str:
+    return f"KULLNEYRA_{words}_WORDS"
+
+
+def struct(boundary: Boundary, record: Record) -> str:
+    fields = [(f"    {TYPES[record.type]} {name};", doc) for name, doc in record.fields.items()]
+    width = max(len(field) for field, _ in fields)
+    lines = [f"{field.ljust(width)} /* {doc} */" if doc else field for field, doc in fields]
+    doc = comment(boundary.text(record.doc, "c", plain=True))
+    return "\n".join([doc, f"struct kullneyra_{record.name} {{", *lines, "};", ""])
+
+
+def counts(record: Record) -> str:
+    lines = wrapped(" ".join(f"X({name})" for name in record.counts), "#define KULLNEYRA_COUNTS(X) ", "    ", " \\")
+    told = "The counts of a marking by name, in the same order: X(live) X(followed) and so on."
+    return "\n".join([comment(told), " \\\n".join(lines), ""])
+
+
+def lengths(boundary: Boundary) -> str:
+    """The macros of the result words' lengths, each with the calls that have so many."""
+    lines = [comment("Exact lengths of the result words.")]
+    for record in boundary.records.values():
+        if record.words:
+            size = f"(sizeof(struct kullneyra_{record.name}) / sizeof({TYPES[record.type]}))"
+            calls = [call for call in boundary.calls if record in (boundary.answer(call), boundary.moved(call))]
+            lines.append(f"#define {length(record.words)} {size} /* {', '.join(call.name for call in calls)} */")
+    lines += [f"#define {length(call.words)} 1 /* {call.name} */" for call in boundary.calls if call.words]
+    return "\n".join([*lines, ""])
+
+
+def prototype(boundary: Boundary, call: Call) -> str:
+    doc = f"{boundary.text(call.doc, 'c')} {call.c}".strip()
+    if not call.result:
+        doc += " Beside the number there is no answer."
+    return "\n".join([comment(doc), filled(f"uint32_t kullneyra_{call.name}(", declared(call.all), ");"), ""])
+
+
+def into(boundary: Boundary, call: Call) -> str:
+    """The form that gives its answer in a struct, and takes a record that it moves as one."""
+    moved, record = boundary.moved(call), boundary.answer(call)
+    takes = declared(call.parameters, moved)
+    gives = passed(call.parameters, moved, "state", length(moved.words) if moved else "")
+    before, after = [], []
+    if record:
+        takes.append(f"struct kullneyra_{record.name} *answer")
+        gives += ["words", length(record.words)]
+        before.append(f"    {TYPES[record.type]} words[{length(record.words)}] = {{0}};")
+        after.append("    memcpy(answer, words, sizeof *answer);")
+    elif call.result:
+        takes.append(f"{TYPES[call.result.type]} *answer")
+        gives += ["answer", length(call.words)]
+        before.append("    *answer = 0;")
+    if moved:
+        name = moved.moved
+        before.append(f"    {TYPES[moved.type]} state[{length(moved.words)}];")
+        before.append(f"    memcpy(state, {name}, sizeof *{name});")
+        after.insert(0, f"    memcpy({name}, state, sizeof *{name});")
+    if after:
+        after.append("    return number;")
+    head = filled(f"static inline uint32_t kullneyra_{call.name}_into(", takes, ") {")
+    number = "const uint32_t number =" if after else "return"
+    return "\n".join([head, *before, filled(f"    {number} kullneyra_{call.name}(", gives, ");"), *after, "}", ""])
+
+
+def header(boundary: Boundary) -> str:
+    """The written part of the header."""
+    parts = [
+        comment(
+            "What a call answers beside its number: a struct for each answer, whose fields are the result words in their"
+            " order."
+        )
+        + "\n"
+    ]
+    for record in boundary.records.values():
+        parts.append(struct(boundary, record))
+        if record.counts:
+            parts.append(counts(record))
+    parts.append(lengths(boundary))
+    parts += [prototype(boundary, call) for call in boundary.calls]
+    parts.append(
+        comment(
+            "The same calls with a struct for the answer, which is written in every case: what the call answers where the"
+            " number is 0, and zeros beside a fault."
+        )
+        + "\n"
+    )
+    parts += [into(boundary, call) for call in boundary.calls if call.result or boundary.moved(call)]
+    return "\n".join(parts) + "\n"
