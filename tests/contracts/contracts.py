@@ -13,34 +13,13 @@ from typing import Iterator, Optional
 
 TOP = Path(__file__).resolve().parents[2]
 
-# The calls of the crates; the functions that C sees are those of the header.
-CALLS = (
-    "catalogue::header",
-    "catalogue::read",
-    "graph::references_of",
-    "marker::mark",
-    "sweep::sweep",
-    "resume::saved_length",
-    "resume::begin",
-    "resume::go_on",
-    "report::answer",
-    "cards::schedule_length",
-    "cards::deal",
-    "seed::draw",
-    "seed::deal",
-    "hops::work_words",
-    "hops::count",
-    "updates::work_words",
-    "updates::add::add",
-    "updates::remove::remove",
-    "market::header",
-    "market::import",
-    "market::export_length",
-    "market::export",
-)
 EXPORTS = Path("crates/kullneyra/src/lib.rt")
 HEADER = Path("runtime/include/kullneyra.h")
 PROMISES = Path("docs/PROMISES.md")
+
+# The paragraph of PROMISES that lists the calls of the crates; the functions that C sees are those of the header.
+LIST = re.compile(r"^The calls are .*?(?=\n\n|\Z)", re.MULTILINE | re.DOTALL)
+CALL = re.compile(r"`(\w+(?:::\w+)+)`")
 
 SKIPPED = re.compile(r"""//[^\n]*|b'(?:\\.|[^\\'])'|"(?:\\.|[^\\"])*\"""")
 CLAUSE = re.compile(r"(?:\b(requires|ensures)\s*)?\{")
@@ -52,6 +31,11 @@ def source_of(call: str) -> tuple[Path, str]:
     """The file of a call and the name of its function; a call may stand in a module of its crate."""
     crate, *module, name = call.split("::")
     return Path(f"crates/{crate}/src/{'/'.join(module) or 'lib'}.rt"), name
+
+
+def calls(promises: str) -> list[str]:
+    """The calls that PROMISES lists."""
+    return [call for found in LIST.findall(promises) for call in CALL.findall(found)]
 
 
 def bare(source: str) -> str:
@@ -86,14 +70,12 @@ def faults(top: Path) -> Iterator[str]:
     def text(path):
         return (top / path).read_text(encoding="utf-8")
 
-    promises = text(PROMISES)
-    for call in CALLS:
+    named = calls(text(PROMISES))
+    for call in named:
         path, name = source_of(call)
-        wrong = fault(bare(text(path)), rf"\bpub\s+fn\s+{name}")
+        wrong = fault(bare(text(path)), rf"\bpub\s+fn\s+{name}") if (top / path).is_file() else "is not there"
         if wrong:
             yield f"{call} {wrong}"
-        if f"`{call}`" not in promises:
-            yield f"{call} is not named by {PROMISES}"
     exports = bare(text(EXPORTS))
     declared, exported = set(PROTOTYPE.findall(text(HEADER))), set(EXPORT.findall(exports))
     for name in sorted(declared | exported):
@@ -102,6 +84,8 @@ def faults(top: Path) -> Iterator[str]:
             yield f"{name} {wrong}"
         if name not in declared:
             yield f"{name} is not in {HEADER}"
+        if name.removeprefix("kullneyra_") not in {source_of(call)[1] for call in named}:
+            yield f"{name} has no call of its name in {PROMISES}"
     if not declared:
         yield f"{HEADER} declares no function"
 

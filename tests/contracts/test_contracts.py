@@ -6,35 +6,12 @@ import unittest
 from pathlib import Path
 
 import contracts
-from contracts import CALLS, EXPORTS, HEADER, PROMISES, TOP, source_of
+from contracts import EXPORT, EXPORTS, HEADER, PROMISES, TOP, source_of
+
+CALLS = contracts.calls((TOP / PROMISES).read_text(encoding="utf-8"))
+FUNCTIONS = EXPORT.findall((TOP / EXPORTS).read_text(encoding="utf-8"))
 
 ASKING = "\n    requires { ⌜ record { n = 1 } ≡ record { n = 1 } ⌝ }"
-FUNCTIONS = tuple(
-    f"kullneyra_{name}"
-    for name in (
-        "header",
-        "mark",
-        "read",
-        "references",
-        "sweep",
-        "saved_words",
-        "begin",
-        "resume",
-        "schedule_length",
-        "deal",
-        "draw",
-        "deal_seed",
-        "hop_words",
-        "hops",
-        "update_words",
-        "add",
-        "remove",
-        "market_header",
-        "import",
-        "export_length",
-        "export",
-    )
-)
 
 
 class Contracts(unittest.TestCase):
@@ -108,16 +85,19 @@ class Contracts(unittest.TestCase):
 
     def test_header_and_exports(self):
         one_more = '\npub extern "C" fn kullneyra_more(x: u32) -> u32' + ASKING + "\n{\n    x\n}\n"
-        wanted = ["kullneyra_more has a `requires`", f"kullneyra_more is not in {HEADER}"]
+        unnamed = f"kullneyra_more has no call of its name in {PROMISES}"
+        wanted = ["kullneyra_more has a `requires`", f"kullneyra_more is not in {HEADER}", unnamed]
         self.assertEqual(self.changed(EXPORTS, lambda text: text + one_more), wanted)
         lost = self.changed(HEADER, lambda text: text.replace("uint32_t kullneyra_sweep(", "uint64_t kullneyra_sweep(", 1))
         self.assertEqual(lost, [f"kullneyra_sweep is not in {HEADER}"])
         added = self.changed(HEADER, lambda text: text + "uint32_t kullneyra_more(uint32_t x);\n")
-        self.assertEqual(added, ["kullneyra_more is not there"])
+        self.assertEqual(added, ["kullneyra_more is not there", unnamed])
 
     def test_documents(self):
         found = self.changed(PROMISES, lambda text: text.replace("`sweep::sweep`", "`sweep::all`"))
-        self.assertEqual(found, [f"sweep::sweep is not named by {PROMISES}"])
+        self.assertEqual(found, ["sweep::all is not there", f"kullneyra_sweep has no call of its name in {PROMISES}"])
+        found = self.changed(PROMISES, lambda text: text.replace("`sweep::sweep`", "`swept::sweep`"))
+        self.assertEqual(found, ["swept::sweep is not there"])
 
 
 if __name__ == "__main__":
