@@ -72,9 +72,14 @@ def main(arguments: List[str], top: Path = TOP) -> int:
                 print(f"boundary: {line}")
             return 1 if found else 0
         for path, text in files(top).items():
-            (top / path).write_text(text, encoding="utf-8")
+            beside = top / f"{path}.new"
+            try:
+                beside.write_text(text, encoding="utf-8")
+                beside.replace(top / path)
+            finally:
+                beside.unlink(missing_ok=True)
         return 0
-    except Fault as fault:
+    except (Fault, OSError, UnicodeDecodeError) as fault:
         print(f"boundary: {fault}")
         return 1
 

@@ -60,6 +60,7 @@ purpose, to see which number the program refuses it with.
 """
 
 import argparse
+import re
 import struct
 import subprocess
 import sys
@@ -172,10 +173,14 @@ def dealt(case: Case, *seed: int, cards: tuple[int, ...] = ()) -> list[tuple[int
     done = subprocess.run([DEAL, *words], input=" ".join(map(str, cards)), capture_output=True, text=True)
     if done.returncode:
         raise Fault(done.stderr.strip() or f"{DEAL.name} ended with status {done.returncode}")
-    lines = [line.split() for line in done.stdout.splitlines()]
-    if lines and lines[0][0] == "refusal":
-        raise Fault(NOT_DEALT[int(lines[0][1])])
-    return [(int(box), int(asked)) for _, box, asked in lines]
+    refusal = re.fullmatch(r"refusal (\d+)\n", done.stdout)
+    if refusal:
+        raise Fault(NOT_DEALT.get(int(refusal[1]), f"{DEAL.name} answers the refusal {refusal[1]}"))
+    turns = re.fullmatch(r"(?:turn \d+ \d+\n)*", done.stdout) and re.findall(r"turn (\d+) (\d+)\n", done.stdout)
+    rounds = len(cards) if cards else seed[-1] if seed else 0
+    if turns is None or len(turns) != rounds * case.settings.get("boxes", 0):
+        raise Fault(f"{DEAL.name} does not answer with the turns of {rounds} rounds")
+    return [(int(box), int(asked)) for box, asked in turns]
 
 
 def stored(case: Case) -> list[tuple[int, int]]:
@@ -591,16 +596,24 @@ def load_text(path: Path) -> Case:
 
 
 def save(case: Case, folder: Path) -> None:
-    """Writes the files; the folder is made if it is not there. An update of an earlier case does not stay."""
+    """Writes the files; the folder is made if it is not there. An update of an earlier case does not stay. What cannot be
+    written whole leaves the files of before."""
     files = {"store.cat": store_bytes(case), "order.run": order_bytes(case)}
     if case.added or case.removed:
         files[UPDATE_NAME] = update_bytes(case)
     if case.saved:
         files[SAVED_NAME] = saved_bytes(case)
     folder.mkdir(parents=True, exist_ok=True)
-    (folder / UPDATE_NAME).unlink(missing_ok=True)
-    for name, data in files.items():
-        (folder / name).write_bytes(data)
+    beside = {name: folder / f"{name}.new" for name in files}
+    try:
+        for name, data in files.items():
+            beside[name].write_bytes(data)
+        (folder / UPDATE_NAME).unlink(missing_ok=True)
+        for name, path in beside.items():
+            path.replace(folder / name)
+    finally:
+        for path in beside.values():
+            path.unlink(missing_ok=True)
 
 
 def load(folder: Path) -> Case:

@@ -119,6 +119,20 @@ class Files(Boundary):
         self.edit(HEADER, boundary.MARKS[1], "")
         self.assert_fault(HEADER, "/* Up to here. */")
 
+    def test_not_there_or_no_text(self):
+        """What cannot be read is told in a line, and nothing is written."""
+        for path in (HEADER, EXPORTS, COUNTS, TABLE):
+            text = self.text(path)
+            (self.top / path).unlink()
+            for words in ((), ("--check",)):
+                status, told = self.run_tool(*words)
+                self.assertEqual((status, told.count("\n")), (1, 1), told)
+                self.assertIn(Path(path).name, told)
+            (self.top / path).write_bytes(b"\xff")
+            self.assertEqual(self.run_tool()[0], 1)
+            (self.top / path).write_text(text, encoding="utf-8")
+            self.assertEqual(self.differing(), [])
+
     def test_usage(self):
         self.assertEqual(self.run_tool("--write")[0], 2)
 

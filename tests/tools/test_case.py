@@ -292,6 +292,45 @@ class Cases(unittest.TestCase):
             done = subprocess.run(make, capture_output=True, text=True)
             self.assertEqual((done.returncode, done.stdout, done.stderr), (0, "", ""))
 
+    def test_dealt_otherwise(self):
+        """A program that is killed, answers something else, or too few turns: told in a line, and the files of before stay."""
+        with tempfile.TemporaryDirectory() as work:
+            top = Path(work)
+            tool, deal, text, made = top / "tools/case.py", top / "target/course/deal", top / "case.txt", top / "made"
+            for path in (tool, deal):
+                path.parent.mkdir(parents=True)
+            shutil.copy(TOP / "tools" / "case.py", tool)
+            make = [sys.executable, tool, "make", text, made]
+            text.write_text(self.HEAD + "boxes 2\nturn 0 1\n")
+            self.assertEqual(subprocess.run(make).returncode, 0)
+            before = {path.name: path.read_bytes() for path in made.iterdir()}
+            text.write_text(self.HEAD + "boxes 2\ncards 5\n")
+            rounds = "deal does not answer with the turns of 1 rounds"
+            for line, told in (
+                ("kill -9 $$", "deal ended with status -9"),
+                ("echo junk", rounds),
+                ("echo turn 0 1", rounds),
+                ("echo turn 0 x; echo turn 1 0", rounds),
+                ("echo refusal 99", "deal answers the refusal 99"),
+            ):
+                deal.write_text(f"#!/bin/sh\n{line}\n")
+                deal.chmod(0o755)
+                done = subprocess.run(make, capture_output=True, text=True)
+                self.assertEqual((done.returncode, done.stderr), (1, f"case.py: line 6: {told}\n"))
+                self.assertEqual({path.name: path.read_bytes() for path in made.iterdir()}, before)
+
+    def test_not_written_whole(self):
+        """A file that cannot be written leaves those of before, and nothing beside them."""
+        with tempfile.TemporaryDirectory() as work:
+            folder = Path(work) / "made"
+            case.save(case.parse(SAMPLE.read_text()), folder)
+            before = {path.name: path.read_bytes() for path in folder.iterdir()}
+            (folder / "order.run.new").mkdir()
+            with self.assertRaises(OSError):
+                case.save(case.parse(self.HEAD + "boxes 2\nturn 0 1\n"), folder)
+            (folder / "order.run.new").rmdir()
+            self.assertEqual({path.name: path.read_bytes() for path in folder.iterdir()}, before)
+
     def test_dealing_by_hand(self):
         """The program itself: turns as lines of a case, a refusal, and words that it cannot read."""
         def deal(*words, cards=""):

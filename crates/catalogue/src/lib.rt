@@ -1,4 +1,4 @@
-// The catalogue of SPECIFICATION 1: the header call and the reader.
+// The catalogue of SPECIFICATION 1: the calls `header` and `read`.
 mod fill;
 mod record;
 
@@ -13,13 +13,13 @@ use refusal::Verdict;
 // The words of the start buffer: the index and the most leases.
 pub const STARTS: usize = graph::MOST_STARTS;
 
-// What the header call answers: n, m and the index, or why it refuses.
+// What `header` answers: n, m and the index, or why it refuses.
 pub enum Answer {
     Read { n: u32, m: u32, index: u32 },
     Refused(Refusal),
 }
 
-// What the reader answers: the same, and how many starts there are.
+// What `read` answers: the same, and how many starts there are.
 pub enum Found {
     Read {
         n: u32,
@@ -44,7 +44,7 @@ pub fn refusal_of(answer: Answer) -> u8
     }
 }
 
-// The same of the reader, 0 where the catalogue was read.
+// The same of `read`, 0 where the catalogue was read.
 pub fn fault_of(found: Found) -> u8
     ensures { λ r. ⌜ r ≡ foundRow found .refusal ⌝ }
 {

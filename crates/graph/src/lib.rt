@@ -94,7 +94,7 @@ pub fn part_of(offsets: &[u32], count: usize, v: u32) -> Part
     Part { start, end }
 }
 
-// The view: the references of object v as that part of the targets, or the empty part.
+// The call `references`: those of object v as that part of the targets, or the empty part.
 pub fn references<'a>(offsets: &[u32], targets: &'a [u32], v: u32) -> &'a [u32]
     ensures { λ r. ⌜ now r ≡ referencesOf (graph (now (offsets .entry)) (now (targets .entry))) v ⌝ }
 {

@@ -45,7 +45,7 @@ fn give_head(n: u32, m: u32, index: u32, result: &mut [u32])
     result[2] = index;
 }
 
-// An answer of the header call: its number, and n, m and the index in the result words.
+// An answer of `header`: its number, and n, m and the index in the result words.
 fn give(answer: Answer, result: &mut [u32]) -> u32
     requires { ⌜ length (now result) ≡ 3 ⌝ }
     ensures { λ r. ⌜ r ≡ row answer .refusal ⌝ }
@@ -60,7 +60,7 @@ fn give(answer: Answer, result: &mut [u32]) -> u32
     }
 }
 
-// An answer of the reader: the same, and how many starts there are.
+// An answer of `read`: the same, and how many starts there are.
 fn give_found(found: Found, result: &mut [u32]) -> u32
     requires { ⌜ length (now result) ≡ 4 ⌝ }
     ensures { λ r. ⌜ r ≡ foundRow found .refusal ⌝ }
@@ -81,7 +81,7 @@ fn give_found(found: Found, result: &mut [u32]) -> u32
     }
 }
 
-// The header call; result words: n, m, index.
+// `header`; result words: n, m, index.
 #[no_mangle]
 pub extern "C" fn kullneyra_header(bytes: &[u8], result: &mut [u32]) -> u32
     ensures { λ r. ⌜ r ≡ headerAnswer (now (bytes .entry)) (now (result .entry)) ⌝ }
@@ -93,7 +93,7 @@ pub extern "C" fn kullneyra_header(bytes: &[u8], result: &mut [u32]) -> u32
     give(catalogue::header(bytes), result)
 }
 
-// The reader; result words: n, m, index, starts.
+// `read`; result words: n, m, index, starts.
 #[no_mangle]
 pub extern "C" fn kullneyra_read(
     bytes: &[u8],
@@ -114,7 +114,7 @@ pub extern "C" fn kullneyra_read(
     )
 }
 
-// The view, as where the part starts and how long it is; result words: start, length.
+// `references`, as where the part starts and how long it is; result words: start, length.
 #[no_mangle]
 pub extern "C" fn kullneyra_references(
     offsets: &[u32],
@@ -452,7 +452,9 @@ pub extern "C" fn kullneyra_add(
     marks: &mut [u8],
     work: &mut [u32],
 ) -> u32
-    ensures { λ r. ⌜ AddsIn (now (offsets .entry)) (now (targets .entry)) (now (from .entry)) (now (to .entry)) (now («new_offsets» .entry)) (now («new_targets» .entry)) (now (marks .entry)) (now (work .entry)) (now («new_offsets» .exit)) (now («new_targets» .exit)) (now (marks .exit)) (now (work .exit)) r ⌝ }
+    ensures { λ r. ⌜ AddsIn (now (offsets .entry)) (now (targets .entry)) (now (from .entry)) (now (to .entry))
+        (now («new_offsets» .entry)) (now («new_targets» .entry)) (now (marks .entry)) (now (work .entry))
+        (now («new_offsets» .exit)) (now («new_targets» .exit)) (now (marks .exit)) (now (work .exit)) r ⌝ }
 {
     refusal::verdict_number(updates::add::add(
         offsets,
@@ -478,7 +480,9 @@ pub extern "C" fn kullneyra_remove(
     marks: &mut [u8],
     work: &mut [u32],
 ) -> u32
-    ensures { λ r. ⌜ RemovesIn (now (offsets .entry)) (now (targets .entry)) (now (numbers .entry)) (now (starts .entry)) (now («new_offsets» .entry)) (now («new_targets» .entry)) (now (marks .entry)) (now (work .entry)) (now («new_offsets» .exit)) (now («new_targets» .exit)) (now (marks .exit)) (now (work .exit)) r ⌝ }
+    ensures { λ r. ⌜ RemovesIn (now (offsets .entry)) (now (targets .entry)) (now (numbers .entry)) (now (starts .entry))
+        (now («new_offsets» .entry)) (now («new_targets» .entry)) (now (marks .entry)) (now (work .entry))
+        (now («new_offsets» .exit)) (now («new_targets» .exit)) (now (marks .exit)) (now (work .exit)) r ⌝ }
 {
     refusal::verdict_number(updates::remove::remove(
         offsets,

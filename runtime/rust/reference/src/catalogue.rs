@@ -1,4 +1,4 @@
-//! The catalogue, SPECIFICATION 1 and 3: header call, reader, view.
+//! The catalogue, SPECIFICATION 1 and 3: `header`, `read` and `references`.
 
 use std::ops::Range;
 
@@ -11,7 +11,7 @@ pub struct Header {
     pub index: u32,
 }
 
-/// What the reader answers.
+/// What `read` answers.
 #[derive(Clone, Copy, Debug, PartialEq, Eq)]
 pub struct Contents {
     pub head: Header,
