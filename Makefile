@@ -35,8 +35,8 @@ target/sample/store.cat: samples/a.txt tools/case.py
 # The library is made anew when a file of the crates has changed.
 library: target/staticlib/libkullneyra.a
 
-target/staticlib/libkullneyra.a: crates.txt $(shell find crates -type f)
-	@mkdir -p target && rt staticlib kullneyra >target/library.log 2>&1 || { cat target/library.log; exit 1; }
+target/staticlib/libkullneyra.a: tools/library crates.txt $(shell find crates -type f)
+	@tools/library
 
 # The command over an OCI image layout; needs Go and Debian's golang-github-opencontainers-*-dev packages (tests/go/run).
 oci: library

@@ -1,5 +1,5 @@
 #!/usr/bin/env python3
-"""The boundary from one source: C, Rust and Go as the signatures in crates/kullneyra/src/lib.rt have the calls.
+"""The boundary from one source: C, Rust and Go as the exported functions of the crates ffi_* have the calls.
 
     tools/boundary.py             writes the files below, the header between its two marks
     tools/boundary.py --check     writes nothing, says where a file is another, and ends with 1 then

@@ -3,13 +3,14 @@
 import re
 import tomllib
 from dataclasses import dataclass, field
+from fnmatch import fnmatch
 from pathlib import Path
 from typing import Dict, Iterator, List, NamedTuple, Optional, Tuple
 
-EXPORTS = "crates/kullneyra/src/lib.rt"
+EXPORTS = "crates/ffi_*/src/lib.rt"
 COUNTS = "crates/machine/src/lib.rt"
 TABLE = "tools/boundary.toml"
-WRITTEN = f"written by tools/boundary.py from {EXPORTS}"
+WRITTEN = "written by tools/boundary.py from the exported functions"
 
 
 class Fault(Exception):
@@ -105,21 +106,30 @@ def parameters_of(text: str) -> Iterator[Tuple[int, str, Optional[Parameter]]]:
         at += len(part) + 1
 
 
-def exported(source: str) -> Dict[str, Call]:
-    """The exported functions. Whatever looks like an export and is no signature of the known form is a fault."""
-    source = bare(source)
+def exported(sources: Dict[str, str]) -> Dict[str, Call]:
+    """The exported functions of these files."""
     calls: Dict[str, Call] = {}
+    for path, source in sources.items():
+        for call in exported_in(path, bare(source)):
+            if call.name in calls:
+                raise Fault(f"{call.place}: kullneyra_{call.name} is there twice")
+            calls[call.name] = call
+    return calls
+
+
+def exported_in(path: str, source: str) -> Iterator[Call]:
+    """The exported functions of a file. Whatever looks like an export and is no signature of the known form is a fault."""
     spans = []
     for found in SIGNATURE.finditer(source):
         symbol, listed, answer = found.groups()
-        place = f"{EXPORTS}:{line_of(source, found.start(1))}"
+        place = f"{path}:{line_of(source, found.start(1))}"
         name = symbol.removeprefix("kullneyra_")
         if name == symbol:
             raise Fault(f"{place}: {symbol} does not begin with kullneyra_")
         parameters = []
         for at, text, parameter in parameters_of(listed):
             if parameter is None:
-                raise Fault(f"{EXPORTS}:{line_of(source, found.start(2) + at)}: {symbol}: not understood: {text}")
+                raise Fault(f"{path}:{line_of(source, found.start(2) + at)}: {symbol}: not understood: {text}")
             parameters.append(parameter)
         result = parameters.pop() if parameters and parameters[-1].name == "result" else None
         if answer != "u32":
@@ -128,14 +138,11 @@ def exported(source: str) -> Dict[str, Call]:
             raise Fault(f"{place}: {symbol}: result words are &mut [u32] or &mut [u64]")
         if any(one.name == "result" for one in parameters):
             raise Fault(f"{place}: {symbol}: result words are the last parameter")
-        if name in calls:
-            raise Fault(f"{place}: {symbol} is there twice")
-        calls[name] = Call(name, parameters, result, place)
         spans.append(found.span())
+        yield Call(name, parameters, result, place)
     for found in EXPORT.finditer(source):
         if not any(start <= found.start() < end for start, end in spans):
-            raise Fault(f"{EXPORTS}:{line_of(source, found.start())}: a signature that is not understood")
-    return calls
+            raise Fault(f"{path}:{line_of(source, found.start())}: a signature that is not understood")
 
 
 def counts_in(source: str) -> List[str]:
@@ -181,7 +188,12 @@ class Boundary:
         def text(path: str) -> str:
             return (top / path).read_text(encoding="utf-8")
 
-        self.exported = exported(text(EXPORTS))
+        sources = {str(path.relative_to(top)): text(path) for path in sorted(top.glob("crates/*/src/**/*.rt"))}
+        self.exported = exported({path: source for path, source in sources.items() if fnmatch(path, EXPORTS)})
+        for path, source in sources.items():
+            found = EXPORT.search(bare(source))
+            if found and not fnmatch(path, EXPORTS):
+                raise Fault(f"{path}:{line_of(source, found.start())}: only {EXPORTS} is linked")
         try:
             table = tomllib.loads(text(TABLE))
         except tomllib.TOMLDecodeError as wrong:

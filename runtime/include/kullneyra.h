@@ -16,7 +16,7 @@
  * looked at.
  *
  * `make install` puts header, library and kullneyra.pc in place: pkg-config --cflags --libs kullneyra.
- * Within the repository, link with target/staticlib/libkullneyra.a (rt staticlib kullneyra).
+ * Within the repository, link with target/staticlib/libkullneyra.a (make library).
  */
 #ifndef KULLNEYRA_H
 #define KULLNEYRA_H
@@ -74,7 +74,7 @@ extern "C" {
 /* The hop count of an object to which no chain of references leads. */
 #define KULLNEYRA_NO_HOPS 4294967295u
 
-/* From here on written by tools/boundary.py from crates/kullneyra/src/lib.rt. */
+/* From here on written by tools/boundary.py from the exported functions. */
 
 /* What a call answers beside its number: a struct for each answer, whose fields are the result words in their order. */
 

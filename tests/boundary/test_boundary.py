@@ -11,8 +11,10 @@ from pathlib import Path
 
 import boundary
 from boundary import COMPARE, GO, HEADER, RAW, TOP, TYPED
-from boundary_source import COUNTS, EXPORTS, TABLE
+from boundary_source import COUNTS, TABLE
 
+EXPORTS = [f"crates/ffi_{name}/src/lib.rt" for name in ("mark", "schedule", "store", "update")]
+MARK, SCHEDULE, STORE, UPDATE = EXPORTS
 WRITTEN = (HEADER, RAW, TYPED, COMPARE, GO)
 HOP_WORDS = 'pub extern "C" fn kullneyra_hop_words(objects: u32, result: &mut [u64]) -> u32'
 HOP_BYTES = '[calls.hop_bytes]\nwords = "BYTES"\nrefusals = [4, 7]\nverb = "is"\ndoc = "How many bytes {hops} takes."\n\n'
@@ -21,7 +23,7 @@ HOP_BYTES = '[calls.hop_bytes]\nwords = "BYTES"\nrefusals = [4, 7]\nverb = "is"\
 class Boundary(unittest.TestCase):
     def setUp(self):
         self.top = Path(tempfile.mkdtemp())
-        for path in (EXPORTS, COUNTS, TABLE, *WRITTEN):
+        for path in (*EXPORTS, COUNTS, TABLE, *WRITTEN):
             (self.top / path).parent.mkdir(parents=True, exist_ok=True)
             shutil.copy(TOP / path, self.top / path)
 
@@ -68,8 +70,8 @@ class Boundary(unittest.TestCase):
 
     def add_export(self, signature):
         """Another exported function in front of `kullneyra_hop_words`; answers its line."""
-        self.edit(EXPORTS, "#[no_mangle]\n" + HOP_WORDS, f"#[no_mangle]\n{signature} {{ 0 }}\n#[no_mangle]\n{HOP_WORDS}")
-        return self.text(EXPORTS)[: self.text(EXPORTS).index(signature)].count("\n") + 1
+        self.edit(UPDATE, "#[no_mangle]\n" + HOP_WORDS, f"#[no_mangle]\n{signature} {{ 0 }}\n#[no_mangle]\n{HOP_WORDS}")
+        return self.text(UPDATE)[: self.text(UPDATE).index(signature)].count("\n") + 1
 
 
 class Files(Boundary):
@@ -121,7 +123,7 @@ class Files(Boundary):
 
     def test_not_there_or_no_text(self):
         """What cannot be read is told in a line, and nothing is written."""
-        for path in (HEADER, EXPORTS, COUNTS, TABLE):
+        for path in (HEADER, *EXPORTS, COUNTS, TABLE):
             text = self.text(path)
             (self.top / path).unlink()
             for words in ((), ("--check",)):
@@ -139,21 +141,21 @@ class Files(Boundary):
 
 class Signatures(Boundary):
     def test_a_type_reaches_every_file(self):
-        for old, new in (
-            ("kullneyra_hop_words(objects: u32,", "kullneyra_hop_words(objects: u64,"),
-            ("    object: u32,", "    object: usize,"),
-            ("    list: &mut [u32],", "    list: &mut [u64],"),
-            ("    marks: &[u8],", "    marks: &[u32],"),
-            ("kullneyra_export(offsets: &[u32], targets: &[u32], out: &mut [u8])", "kullneyra_export(targets: &[u32], offsets: &[u32], out: &mut [u8])"),
+        for source, old, new in (
+            (UPDATE, "kullneyra_hop_words(objects: u32,", "kullneyra_hop_words(objects: u64,"),
+            (STORE, "    object: u32,", "    object: usize,"),
+            (MARK, "    list: &mut [u32],", "    list: &mut [u64],"),
+            (MARK, "    marks: &[u8],", "    marks: &[u32],"),
+            (STORE, "kullneyra_export(offsets: &[u32], targets: &[u32], out: &mut [u8])", "kullneyra_export(targets: &[u32], offsets: &[u32], out: &mut [u8])"),
         ):
-            self.edit(EXPORTS, old, new)
+            self.edit(source, old, new)
             # The crate's function `references` is by hand.
             self.assertEqual(self.differing(), [path for path in WRITTEN if path != TYPED or "object: u32" not in old])
             self.assertEqual(self.run_tool(), (0, ""))
 
     def test_a_new_call(self):
         line = self.add_export(HOP_WORDS.replace("hop_words", "hop_bytes"))
-        self.assert_fault(f"{EXPORTS}:{line}: kullneyra_hop_bytes has no row")
+        self.assert_fault(f"{UPDATE}:{line}: kullneyra_hop_bytes has no row")
         self.edit(TABLE, "[calls.hops]", f"{HOP_BYTES}[calls.hops]")
         self.assertEqual(self.differing(), list(WRITTEN))
         self.assertEqual(self.run_tool(), (0, ""))
@@ -170,7 +172,7 @@ class Signatures(Boundary):
 
     def test_which_calls_are_of_numbers(self):
         row = 'make: |side, given, result| side.hop_words(given[0] as u32, result),'
-        kept = self.text(EXPORTS)
+        kept = self.text(UPDATE)
         self.assertIn(row, self.text(COMPARE))
         for new, is_one in (
             ("objects: u64, result: &mut [u64]", "side.hop_words(given[0], result)"),
@@ -180,7 +182,7 @@ class Signatures(Boundary):
             ("objects: u32, result: &mut [u32]", ""),
             ("result: &mut [u64]", ""),
         ):
-            self.edit(EXPORTS, "kullneyra_hop_words(objects: u32, result: &mut [u64])", f"kullneyra_hop_words({new})")
+            self.edit(UPDATE, "kullneyra_hop_words(objects: u32, result: &mut [u64])", f"kullneyra_hop_words({new})")
             self.assertEqual(self.run_tool(), (0, ""))
             text = self.text(COMPARE)
             with self.subTest(new):
@@ -190,7 +192,7 @@ class Signatures(Boundary):
                 self.assertEqual("reference::hop_words(" in text, bool(is_one))
                 self.assertEqual(text.count("    NumberCall {"), 4 if is_one else 3)
                 self.assertIn(is_one, text)
-            (self.top / EXPORTS).write_text(kept, encoding="utf-8")
+            (self.top / UPDATE).write_text(kept, encoding="utf-8")
         # Several result words are not one number.
         self.edit(TABLE, 'fields = { bytes = "" }', 'fields = { bytes = "", turns = "" }')
         self.assertEqual(self.run_tool(), (0, ""))
@@ -217,12 +219,12 @@ class Signatures(Boundary):
         return done.returncode, done.stderr
 
     def test_a_comment_is_no_call(self):
-        self.edit(EXPORTS, "#[no_mangle]", f"// #[no_mangle]\n// {HOP_WORDS}\n#[no_mangle]")
+        self.edit(SCHEDULE, "#[no_mangle]", f"// #[no_mangle]\n// {HOP_WORDS}\n#[no_mangle]")
         self.assertEqual(self.differing(), [])
 
     def test_not_understood(self):
         one = "kullneyra_hop_words(objects: u32, result: &mut [u64]) -> u32"
-        kept = self.text(EXPORTS)
+        kept = self.text(UPDATE)
         for new in (
             "kullneyra_hop_words(objects: u16, result: &mut [u64]) -> u32",
             "kullneyra_hop_words(objects: bool, result: &mut [u64]) -> u32",
@@ -239,9 +241,9 @@ class Signatures(Boundary):
             "kullneyra_header(objects: u32, result: &mut [u64]) -> u32",
             "hop_words(objects: u32, result: &mut [u64]) -> u32",
         ):
-            line = self.edit(EXPORTS, one, new)
-            self.assert_fault(f"{EXPORTS}:{line}: ")
-            (self.top / EXPORTS).write_text(kept, encoding="utf-8")
+            line = self.edit(UPDATE, one, new)
+            self.assert_fault(f"{UPDATE}:{line}: ")
+            (self.top / UPDATE).write_text(kept, encoding="utf-8")
         lead = '#[no_mangle]\npub extern "C" fn '
         for old, new in (
             (lead + one, lead + "kullneyra_hop_words(objects: (u32, u32), result: &mut [u64]) -> u32"),
@@ -253,13 +255,18 @@ class Signatures(Boundary):
             (lead + "kullneyra_hop_words", '#[no_mangle]\npub extern "system" fn kullneyra_hop_words'),
             ("#[no_mangle]\npub", '#[export_name = "kullneyra_header"]\npub'),
         ):
-            line = self.edit(EXPORTS, old, new)
-            self.assert_fault(f"{EXPORTS}:{line}: a signature that is not understood")
-            (self.top / EXPORTS).write_text(kept, encoding="utf-8")
+            line = self.edit(UPDATE, old, new)
+            self.assert_fault(f"{UPDATE}:{line}: a signature that is not understood")
+            (self.top / UPDATE).write_text(kept, encoding="utf-8")
+
+    def test_an_export_elsewhere(self):
+        """Only the crates ffi_* are linked, so an export of another would be missing without a word."""
+        line = self.edit(COUNTS, "pub struct Counts", f"#[no_mangle]\n{HOP_WORDS} {{ 0 }}\n\npub struct Counts")
+        self.assert_fault(f"{COUNTS}:{line}: only ")
 
     def test_a_parameter_in_its_line(self):
-        line = self.edit(EXPORTS, "    object: u32,\n", "    object: u8,\n")
-        self.assert_fault(f"{EXPORTS}:{line}: kullneyra_references: not understood: object: u8")
+        line = self.edit(STORE, "    object: u32,\n", "    object: u8,\n")
+        self.assert_fault(f"{STORE}:{line}: kullneyra_references: not understood: object: u8")
 
 
 class Counts(Boundary):
@@ -305,7 +312,7 @@ class Table(Boundary):
     def test_what_does_not_fit(self):
         kept = self.text(TABLE)
         for old, new, told in (
-            ("[calls.hops]", "[calls.hopps]", "[calls.hopps]: crates/kullneyra/src/lib.rt has no kullneyra_hopps"),
+            ("[calls.hops]", "[calls.hopps]", "[calls.hopps]: crates/ffi_*/src/lib.rt has no kullneyra_hopps"),
             ('words = "HOP"\n', "", "[calls.hop_words]: a call with result words has one of answer and words"),
             ('words = "HOP"\n', 'words = "HOP"\nanswer = "length"\n', "[calls.hop_words]: a call with result words has one"),
             ("[calls.hops]\n", '[calls.hops]\nwords = "HOPS"\n', "[calls.hops]: a call with result words has one"),
@@ -339,7 +346,7 @@ class Table(Boundary):
                 self.assert_fault(told)
             (self.top / TABLE).write_text(kept, encoding="utf-8")
         self.edit(TABLE, kept[kept.index("[calls.hops]") : kept.index("[calls.update_words]")], "")
-        self.assert_fault(f"{EXPORTS}:", "kullneyra_hops has no row in tools/boundary.toml")
+        self.assert_fault(f"{UPDATE}:", "kullneyra_hops has no row in tools/boundary.toml")
 
     def test_a_text_reaches_every_language(self):
         self.edit(TABLE, "Reads only the catalogue's header record.", "Reads the header as {read} does.")

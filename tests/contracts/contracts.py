@@ -13,7 +13,7 @@ from typing import Iterator, Optional
 
 TOP = Path(__file__).resolve().parents[2]
 
-EXPORTS = Path("crates/kullneyra/src/lib.rt")
+EXPORTS = "crates/ffi_*/src/lib.rt"
 HEADER = Path("runtime/include/kullneyra.h")
 PROMISES = Path("docs/PROMISES.md")
 
@@ -76,7 +76,7 @@ def faults(top: Path) -> Iterator[str]:
         wrong = fault(bare(text(path)), rf"\bpub\s+fn\s+{name}") if (top / path).is_file() else "is not there"
         if wrong:
             yield f"{call} {wrong}"
-    exports = bare(text(EXPORTS))
+    exports = bare("\n".join(map(text, sorted(top.glob(EXPORTS)))))
     declared, exported = set(PROTOTYPE.findall(text(HEADER))), set(EXPORT.findall(exports))
     for name in sorted(declared | exported):
         wrong = fault(exports, rf'\bpub\s+extern\s+"C"\s+fn\s+{name}')

@@ -9,7 +9,8 @@ import contracts
 from contracts import EXPORT, EXPORTS, HEADER, PROMISES, TOP, source_of
 
 CALLS = contracts.calls((TOP / PROMISES).read_text(encoding="utf-8"))
-FUNCTIONS = EXPORT.findall((TOP / EXPORTS).read_text(encoding="utf-8"))
+SOURCES = [path.relative_to(TOP) for path in sorted(TOP.glob(EXPORTS))]
+FUNCTIONS = {name: path for path in SOURCES for name in EXPORT.findall((TOP / path).read_text(encoding="utf-8"))}
 
 ASKING = "\n    requires { ⌜ record { n = 1 } ≡ record { n = 1 } ⌝ }"
 
@@ -20,11 +21,11 @@ class Contracts(unittest.TestCase):
     def setUp(self):
         self.top = Path(tempfile.mkdtemp())
         sources = [source_of(call)[0] for call in CALLS]
-        for path in {*sources, EXPORTS, HEADER, PROMISES}:
+        for path in {*sources, *SOURCES, HEADER, PROMISES}:
             (self.top / path).parent.mkdir(parents=True, exist_ok=True)
             shutil.copy(TOP / path, self.top / path)
         self.calls = {call: (path, self.declared(path, f"pub fn {source_of(call)[1]}")) for call, path in zip(CALLS, sources)}
-        self.calls |= {name: (EXPORTS, self.declared(EXPORTS, f'pub extern "C" fn {name}')) for name in FUNCTIONS}
+        self.calls |= {name: (path, self.declared(path, f'pub extern "C" fn {name}')) for name, path in FUNCTIONS.items()}
 
     def declared(self, path, declaration):
         """The declaration with the mark behind its name, so that it is of no longer name."""
@@ -87,7 +88,7 @@ class Contracts(unittest.TestCase):
         one_more = '\npub extern "C" fn kullneyra_more(x: u32) -> u32' + ASKING + "\n{\n    x\n}\n"
         unnamed = f"kullneyra_more has no call of its name in {PROMISES}"
         wanted = ["kullneyra_more has a `requires`", f"kullneyra_more is not in {HEADER}", unnamed]
-        self.assertEqual(self.changed(EXPORTS, lambda text: text + one_more), wanted)
+        self.assertEqual(self.changed(SOURCES[0], lambda text: text + one_more), wanted)
         lost = self.changed(HEADER, lambda text: text.replace("uint32_t kullneyra_sweep(", "uint64_t kullneyra_sweep(", 1))
         self.assertEqual(lost, [f"kullneyra_sweep is not in {HEADER}"])
         added = self.changed(HEADER, lambda text: text + "uint32_t kullneyra_more(uint32_t x);\n")

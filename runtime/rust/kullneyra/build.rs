@@ -14,7 +14,7 @@ fn main() {
     println!("cargo:rerun-if-changed={}", library.display());
     if !library.is_file() {
         eprintln!("{} is not there.", library.display());
-        eprintln!("`rt staticlib kullneyra` makes it in the repository (in target/staticlib).");
+        eprintln!("`make library` makes it in the repository (in target/staticlib).");
         eprintln!("Where it stands elsewhere, KULLNEYRA_LIB_DIR names its folder.");
         exit(1);
     }

@@ -1,5 +1,5 @@
-//! The calls by name, those of numbers, and the sides that only pass on, written by tools/boundary.py from
-//! crates/kullneyra/src/lib.rt.
+//! The calls by name, those of numbers, and the sides that only pass on, written by tools/boundary.py from the exported
+//! functions.
 
 use crate::case::{Call, Mark};
 use crate::plain::{self, told_one, WRONG_LENGTH};

@@ -1,4 +1,4 @@
-//! The calls and their answers with Rust's own types, written by tools/boundary.py from crates/kullneyra/src/lib.rt.
+//! The calls and their answers with Rust's own types, written by tools/boundary.py from the exported functions.
 
 use super::*;
 

@@ -9,7 +9,7 @@
 //!
 //! # The library
 //!
-//! The crate links `libkullneyra.a`, which `rt staticlib kullneyra` makes in the repository, as
+//! The crate links `libkullneyra.a`, which `make library` makes in the repository, as
 //! `target/staticlib/libkullneyra.a`. It is looked for there. Where it stands elsewhere, as after
 //! `make install`, the environment variable `KULLNEYRA_LIB_DIR` names its folder:
 //!

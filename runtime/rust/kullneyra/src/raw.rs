@@ -1,6 +1,6 @@
-//! The C functions on slices, written by tools/boundary.py from crates/kullneyra/src/lib.rt: the answer is 0 or a
-//! refusal's number, and result words go to a lent buffer. Its length is looked at before all else (another one is 7),
-//! and beside a refusal the words are left as they are. Most callers want the functions of the crate itself.
+//! The C functions on slices, written by tools/boundary.py from the exported functions: the answer is 0 or a refusal's
+//! number, and result words go to a lent buffer. Its length is looked at before all else (another one is 7), and beside
+//! a refusal the words are left as they are. Most callers want the functions of the crate itself.
 
 mod c {
     extern "C" {

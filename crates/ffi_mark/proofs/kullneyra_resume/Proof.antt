@@ -1,0 +1,28 @@
+-- By the result words' length (`not-made`, `made`): with as many as there are results the call's promise holds and `give_marked` writes its answer.
+use lib.ListN.{length}
+use Rattle.kullneyra.specs.Calls.{mark-words}
+use Rattle.kullneyra.proofs.Saving.{not-made, made}
+use borrow.Author.Tests.{eq-eqb, ne-eqb}
+use borrow.Author.Needs.{needs}
+use Rattle.ffi_mark.proofs.kullneyra_resume.Statement.{statement}
+use Rattle.ffi_mark.proofs.kullneyra_resume.Tie as tie
+
+returns : tie.Need-returns
+returns c =
+    let start = c .before .before .before .before .before .before .before .before .before .before in
+    not-made (ne-eqb (length (start .args .result .now)) mark-words (c .if1 .taken))
+
+returns-2 : tie.Need-returns-2
+returns-2 c =
+    let at-give-marked = c .before .before in
+    let at-call = at-give-marked .before .before .before .before .before .before .before .before .before .before in
+    let at-if1 = at-call .before .before .before .before .before in
+    let start = at-if1 .before .before .before .before .before .before .before .before .before .before in
+    let given = at-give-marked .give-marked .ensures in
+    made (eq-eqb (length (start .args .result .now)) mark-words (at-if1 .if1 .left)) (at-call .resume .ensures .answers) (given .0) (given .1)
+
+pub kullneyra-resume-spec : {M : Type 1} → statement M
+kullneyra-resume-spec =
+    tie.close
+    (tie.spec returns (λ c κs. search needs) (λ c κs. search needs) (λ c. search needs) (λ c. search needs)
+    (λ c. search needs) (λ c. search needs) (λ c. search needs) returns-2)

@@ -1,0 +1,12 @@
+-- As `give_length` says.
+use borrow.Author.Needs.{needs}
+use Rattle.ffi_schedule.proofs.kullneyra_schedule_length.Statement.{statement}
+use Rattle.ffi_schedule.proofs.kullneyra_schedule_length.Tie as tie
+
+returns : tie.Need-returns
+returns c =
+    let given = c .before .before in
+    rw (← given .before .before .schedule-length .ensures) (given .give-length .ensures)
+
+pub kullneyra-schedule-length-spec : {M : Type 1} → statement M
+kullneyra-schedule-length-spec = tie.close (tie.spec (λ c κs. search needs) (λ c κs. search needs) (λ c. search needs) returns)
