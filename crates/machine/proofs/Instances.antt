@@ -14,12 +14,14 @@ use Rattle.laws.specs.Every.{Every}
 use Rattle.laws.specs.Sum.{sum, hit}
 use Rattle.laws.proofs.Every.{every-append}
 use Rattle.laws.proofs.Sum.{hit-same}
-use Rattle.graph.specs.Graph.{rising, allBelow, wellFormed}
+use Rattle.graph.specs.Graph.{Graph, rising, allBelow, wellFormed}
 use Rattle.graph.specs.Chain.{leavingReached, marksAt}
 use Rattle.machine.specs.Row.{Row}
 use Rattle.machine.specs.Run.{carried, keep, rest}
-use Rattle.machine.specs.Machine.{Entry, allEnded, entries, live, start, startRuns, turns}
+use Rattle.machine.specs.Machine.{Setting, Entry, allEnded, entries, live, result, start, startRuns, turns}
 use Rattle.machine.specs.Call.{Call, graphOf, settingOf, scheduledBy, scheduleFits, fault, firstFault, lengths, marking}
+use Rattle.machine.specs.Accepted.{Accepted}
+use Rattle.machine.specs.Demand2.{outcome}
 use Rattle.machine.specs.Demand3.{stretchBound, entriesOf, AllHave, joined, roundOf, rounds, longSchedule, Cut, Demand3}
 use Rattle.machine.specs.Drawings.{S, turnsA, gives, drawing, ones}
 use Rattle.machine.proofs.Accept.{checked, fault-scheduled}
@@ -87,22 +89,30 @@ pub record Finishable (c : Call) (marks work tallies : List ℕ) : Type 0 where
   pub faultless : fault (scheduledBy (longFor c) c) (length marks) (length work) (length tallies) ≡ 0
   pub finished : marking (scheduledBy (longFor c) c) marks work tallies .finished ≡ true
 
+-- the turns of such a schedule finish
+pub long-finished : {G : Graph} {starts : List ℕ} {W : ℕ} {g : Setting} → Accepted G starts W g
+    → result (outcome G starts W g (entries (longSchedule G starts W))) .finished ≡ true
+unfolding longSchedule
+long-finished {G} {starts} {W} A =
+    let k = stretchBound (leavingReached G starts) W in
+    let cut : Cut W k (entries (longSchedule G starts W)) = record {
+      stretches = replicate k (entries (roundOf W));
+      number = length-replicate k (entries (roundOf W));
+      whole = rounds-joined W k;
+      each = each-round W k;
+    } in
+    demand3 A (entries (longSchedule G starts W)) .finishes cut
+
 pub long-enough : (c : Call) (marks work tallies : List ℕ) → fault c (length marks) (length work) (length tallies) ≡ 0 → Finishable c marks work tallies
 unfolding longSchedule
 long-enough c marks work tallies e =
     let A = checked c (lengths (length marks) (length work) (length tallies)) e .accepted in
     let k = stretchBound (leavingReached (graphOf c) (c .starts)) (c .workers) in
     let none = fault-scheduled c (lengths (length marks) (length work) (length tallies)) e (longFor c) (rounds-fit (c .workers) k) in
-    let cut : Cut (c .workers) k (entries (longFor c)) = record {
-      stretches = replicate k (entries (roundOf (c .workers)));
-      number = length-replicate k (entries (roundOf (c .workers)));
-      whole = rounds-joined (c .workers) k;
-      each = each-round (c .workers) k;
-    } in
     record {
       bytes = rounds-bytes (c .workers) k (A .workers-limit);
       faultless = none;
-      finished = rw none (demand3 A (entries (longFor c)) .finishes cut);
+      finished = rw none (long-finished A);
     }
 
 -- ---- store S, case A

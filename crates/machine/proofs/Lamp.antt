@@ -15,6 +15,7 @@ use Rattle.machine.specs.Lamp.{Lamp}
 use Rattle.machine.proofs.Facts.{carried-none}
 use Rattle.machine.proofs.Start.{sound}
 use Rattle.machine.proofs.Ended.{ended-at}
+use Rattle.machine.proofs.Unread.{turn-unread}
 
 module _ {G : Graph} {starts : List ℕ} {W : ℕ} {g : Setting} (A : Accepted G starts W g) where
   -- in a finished collection nobody carries anything
@@ -28,4 +29,5 @@ module _ {G : Graph} {starts : List ℕ} {W : ℕ} {g : Setting} (A : Accepted G
         counted = λ k. sound A (take k xs) .carrying-is;
         reported = sound A xs .carrying-is;
         finished-none = λ done. carried-none A (sound A xs) (none-carried (outcome G starts W g xs) done);
+        unread = λ s c x. turn-unread G g s c x;
       }

@@ -24,4 +24,6 @@ pub mod Demand3
 pub mod Instances
 pub mod Lamp
 pub mod Tallies
+pub mod Unread
 pub mod Waiting
+pub mod Collected

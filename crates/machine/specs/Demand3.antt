@@ -1,5 +1,5 @@
 -- Demand 3 in one piece, SPECIFICATION 6: one statement about the whole list of turns and the row reported of it.
-use mathlib.Core.Path.{_≡_}
+use mathlib.Core.Path.{_≡_, refl}
 use mathlib.Core.Bool.{true}
 use mathlib.Core.List.{List, [], _∷_, _++_}
 use mathlib.Core.Logic.{_↔_}
@@ -73,6 +73,10 @@ pub record Demand3 (G : Graph) (starts : List ℕ) (W : ℕ) (g : Setting) (xs :
   -- 5. 7R + 4W + 2 stretches finish, and 7R + 4W - 2 do already
   pub finishes : Cut W (stretchBound (leavingReached G starts) W) xs → r .finished ≡ true
   pub sooner : Cut W (fewestStretches (leavingReached G starts) W) xs → r .finished ≡ true
+
+-- the figures where R is 5 and W is 2, as of store S in case A
+pub figures : movedBound 5 2 ∷ handedBound 5 ∷ stretchBound 5 2 ∷ fewestStretches 5 2 ∷ [] ≡ 37 ∷ 15 ∷ 45 ∷ 41 ∷ []
+figures = refl
 
 -- a turn of each of the first k workers, the last one first, naming 0: as bytes of a schedule
 unfoldable pub roundOf : ℕ → List ℕ

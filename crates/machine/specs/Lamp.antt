@@ -8,11 +8,17 @@ use lib.ListN.{take}
 use Rattle.laws.specs.Sum.{sum}
 use Rattle.graph.specs.Graph.{Graph}
 use Rattle.graph.specs.Chain.{marksAt}
+use Rattle.machine.specs.declared.Counts.{Counts}
 use Rattle.machine.specs.Row.{Row}
 use Rattle.machine.specs.Run.{carried, keep, rest}
-use Rattle.machine.specs.Machine.{Setting, Entry, carries?, live, startRuns, start, turns, entries}
+use Rattle.machine.specs.Machine.{Setting, State, Entry, carries?, live, startRuns, start, turn, turns, entries}
 use Rattle.machine.specs.Demand2.{outcome}
 use Rattle.machine.specs.Drawings.{S, turnsA}
+
+-- the state with other counts
+abbrev pub recounted : Counts → State → State
+recounted c s =
+    record { marks = s .marks; workers = s .workers; rested = s .rested; ring = s .ring; tallies = s .tallies; counts = c }
 
 pub record Lamp (G : Graph) (starts : List ℕ) (W : ℕ) (g : Setting) (xs : List Entry) (r : Row) : Type 0 where
   -- before the first turn, and after every one: the number of workers that carry references
@@ -21,6 +27,8 @@ pub record Lamp (G : Graph) (starts : List ℕ) (W : ℕ) (g : Setting) (xs : Li
   pub reported : r .counts .carrying ≡ sum carries? (outcome G starts W g xs .workers)
   -- finished: nobody carries anything
   pub finished-none : r .finished ≡ true → r .counts .carrying ≡ 0
+  -- a turn does not read the counts, this one or another: with others it leaves the same marks, workers, ring and tallies
+  pub unread : (s : State) (c : Counts) (x : Entry) → recounted c (turn G g (recounted c s) x) ≡ recounted c (turn G g s x)
 
 -- the count before case A's first turn and after each: the hand-over of its fifth turn counts from that turn on, and taking
 -- it up in the sixth counts nobody again

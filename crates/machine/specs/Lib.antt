@@ -1,6 +1,7 @@
 pub mod Accepted
 pub mod Call
 pub mod Checked
+pub mod Collected
 pub mod Demand2
 pub mod Demand3
 pub mod Drawings

@@ -3,9 +3,11 @@
 use mathlib.Core.Path.{_≡_, refl}
 use mathlib.Core.List.{List, [], _∷_, _++_, map}
 use Prim.Native.Nat.{ℕ, zero, suc, _+_, _-_, _*_, _≤_, _<_}
+use native.Mathlib.Omega.{arith}
 use lib.ListN.{length, replicate}
 use Rattle.laws.specs.Grouping.{itself}
 use Rattle.laws.specs.Span.{listing}
+use Rattle.laws.specs.Sum.{hit}
 use Rattle.graph.specs.Graph.{Graph}
 use Rattle.graph.specs.Chain.{marksAt}
 use Rattle.machine.specs.Run.{carried, keep, rest}
@@ -83,6 +85,15 @@ setting D K = record { batch = D; cutoff = K }
 unfoldable pub asked : ℕ → ℕ → ℕ → List ℕ → State
 unfolding turns start entries naming0 listing
 asked D K c bs = turns (star c) (setting D K) (start (star c) (0 ∷ []) 2) (entries (naming0 (0 ∷ 1 ∷ bs)))
+
+-- worker 1 has asked worker 0
+pub asked-holds : Asked (asked 1 1 3 []) 0 1
+unfolding asked live startRuns carried marksAt keep rest hit
+asked-holds = omega arith
+
+-- both figures with D 3 and K 5
+pub figures : replyBound (setting 3 5) ∷ refusalBound (setting 3 5) ∷ [] ≡ 7 ∷ 8 ∷ []
+figures = refl
 
 -- whether worker 1 waits, is owed a hand-over, or has a refusal
 abbrev pub asker : State → List ℕ
