@@ -26,6 +26,6 @@ pub same-marked : {c c′ : Call} {marks work tallies marks′ work′ tallies�
     → Answered c′ marks′ work′ tallies′ r′ m′ w′ t′ → graphOf c′ ≡ graphOf c → c′ .starts ≡ c .starts → row r .finished ≡ true
     → row r′ .finished ≡ true → (v : ℕ) → state.Marked m v ↔ state.Marked m′ v
 same-marked a a′ g s done done′ v =
-    let here = a .demand2 (finished-faultless a done) .marked-exactly done v in
-    let there = rw (g, s) at (a′ .demand2 (finished-faultless a′ done′) .marked-exactly done′ v) in
+    let here = a .promise (finished-faultless a done) .demand2 .marked-exactly done v in
+    let there = rw (g, s) at (a′ .promise (finished-faultless a′ done′) .demand2 .marked-exactly done′ v) in
     (λ p. there .1 (here .0 p), λ p. here .1 (there .0 p))

@@ -28,11 +28,7 @@ use Rattle.machine.specs.Checked.{Checked}
 use Rattle.machine.proofs.Accept.{checked}
 use Rattle.machine.proofs.Facts.{runs-room}
 use Rattle.machine.proofs.Start.{sound-start, sound-turns}
-use Rattle.machine.proofs.Demand2.{demand2}
-use Rattle.machine.proofs.Demand3.{demand3}
-use Rattle.machine.proofs.Lamp.{lamp}
-use Rattle.machine.proofs.Owners.{owners}
-use Rattle.machine.proofs.Tallies as tallies-proved
+use Rattle.machine.proofs.Collected.{collected}
 use Rattle.worker.specs.Registers.{block-words, register-words}
 use Rattle.turns.specs.declared.Setup.{Setup}
 use Rattle.turns.specs.declared.Progress.{Progress}
@@ -206,13 +202,8 @@ module _ (c : Call) (marks work tallies : List ℕ) where
         marks-are = l .1 .0;
         work-is = l .1 .1 .0;
         tallies-are = l .1 .1 .1;
-        demand2 = λ e.
-            rw (rw e at (l .0), rw e at (l .1 .0)) (demand2 (checked c (lengths (length marks) (length work) (length tallies)) e .accepted) (entries (c .schedule)));
-        demand3 = λ e. rw (rw e at (l .0)) (demand3 (checked c (lengths (length marks) (length work) (length tallies)) e .accepted) (entries (c .schedule)));
-        lamp = λ e. rw (rw e at (l .0)) (lamp (checked c (lengths (length marks) (length work) (length tallies)) e .accepted) (entries (c .schedule)));
-        owners = λ e.
-            rw (rw e at (l .0), rw e at (l .1 .0)) (owners (checked c (lengths (length marks) (length work) (length tallies)) e .accepted) (entries (c .schedule)));
-        counted = λ e. rw (rw e at (l .0)) (tallies-proved.tallies (checked c (lengths (length marks) (length work) (length tallies)) e .accepted) (entries (c .schedule)));
+        promise = λ e.
+            rw (rw e at (l .0), rw e at (l .1 .0)) (collected (checked c (lengths (length marks) (length work) (length tallies)) e .accepted) (entries (c .schedule)));
       }
 
   -- any other number than 0 is a refusal, and the buffers stay

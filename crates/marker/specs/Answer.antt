@@ -10,12 +10,8 @@ use Rattle.desk.specs.declared.Lengths.{Lengths}
 use Rattle.desk.specs.declared.Settings.{Settings}
 use Rattle.machine.specs.Machine.{entries}
 use Rattle.machine.specs.Row.{Row, refusedRow}
-use Rattle.machine.specs.Demand2.{Demand2}
-use Rattle.machine.specs.Demand3.{Demand3}
-use Rattle.machine.specs.Lamp.{Lamp}
+use Rattle.machine.specs.Collected.{Collected}
 use Rattle.machine.specs.Call.{Call, graphOf, settingOf, firstFault, fault, final, marking, marksAfter, workAfter, talliesAfter}
-use Rattle.machine.specs.Owners.{Owners}
-use Rattle.machine.specs.Tallies.{Tallies}
 use Rattle.marker.specs.declared.Marked.{Marked}
 use Rattle.marker.specs.declared.Marked.the-variants.{Finished, Unfinished, Refused}
 
@@ -42,21 +38,12 @@ row (Refused r) = refusedRow (number r)
 pub record Finds (v : Verdict) (c : Call) (l : Lengths) : Type 0 where
   pub number-is : numberOf v ≡ firstFault c l
 
--- the call's promise, for all inputs: the answer, every mark, every work word and every tally word; and, where the call has
--- no fault, demands 2 and 3 of the answer and the marks, what its count of workers that carry says, who claimed what, and
--- what the tallies count
+-- the call's promise, for all inputs: the answer, every mark, every work word and every tally word; and, where the call has no fault, what is
+-- promised of a collection's turns
 pub record Answered (c : Call) (marks work tallies : List ℕ) (r : Marked) (marks′ work′ tallies′ : List ℕ) : Type 0 where
   pub row-is : row r ≡ marking c marks work tallies
   pub marks-are : marks′ ≡ marksAfter c marks work tallies
   pub work-is : work′ ≡ workAfter c marks work tallies
   pub tallies-are : tallies′ ≡ talliesAfter c marks work tallies
-  pub demand2 : fault c (length marks) (length work) (length tallies) ≡ 0
-      → Demand2 (graphOf c) (c .starts) (c .workers) (settingOf c) (entries (c .schedule)) (row r) marks′
-  pub demand3 : fault c (length marks) (length work) (length tallies) ≡ 0
-      → Demand3 (graphOf c) (c .starts) (c .workers) (settingOf c) (entries (c .schedule)) (row r)
-  pub lamp : fault c (length marks) (length work) (length tallies) ≡ 0
-      → Lamp (graphOf c) (c .starts) (c .workers) (settingOf c) (entries (c .schedule)) (row r)
-  pub owners : fault c (length marks) (length work) (length tallies) ≡ 0
-      → Owners (graphOf c) (c .starts) (c .workers) (settingOf c) (entries (c .schedule)) (row r) marks′
-  pub counted : fault c (length marks) (length work) (length tallies) ≡ 0
-      → Tallies (graphOf c) (c .starts) (c .workers) (settingOf c) (entries (c .schedule)) (row r) (final c .tallies)
+  pub promise : fault c (length marks) (length work) (length tallies) ≡ 0
+      → Collected (graphOf c) (c .starts) (c .workers) (settingOf c) (entries (c .schedule)) (row r) marks′ (final c .tallies)

@@ -23,7 +23,8 @@ use Rattle.machine.specs.Accepted.{Accepted}
 use Rattle.machine.specs.Demand2.{outcome}
 use Rattle.machine.specs.Call.{Call, graphOf, settingOf, scheduleFits, final}
 use Rattle.machine.specs.Checked.{Checked}
-use Rattle.machine.proofs.Start.{sound, sound-turns}
+use Rattle.machine.proofs.Start.{sound, sound-start, sound-turns}
+use Rattle.machine.proofs.Waiting.{waits-all}
 use Rattle.worker.specs.Registers.{block-words, register-words}
 use Rattle.turns.specs.declared.Setup.{Setup}
 use Rattle.turns.specs.declared.Progress.{Progress}
@@ -39,7 +40,7 @@ use Rattle.saved.specs.Sound.{SavedRun}
 use Rattle.saved.specs.Test.{saved?}
 use Rattle.saved.specs.Calls.{savingLengths, savedFault, resumeFault, resumed}
 use Rattle.saved.proofs.Kept.{from-saved, to-saved, fresh-run}
-use Rattle.saved.proofs.Joined.{afresh, resumed-afresh, sound-finished}
+use Rattle.saved.proofs.Joined.{afresh, joined, resumed-afresh, sound-finished}
 use Rattle.validate.specs.Checked as validated
 use Rattle.resume.specs.Answer.{Answers, Begun, Continued}
 use Rattle.resume.specs.Restoring.{Resumable}
@@ -96,7 +97,11 @@ module _ {c : Call} {marks work tallies w : List ℕ} {v : Verdict}
   pub begun-refused : {cause : Refusal} → v ≡ Faulty cause → Begun c marks work tallies w (Refused cause) marks work tallies w
   begun-refused {cause} e =
       let k = when-faulty (found .number-is) e in
-      record { answers = answers-refused cause _ k; afresh = λ z. absurd (omega (arith, numbered cause, k, z)) }
+      record {
+        answers = answers-refused cause _ k;
+        afresh = λ z. absurd (omega (arith, numbered cause, k, z));
+        joined = λ z. absurd (omega (arith, numbered cause, k, z));
+      }
 
   pub begun-fine : v ≡ Fine → {marks′ work′ tallies′ regs′ : List ℕ} {p : Progress} → Runs c (memory marks′ work′ tallies′ regs′ p)
       → {w′ : List ℕ} → Saves (c .workers) (memory marks′ work′ tallies′ regs′ p) w w′
@@ -109,6 +114,7 @@ module _ {c : Call} {marks work tallies w : List ℕ} {v : Verdict}
         answers = answers-fine (when-fine (found .number-is) e) l saved r f;
         afresh = λ z.
             rw (row-left l r f, l .held .marks-are, l .work-is, l .held .tallies-are, saved) (afresh c (entries (c .schedule)) (x .accepted));
+        joined = λ z. joined c (x .accepted) (sound-start (x .accepted)) (x .schedule-fits);
       }
 
 -- ---- the call that goes on
@@ -180,6 +186,8 @@ module _ {c : Call} {marks work tallies w : List ℕ} {v : Verdict}
         answers = answers-refused cause _ i;
         exactly = λ z. absurd (omega (arith, numbered cause, k, z));
         all-marked = λ z. absurd (omega (arith, numbered cause, i, z));
+        waits = λ z. absurd (omega (arith, numbered cause, i, z));
+        joined = λ z. absurd (omega (arith, numbered cause, i, z));
         afresh = λ xs q z. absurd (omega (arith, numbered cause, k, z));
       }
 
@@ -218,6 +226,9 @@ module _ {c : Call} {marks work tallies w : List ℕ} {v : Verdict}
               let a = reached f in
               let ended = sym (ap (λ (t : Row). t .finished) (a .row-is)) ∙ done in
               rw (a .marks-are) (sound-finished c A (run-of f) (entries (c .schedule)) ended reach);
+          waits = λ z k.
+              waits-all A (sound-turns A (run-of (sym same-fault ∙ z) .saved .sound) (take k (entries (c .schedule))));
+          joined = λ z. joined c A (run-of (sym same-fault ∙ z) .saved .sound) (passed found e .schedule-fits);
           afresh = λ xs q z.
               let X = subst (λ (l : List ℕ). SavedRun (graphOf c) (c .starts) (c .workers) (settingOf c) l (so-far xs)) (sym q) (fresh-run A xs) in
               let a = reached (no-fault (so-far xs) X) in

@@ -4,7 +4,7 @@ use mathlib.Core.Path.{_≡_}
 use mathlib.Core.Bool.{true}
 use mathlib.Core.List.{List, _++_}
 use mathlib.Core.Logic.{_↔_}
-use lib.ListN.{length}
+use lib.ListN.{length, take}
 use Rattle.refusal.specs.Order.{first}
 use Rattle.graph.specs.Graph.{objects}
 use Rattle.graph.specs.Chain.{Reach}
@@ -17,12 +17,13 @@ use Rattle.machine.specs.Machine as machine
 use Rattle.machine.specs.Machine.{State, Entry, entries}
 use Rattle.machine.specs.Sound as state
 use Rattle.machine.specs.Demand2.{outcome}
-use Rattle.machine.specs.Call.{Call, graphOf, settingOf, final}
+use Rattle.machine.specs.Call.{Call, scheduledBy, graphOf, settingOf, final}
+use Rattle.machine.specs.Waiting.{Waits}
 use Rattle.marker.specs.declared.Marked.{Marked}
 use Rattle.marker.specs.Answer.{row}
 use Rattle.saved.specs.Layout.{savedWords}
 use Rattle.saved.specs.Sound.{SavedRun}
-use Rattle.saved.specs.Calls.{beginFault, resumeFault, resumed, rowFor, Afresh}
+use Rattle.saved.specs.Calls.{beginFault, resumeFault, resumed, resumedBy, rowFor, Afresh, Joined}
 
 -- 8: W outside its range; 4: n outside its range
 abbrev pub lengthFor : ℕ → ℕ → LengthRow
@@ -42,6 +43,8 @@ pub record Begun (c : Call) (marks work tallies w : List ℕ) (r : Marked) (mark
   -- what it saves is a collection begun afresh
   pub afresh : beginFault c (length marks) (length work) (length tallies) (length w) ≡ 0
       → Afresh c (entries (c .schedule)) (row r) marks′ work′ tallies′ w′
+  -- and taken up in parts, it comes to what one call comes to
+  pub joined : beginFault c (length marks) (length work) (length tallies) (length w) ≡ 0 → Joined c (λ (l : List ℕ). final (scheduledBy l c))
 
 -- the promise of the call that goes on
 pub record Continued (c : Call) (marks work tallies w : List ℕ) (r : Marked) (marks′ work′ tallies′ w′ : List ℕ) : Type 0 where
@@ -53,6 +56,11 @@ pub record Continued (c : Call) (marks work tallies w : List ℕ) (r : Marked) (
   -- whoever wrote them: finished, every object to which a chain leads is marked
   pub all-marked : resumeFault c (length marks) (length work) (length tallies) w ≡ 0 → row r .finished ≡ true
       → (v : ℕ) → Reach (graphOf c) (c .starts) v → state.Marked marks′ v
+  -- from before the first turn and from after each of them on, an asker waits no longer than is said
+  pub waits : resumeFault c (length marks) (length work) (length tallies) w ≡ 0
+      → (k : ℕ) → Waits (graphOf c) (c .workers) (settingOf c) (resumedBy c w (take k (entries (c .schedule))))
+  -- and calls in a row come to what one call comes to
+  pub joined : resumeFault c (length marks) (length work) (length tallies) w ≡ 0 → Joined c (λ (l : List ℕ). resumed (scheduledBy l c) w)
   -- of a collection begun afresh, with the turns xs so far: it goes on as if it had not been stopped
   pub afresh : (xs : List Entry)
       → w ≡ savedWords (objects (graphOf c)) (outcome (graphOf c) (c .starts) (c .workers) (settingOf c) xs)

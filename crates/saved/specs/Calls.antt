@@ -14,11 +14,8 @@ use Rattle.machine.specs.Row.{Row, refusedRow}
 use Rattle.machine.specs.Tally.{talliesWords}
 use Rattle.machine.specs.Machine.{State, Entry, turns, entries, result, memory}
 use Rattle.machine.specs.Call.{Call, scheduledBy, graphOf, settingOf, scheduleFits, firstFault}
-use Rattle.machine.specs.Demand2.{outcome, Demand2}
-use Rattle.machine.specs.Demand3.{Demand3}
-use Rattle.machine.specs.Lamp.{Lamp}
-use Rattle.machine.specs.Owners.{Owners}
-use Rattle.machine.specs.Tallies.{Tallies}
+use Rattle.machine.specs.Demand2.{outcome}
+use Rattle.machine.specs.Collected.{Collected}
 use Rattle.saved.specs.Layout.{savedWords, stateOf}
 use Rattle.saved.specs.Test.{saved?}
 
@@ -41,9 +38,12 @@ resumeFault c marks work tallies w = first (beginFault c marks work tallies (len
 
 -- ---- what a call leaves
 
--- the state that is reached from saved words by the turns of the schedule
+-- the state that is reached from saved words by these turns, and by those of the schedule
+abbrev pub resumedBy : Call → List ℕ → List Entry → State
+resumedBy c w xs = turns (graphOf c) (settingOf c) (stateOf (objects (graphOf c)) (c .workers) w) xs
+
 abbrev pub resumed : Call → List ℕ → State
-resumed c w = turns (graphOf c) (settingOf c) (stateOf (objects (graphOf c)) (c .workers) w) (entries (c .schedule))
+resumed c w = resumedBy c w (entries (c .schedule))
 
 -- the row, by the number of the fault
 abbrev pub rowFor : ℕ → State → Row
@@ -61,13 +61,9 @@ pub record Afresh (c : Call) (xs : List Entry) (r : Row) (marks work tallies w :
   -- the words are sound and tell of the state that was reached
   pub sound : saved? (graphOf c) (c .starts) (c .workers) (settingOf c) w ≡ true
   pub told : stateOf (objects (graphOf c)) (c .workers) w ≡ outcome (graphOf c) (c .starts) (c .workers) (settingOf c) xs
-  -- the demands hold of all turns together
-  pub demand2 : Demand2 (graphOf c) (c .starts) (c .workers) (settingOf c) xs r marks
-  pub demand3 : Demand3 (graphOf c) (c .starts) (c .workers) (settingOf c) xs r
-  pub lamp : Lamp (graphOf c) (c .starts) (c .workers) (settingOf c) xs r
-  pub owners : Owners (graphOf c) (c .starts) (c .workers) (settingOf c) xs r marks
-  pub counted :
-      Tallies (graphOf c) (c .starts) (c .workers) (settingOf c) xs r (outcome (graphOf c) (c .starts) (c .workers) (settingOf c) xs .tallies)
+  -- what is promised of turns holds of all of them together
+  pub promise :
+      Collected (graphOf c) (c .starts) (c .workers) (settingOf c) xs r marks (outcome (graphOf c) (c .starts) (c .workers) (settingOf c) xs .tallies)
 
 -- ---- calls in a row
 
@@ -76,12 +72,17 @@ unfoldable pub whole : List (List ℕ) → List ℕ
 whole [] = []
 whole (l ∷ ls) = l ++ whole ls
 
--- the words after a saved collection is taken up with each of these schedules, one call after the other
-unfoldable pub resumedAll : Call → List (List ℕ) → List ℕ → List ℕ
-resumedAll c [] w = w
-resumedAll c (l ∷ ls) w = resumedAll c ls (savedWords (objects (graphOf c)) (resumed (scheduledBy l c) w))
+-- the state that is reached from s by calls in a row, one for each of these schedules: each takes up what the call before saved
+unfoldable pub reachedBy : Call → List (List ℕ) → State → State
+reachedBy c [] s = s
+reachedBy c (l ∷ ls) s = reachedBy c ls (resumed (scheduledBy l c) (savedWords (objects (graphOf c)) s))
 
 -- whole entries, each with a worker below W, in each part
 unfoldable pub allFit : ℕ → List (List ℕ) → Bool
 allFit W [] = true
 allFit W (l ∷ ls) = both (scheduleFits W l) (allFit W ls)
+
+-- Calls in a row, where a call with the schedule l reaches `reached l`: the last one reaches what one call with the schedules
+-- joined reaches. The answer and all lent words are told by the state.
+pub record Joined (c : Call) (reached : List ℕ → State) : Type 0 where
+  pub in-a-row : (ls : List (List ℕ)) → allFit (c .workers) ls ≡ true → reachedBy c ls (reached (c .schedule)) ≡ reached (c .schedule ++ whole ls)
