@@ -2,10 +2,12 @@
 use desk::Settings;
 use sweep::Swept;
 ghost use mathlib.Core.Path.{_≡_};
+ghost use lib.ListN.{length};
 ghost use Rattle.desk.specs.Kept.{unlessRefused};
 ghost use Rattle.marker.specs.Answer.{callOf};
 ghost use Rattle.kullneyra.specs.Calls.{sweepAnswer, sweepWords, sweepList};
-ghost use Rattle.kullneyra.specs.Calls.{LengthIn, settings, MarksIn, BeginsIn, ResumesIn};
+ghost use Rattle.kullneyra.specs.Calls.{LengthIn, settings};
+ghost use Rattle.kullneyra.specs.Promise.{Marks, Begins, Resumes, SweepPromise};
 ghost use Rattle.resume.specs.Answer.{lengthFor as savedLength};
 
 // The marker; the tallies are four words for each worker: followed, won, lost and handed. Result
@@ -24,7 +26,7 @@ pub extern "C" fn kullneyra_mark(
     tallies: &mut [u64],
     result: &mut [u64],
 ) -> u32
-    ensures { λ r. ⌜ MarksIn (callOf (now (offsets .entry)) (now (targets .entry)) (now (starts .entry)) (settings workers batch cutoff) (now (schedule .entry)))
+    ensures { λ r. ⌜ Marks (callOf (now (offsets .entry)) (now (targets .entry)) (now (starts .entry)) (settings workers batch cutoff) (now (schedule .entry)))
         (now (marks .entry)) (now (work .entry)) (now (tallies .entry)) (now (result .entry))
         (now (marks .exit)) (now (work .exit)) (now (tallies .exit)) (now (result .exit)) r ⌝ }
 {
@@ -72,7 +74,7 @@ pub extern "C" fn kullneyra_begin(
     saved: &mut [u32],
     result: &mut [u64],
 ) -> u32
-    ensures { λ r. ⌜ BeginsIn (callOf (now (offsets .entry)) (now (targets .entry)) (now (starts .entry)) (settings workers batch cutoff) (now (schedule .entry)))
+    ensures { λ r. ⌜ Begins (callOf (now (offsets .entry)) (now (targets .entry)) (now (starts .entry)) (settings workers batch cutoff) (now (schedule .entry)))
         (now (marks .entry)) (now (work .entry)) (now (tallies .entry)) (now (saved .entry)) (now (result .entry))
         (now (marks .exit)) (now (work .exit)) (now (tallies .exit)) (now (saved .exit)) (now (result .exit)) r ⌝ }
 {
@@ -113,7 +115,7 @@ pub extern "C" fn kullneyra_resume(
     saved: &mut [u32],
     result: &mut [u64],
 ) -> u32
-    ensures { λ r. ⌜ ResumesIn (callOf (now (offsets .entry)) (now (targets .entry)) (now (starts .entry)) (settings workers batch cutoff) (now (schedule .entry)))
+    ensures { λ r. ⌜ Resumes (callOf (now (offsets .entry)) (now (targets .entry)) (now (starts .entry)) (settings workers batch cutoff) (now (schedule .entry)))
         (now (marks .entry)) (now (work .entry)) (now (tallies .entry)) (now (saved .entry)) (now (result .entry))
         (now (marks .exit)) (now (work .exit)) (now (tallies .exit)) (now (saved .exit)) (now (result .exit)) r ⌝ }
 {
@@ -149,6 +151,7 @@ pub extern "C" fn kullneyra_sweep(
     ensures { λ r. ⌜ r ≡ sweepAnswer (now (marks .entry)) (now (sizes .entry)) (now (list .entry)) (now (result .entry)) ⌝ }
     ensures { λ r. ⌜ now (list .exit) ≡ sweepList (now (marks .entry)) (now (sizes .entry)) (now (list .entry)) (now (result .entry)) ⌝ }
     ensures { λ r. ⌜ now (result .exit) ≡ unlessRefused (sweepAnswer (now (marks .entry)) (now (sizes .entry)) (now (list .entry)) (now (result .entry))) (sweepWords (now (marks .entry)) (now (sizes .entry)) (now (list .entry))) (now (result .entry)) ⌝ }
+    ensures { λ r. ⌜ (length (now (result .entry)) ≡ 2 → SweepPromise (now (marks .entry)) (now (list .exit)) (now (result .exit)) r) ⌝ }
 {
     if result.len() != 2 {
         return kullneyra::BUFFER;

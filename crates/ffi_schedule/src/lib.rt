@@ -5,8 +5,9 @@ use seed::Seed;
 ghost use mathlib.Core.Path.{_≡_};
 ghost use lib.ListN.{length};
 ghost use Rattle.desk.specs.Kept.{unlessRefused};
-ghost use Rattle.cards.specs.Hand.{fault, turnsOf, lengthOf as scheduleLength};
-ghost use Rattle.kullneyra.specs.Calls.{LengthIn, DrawsIn, DealsIn};
+ghost use Rattle.cards.specs.Hand.{fault, turnsOf, lengthOf as scheduleLength, Rounds};
+ghost use Rattle.kullneyra.specs.Calls.{LengthIn, seedOf, DrawsIn, DealsIn};
+ghost use Rattle.kullneyra.specs.Promise.{DealPromise};
 
 // How many bytes the schedule of so many cards has; result words: bytes.
 #[no_mangle]
@@ -21,6 +22,7 @@ pub extern "C" fn kullneyra_schedule_length(cards: usize, workers: u32, result: 
 pub extern "C" fn kullneyra_deal(cards: &[u32], workers: u32, schedule: &mut [u8]) -> u32
     ensures { λ r. ⌜ r ≡ fault workers (now (cards .entry)) (length (now (schedule .entry))) ⌝ }
     ensures { λ r. ⌜ now (schedule .exit) ≡ unlessRefused (fault workers (now (cards .entry)) (length (now (schedule .entry)))) (turnsOf workers (now (cards .entry))) (now (schedule .entry)) ⌝ }
+    ensures { λ r. ⌜ (r ≡ 0 → Rounds workers (length (now (cards .entry))) (now (schedule .exit))) ⌝ }
 {
     refusal::verdict_number(cards::deal(cards, workers, schedule)) as u32
 }
@@ -59,6 +61,7 @@ pub extern "C" fn kullneyra_deal_seed(
     schedule: &mut [u8],
 ) -> u32
     ensures { λ r. ⌜ DealsIn (now (seed .entry)) rounds workers (now (schedule .entry)) (now (seed .exit)) (now (schedule .exit)) r ⌝ }
+    ensures { λ r. ⌜ (r ≡ 0 → DealPromise (seedOf (now (seed .entry))) rounds workers (now (schedule .exit))) ⌝ }
 {
     if seed.len() != 2 {
         return kullneyra::BUFFER;

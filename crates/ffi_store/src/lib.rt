@@ -3,8 +3,10 @@ ghost use mathlib.Core.Path.{_≡_};
 ghost use lib.ListN.{length};
 ghost use Rattle.desk.specs.Kept.{unlessRefused};
 ghost use Rattle.catalogue.specs.Answer.{headerRow};
-ghost use Rattle.kullneyra.specs.Calls.{headerAnswer, headerWords, ReadsIn, partAnswer, partWords, marketAnswer, ImportsIn};
+ghost use Rattle.kullneyra.specs.Calls.{headerAnswer, headerWords, partAnswer, partWords, marketAnswer};
 ghost use Rattle.kullneyra.specs.Calls.{LengthIn};
+ghost use Rattle.kullneyra.specs.Promise.{Reads, Imports};
+ghost use Rattle.matrix.specs.Promise.{Returns};
 ghost use Rattle.matrix.specs.Import.{headRow};
 ghost use Rattle.matrix.specs.Export.{exportFault, bytesAfter, lengthFor as exportLength};
 
@@ -30,7 +32,7 @@ pub extern "C" fn kullneyra_read(
     starts: &mut [u32],
     result: &mut [u32],
 ) -> u32
-    ensures { λ r. ⌜ ReadsIn (now (bytes .entry)) (now (offsets .entry)) (now (targets .entry)) (now (sizes .entry)) (now (starts .entry)) (now (result .entry)) (now (offsets .exit)) (now (targets .exit)) (now (sizes .exit)) (now (starts .exit)) (now (result .exit)) r ⌝ }
+    ensures { λ r. ⌜ Reads (now (bytes .entry)) (now (offsets .entry)) (now (targets .entry)) (now (sizes .entry)) (now (starts .entry)) (now (result .entry)) (now (offsets .exit)) (now (targets .exit)) (now (sizes .exit)) (now (starts .exit)) (now (result .exit)) r ⌝ }
 {
     if result.len() != 4 {
         return kullneyra::BUFFER;
@@ -82,7 +84,7 @@ pub extern "C" fn kullneyra_import(
     sizes: &mut [u64],
     result: &mut [u32],
 ) -> u32
-    ensures { λ r. ⌜ ImportsIn (now (text .entry)) (now (offsets .entry)) (now (targets .entry)) (now (sizes .entry)) (now (result .entry)) (now (offsets .exit)) (now (targets .exit)) (now (sizes .exit)) (now (result .exit)) r ⌝ }
+    ensures { λ r. ⌜ Imports (now (text .entry)) (now (offsets .entry)) (now (targets .entry)) (now (sizes .entry)) (now (result .entry)) (now (offsets .exit)) (now (targets .exit)) (now (sizes .exit)) (now (result .exit)) r ⌝ }
 {
     if result.len() != 3 {
         return kullneyra::BUFFER;
@@ -107,6 +109,7 @@ pub extern "C" fn kullneyra_export_length(
 pub extern "C" fn kullneyra_export(offsets: &[u32], targets: &[u32], out: &mut [u8]) -> u32
     ensures { λ r. ⌜ r ≡ exportFault (now (offsets .entry)) (now (targets .entry)) (length (now (out .entry))) ⌝ }
     ensures { λ r. ⌜ now (out .exit) ≡ bytesAfter (now (offsets .entry)) (now (targets .entry)) (now (out .entry)) ⌝ }
+    ensures { λ r. ⌜ (r ≡ 0 → Returns (now (offsets .entry)) (now (targets .entry))) ⌝ }
 {
     refusal::verdict_number(market::export(offsets, targets, out)) as u32
 }

@@ -1,3 +1,4 @@
+pub mod Promise
 pub mod Results
 pub mod Saving
 pub mod Seeds

@@ -20,7 +20,7 @@ use Rattle.machine.specs.Row.{Row as MarkRow, countWords}
 use Rattle.machine.specs.Tally.{talliesWords}
 use Rattle.machine.specs.Machine.{State, memory}
 use Rattle.machine.specs.Call.{Call, graphOf, final, marking, marksAfter, workAfter, talliesAfter}
-use Rattle.sweep.specs.Sweep.{sweeping, listAfter}
+use Rattle.sweep.specs.Sweep.{Row as SweepRow, sweeping, listAfter}
 use Rattle.saved.specs.Layout.{savedWords}
 use Rattle.saved.specs.Calls.{beginFault, resumeFault, resumed, rowFor}
 use Rattle.refusal.specs.Number.{number}
@@ -85,8 +85,11 @@ partWords offsets targets v = partStart (graph offsets targets) v ∷ partLength
 abbrev pub sweepAnswer : List ℕ → List ℕ → List ℕ → List ℕ → ℕ
 sweepAnswer marks sizes list result = answerIn 2 result (sweeping marks sizes list .number)
 
+abbrev pub sweptWords : SweepRow → List ℕ
+sweptWords r = r .count ∷ r .freed ∷ []
+
 abbrev pub sweepWords : List ℕ → List ℕ → List ℕ → List ℕ
-sweepWords marks sizes list = sweeping marks sizes list .count ∷ sweeping marks sizes list .freed ∷ []
+sweepWords marks sizes list = sweptWords (sweeping marks sizes list)
 
 -- the list afterwards
 abbrev pub sweepList : List ℕ → List ℕ → List ℕ → List ℕ → List ℕ

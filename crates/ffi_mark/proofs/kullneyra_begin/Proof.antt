@@ -1,6 +1,8 @@
 -- By the result words' length (`not-made`, `made`): with as many as there are results the call's promise holds and `give_marked` writes its answer.
+use native.Mathlib.Omega.{arith}
 use lib.ListN.{length}
 use Rattle.kullneyra.specs.Calls.{mark-words}
+use Rattle.kullneyra.proofs.Promise.{begin-promise}
 use Rattle.kullneyra.proofs.Saving.{not-made, made}
 use borrow.Author.Tests.{eq-eqb, ne-eqb}
 use borrow.Author.Needs.{needs}
@@ -10,7 +12,10 @@ use Rattle.ffi_mark.proofs.kullneyra_begin.Tie as tie
 returns : tie.Need-returns
 returns c =
     let start = c .before .before .before .before .before .before .before .before .before .before in
-    not-made (ne-eqb (length (start .args .result .now)) mark-words (c .if1 .taken))
+    record {
+      words = not-made (ne-eqb (length (start .args .result .now)) mark-words (c .if1 .taken));
+      promise = λ z. absurd (omega (arith, z));
+    }
 
 returns-2 : tie.Need-returns-2
 returns-2 c =
@@ -19,7 +24,11 @@ returns-2 c =
     let at-if1 = at-call .before .before .before .before .before in
     let start = at-if1 .before .before .before .before .before .before .before .before .before .before in
     let given = at-give-marked .give-marked .ensures in
-    made (eq-eqb (length (start .args .result .now)) mark-words (at-if1 .if1 .left)) (at-call .begin .ensures .answers) (given .0) (given .1)
+    record {
+      words =
+          made (eq-eqb (length (start .args .result .now)) mark-words (at-if1 .if1 .left)) (at-call .begin .ensures .answers) (given .0) (given .1);
+      promise = begin-promise _ _ (given .0) (given .1) (at-call .begin .ensures);
+    }
 
 pub kullneyra-begin-spec : {M : Type 1} → statement M
 kullneyra-begin-spec =

@@ -1,6 +1,8 @@
 -- By the result words' length: another one is 7, and with so many words as it has results the marker's promise holds and `give_marked` writes its answer.
 use lib.ListN.{length}
+use native.Mathlib.Omega.{arith}
 use Rattle.kullneyra.specs.Calls.{mark-words}
+use Rattle.kullneyra.proofs.Promise.{mark-promise}
 use borrow.Author.Tests.{eq-eqb, ne-eqb}
 use borrow.Author.Needs.{needs}
 use Rattle.ffi_mark.proofs.kullneyra_mark.Statement.{statement}
@@ -10,7 +12,10 @@ returns : tie.Need-returns
 returns c =
     let start = c .before .before .before .before .before .before .before .before .before in
     let f = ne-eqb (length (start .args .result .now)) mark-words (c .if1 .taken) in
-    record { answers = rw f; fills-marks = rw f; fills-work = rw f; fills-tallies = rw f; fills-result = rw f }
+    record {
+      words = record { answers = rw f; fills-marks = rw f; fills-work = rw f; fills-tallies = rw f; fills-result = rw f };
+      promise = λ z. absurd (omega (arith, z));
+    }
 
 returns-2 : tie.Need-returns-2
 returns-2 c =
@@ -23,11 +28,15 @@ returns-2 c =
     let h = done .row-is in
     let given = at-give-marked .give-marked .ensures in
     record {
-      answers = rw (f, ← h) (given .0);
-      fills-marks = rw f (done .marks-are);
-      fills-work = rw f (done .work-is);
-      fills-tallies = rw f (done .tallies-are);
-      fills-result = rw (f, ← h) (given .1);
+      words =
+          record {
+            answers = rw (f, ← h) (given .0);
+            fills-marks = rw f (done .marks-are);
+            fills-work = rw f (done .work-is);
+            fills-tallies = rw f (done .tallies-are);
+            fills-result = rw (f, ← h) (given .1);
+          };
+      promise = mark-promise _ _ (given .0) (given .1) done;
     }
 
 pub kullneyra-mark-spec : {M : Type 1} → statement M

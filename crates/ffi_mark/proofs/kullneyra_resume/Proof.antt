@@ -1,6 +1,8 @@
 -- By the result words' length (`not-made`, `made`): with as many as there are results the call's promise holds and `give_marked` writes its answer.
+use native.Mathlib.Omega.{arith}
 use lib.ListN.{length}
 use Rattle.kullneyra.specs.Calls.{mark-words}
+use Rattle.kullneyra.proofs.Promise.{resume-exactly, resume-promise}
 use Rattle.kullneyra.proofs.Saving.{not-made, made}
 use borrow.Author.Tests.{eq-eqb, ne-eqb}
 use borrow.Author.Needs.{needs}
@@ -10,7 +12,11 @@ use Rattle.ffi_mark.proofs.kullneyra_resume.Tie as tie
 returns : tie.Need-returns
 returns c =
     let start = c .before .before .before .before .before .before .before .before .before .before in
-    not-made (ne-eqb (length (start .args .result .now)) mark-words (c .if1 .taken))
+    record {
+      words = not-made (ne-eqb (length (start .args .result .now)) mark-words (c .if1 .taken));
+      exactly = λ l b. absurd (c .if1 .taken l);
+      promise = λ z. absurd (omega (arith, z));
+    }
 
 returns-2 : tie.Need-returns-2
 returns-2 c =
@@ -19,7 +25,12 @@ returns-2 c =
     let at-if1 = at-call .before .before .before .before .before in
     let start = at-if1 .before .before .before .before .before .before .before .before .before .before in
     let given = at-give-marked .give-marked .ensures in
-    made (eq-eqb (length (start .args .result .now)) mark-words (at-if1 .if1 .left)) (at-call .resume .ensures .answers) (given .0) (given .1)
+    record {
+      words =
+          made (eq-eqb (length (start .args .result .now)) mark-words (at-if1 .if1 .left)) (at-call .resume .ensures .answers) (given .0) (given .1);
+      exactly = λ l b. resume-exactly _ _ (given .0) (given .1) (at-call .resume .ensures) b;
+      promise = resume-promise _ _ (given .0) (given .1) (at-call .resume .ensures);
+    }
 
 pub kullneyra-resume-spec : {M : Type 1} → statement M
 kullneyra-resume-spec =

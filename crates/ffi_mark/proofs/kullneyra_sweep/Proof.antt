@@ -1,10 +1,12 @@
 -- By the result words' length, and then by the sweep's answer: its two words are written (`sets-all`), or none (`kept`).
+use mathlib.Core.Path.{refl}
 use mathlib.Core.List.{[], _∷_}
 use native.Mathlib.Omega.{arith}
 use lib.ListN.{length, length-set}
 use borrow.Author.Tests.{eq-eqb, ne-eqb}
 use Rattle.laws.proofs.Stores.{sets-all}
 use Rattle.desk.proofs.Kept.{kept}
+use Rattle.kullneyra.proofs.Promise.{sweep-promise}
 use borrow.Author.Needs.{needs}
 use Rattle.ffi_mark.proofs.kullneyra_sweep.Statement.{statement}
 use Rattle.ffi_mark.proofs.kullneyra_sweep.Tie as tie
@@ -13,7 +15,7 @@ returns : tie.Need-returns
 returns c =
     let start = c .before .before .before .before .before in
     let f = ne-eqb (length (start .args .result .now)) 2 (c .if1 .taken) in
-    (rw f, (rw f, rw f))
+    (rw f, (rw f, (rw f, λ l. absurd (c .if1 .taken l))))
 
 slice-write-result-2 : tie.Need-slice-write-result-2
 slice-write-result-2 c = simp length-set (omega arith)
@@ -30,7 +32,8 @@ returns-2 c =
     let v = at-count .count .given in
     let done = at-sweep .sweep .ensures in
     let h = rw (v .1) at (done .0) in
-    (rw (f, ← h), (rw f (done .1 .0), rw (f, ← h) (sets-all (v .0 .0 ∷ v .0 .1 .0 ∷ []) r l)))
+    let words = sets-all (v .0 .0 ∷ v .0 .1 .0 ∷ []) r l in
+    (rw (f, ← h), (rw f (done .1 .0), (rw (f, ← h) words, λ k. sweep-promise r (rw (v .1) at (done .1 .1)) refl words)))
 
 returns-3 : tie.Need-returns-3
 returns-3 c =
@@ -43,7 +46,9 @@ returns-3 c =
     let v = at-refusal .refusal .given in
     let done = at-sweep .sweep .ensures in
     let h = rw (v .1) at (done .0) in
-    (rw (f, ← h) (c .number-of .ensures), (rw f (done .1 .0), rw (f, ← h) (kept (v .0 .0) (0 ∷ 0 ∷ []) r)))
+    let words = kept (v .0 .0) (0 ∷ 0 ∷ []) r in
+    let number = c .number-of .ensures in
+    (rw (f, ← h) number, (rw f (done .1 .0), (rw (f, ← h) words, λ k. sweep-promise r (rw (v .1) at (done .1 .1)) number words)))
 
 pub kullneyra-sweep-spec : {M : Type 1} → statement M
 kullneyra-sweep-spec =

@@ -1,5 +1,6 @@
 -- By the result words' length: another one is 7, and with 3 words import's promise holds and `give` writes its answer.
 use lib.ListN.{length}
+use Rattle.kullneyra.proofs.Promise.{import-promise}
 use borrow.Author.Tests.{eq-eqb, ne-eqb}
 use borrow.Author.Needs.{needs}
 use Rattle.ffi_store.proofs.kullneyra_import.Statement.{statement}
@@ -12,11 +13,15 @@ returns : tie.Need-returns
 returns c =
     let f = ne-eqb (length (entry (c .before) .args .result .now)) 3 (c .if1 .taken) in
     record {
-      answers = rw f;
-      fills-offsets = rw f;
-      fills-targets = rw f;
-      fills-sizes = rw f;
-      fills-result = rw f;
+      words =
+          record {
+            answers = rw f;
+            fills-offsets = rw f;
+            fills-targets = rw f;
+            fills-sizes = rw f;
+            fills-result = rw f;
+          };
+      promise = λ l. absurd (c .if1 .taken l);
     }
 
 abbrev at-import : tie.After-slice-known7 → tie.After-import
@@ -32,11 +37,15 @@ returns-2 c =
     let h = done .returned in
     let given = at-give .give .ensures in
     record {
-      answers = rw (f, ← h) (given .0);
-      fills-offsets = rw f (done .offsets-are);
-      fills-targets = rw f (done .targets-are);
-      fills-sizes = rw f (done .sizes-are);
-      fills-result = rw (f, ← h) (given .1);
+      words =
+          record {
+            answers = rw (f, ← h) (given .0);
+            fills-offsets = rw f (done .offsets-are);
+            fills-targets = rw f (done .targets-are);
+            fills-sizes = rw f (done .sizes-are);
+            fills-result = rw (f, ← h) (given .1);
+          };
+      promise = λ l. import-promise _ (r .import .ensures .1) (given .0) (given .1);
     }
 
 pub kullneyra-import-spec : {M : Type 1} → statement M

@@ -1,5 +1,6 @@
 -- By the result words' length: another one is 7, and with 4 words the reader's promise holds and `give_found` writes its answer.
 use lib.ListN.{length}
+use Rattle.kullneyra.proofs.Promise.{read-promise}
 use borrow.Author.Tests.{eq-eqb, ne-eqb}
 use borrow.Author.Needs.{needs}
 use Rattle.ffi_store.proofs.kullneyra_read.Statement.{statement}
@@ -12,12 +13,16 @@ returns : tie.Need-returns
 returns c =
     let f = ne-eqb (length (entry (c .before) .args .result .now)) 4 (c .if1 .taken) in
     record {
-      answers = rw f;
-      fills-offsets = rw f;
-      fills-targets = rw f;
-      fills-sizes = rw f;
-      fills-starts = rw f;
-      fills-result = rw f;
+      words =
+          record {
+            answers = rw f;
+            fills-offsets = rw f;
+            fills-targets = rw f;
+            fills-sizes = rw f;
+            fills-starts = rw f;
+            fills-result = rw f;
+          };
+      promise = λ l. absurd (c .if1 .taken l);
     }
 
 abbrev at-read : tie.After-slice-known9 → tie.After-read
@@ -33,12 +38,16 @@ returns-2 c =
     let h = done .returned in
     let given = at-give .give-found .ensures in
     record {
-      answers = rw (f, ← h) (given .0);
-      fills-offsets = rw f (done .offsets-are);
-      fills-targets = rw f (done .targets-are);
-      fills-sizes = rw f (done .sizes-are);
-      fills-starts = rw f (done .starts-are);
-      fills-result = rw (f, ← h) (given .1);
+      words =
+          record {
+            answers = rw (f, ← h) (given .0);
+            fills-offsets = rw f (done .offsets-are);
+            fills-targets = rw f (done .targets-are);
+            fills-sizes = rw f (done .sizes-are);
+            fills-starts = rw f (done .starts-are);
+            fills-result = rw (f, ← h) (given .1);
+          };
+      promise = λ l. read-promise _ (r .read .ensures .1) (given .0) (given .1);
     }
 
 pub kullneyra-read-spec : {M : Type 1} → statement M
