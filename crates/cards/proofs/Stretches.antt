@@ -16,7 +16,7 @@ use Rattle.laws.proofs.Sum.{hit-other}
 use Rattle.graph.specs.Graph.{allBelow}
 use Rattle.graph.proofs.Formed.{both-true}
 use Rattle.machine.specs.Machine.{Entry, entries}
-use Rattle.machine.specs.Call.{scheduleFits}
+use Rattle.desk.specs.Checks.{scheduleFits}
 use Rattle.machine.specs.Demand3.{entriesOf, AllHave, joined, Cut}
 use Rattle.machine.proofs.Finishing.{cut-finishes}
 use Rattle.cards.specs.Deck.{card-workers, deck-size, card, digits}

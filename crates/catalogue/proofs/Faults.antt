@@ -10,7 +10,7 @@ use lib.ListN.{length}
 use lib.Dec.{eqb, ltb}
 use Rattle.refusal.specs.Order.{raise}
 use Rattle.refusal.proofs.None.{raise-none, or-none}
-use Rattle.catalogue.proofs.Cases.{Known, as-header, as-object, as-reference, as-lease, as-subject, numberFor, kind-number, contents, placed, right-frame, whole}
+use Rattle.faults.proofs.Cases.{Known, as-header, as-object, as-reference, as-lease, as-subject, numberFor, kind-number, contents, placed, right-frame, whole}
 use Rattle.records.specs.Layout.{header, object, reference, lease, subject}
 use Rattle.graph.specs.Limits.{most-objects, most-references, largest-size}
 use Rattle.records.specs.Store.{Ends}

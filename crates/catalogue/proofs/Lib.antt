@@ -1,4 +1,3 @@
-pub mod Cases
 pub mod Faults
 pub mod Forms
 pub mod Leases

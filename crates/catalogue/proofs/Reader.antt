@@ -13,8 +13,9 @@ use Rattle.refusal.specs.Number.{number}
 use Rattle.refusal.proofs.Numbers.{numbered}
 use Rattle.refusal.proofs.None.{or-none}
 use Rattle.records.specs.Store.{Store, stored, start-words, padded}
-use Rattle.records.specs.Reading.{refused, accepted, judged, reading, catalogueFault, storeOf, records, size-field, link-field, lease-field, n-field, m-field, leases-at, lease-count, leasesFrom}
-use Rattle.catalogue.specs.Answer.{unread, misfits, taken, Reads, Heads}
+use Rattle.records.specs.Reading.{Heads, refused, accepted, judged, reading, catalogueFault, storeOf}
+use Rattle.records.specs.Reading.{records, size-field, link-field, lease-field, n-field, m-field, leases-at, lease-count, leasesFrom}
+use Rattle.catalogue.specs.Answer.{unread, misfits, taken, Reads}
 use Rattle.records.specs.Fill.{pairsOf, fromOf, toOf}
 use Rattle.records.proofs.Filling.{length-records, map-records}
 

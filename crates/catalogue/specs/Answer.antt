@@ -109,9 +109,3 @@ pub record Reads (b o t s w : List ℕ) (r : ReadRow) (o′ t′ s′ w′ : Lis
   pub targets-are : t′ ≡ targetsAfter (taken b o t s w) t
   pub sizes-are : s′ ≡ sizesAfter (taken b o t s w) s
   pub starts-are : w′ ≡ startsAfter (taken b o t s w) w
-
--- what a header says: n, m and the index
-pub record Heads (b : List ℕ) (n m index : ℕ) : Type 0 where
-  pub n-is : n ≡ n-field b
-  pub m-is : m ≡ m-field b
-  pub index-is : index ≡ index-field b

@@ -1,12 +1,12 @@
 // The catalogue of SPECIFICATION 1: the calls `header` and `read`.
-mod fill;
-mod record;
+mod check;
 
 ghost use mathlib.Core.Path.{_≡_};
 ghost use Prim.Native.Nat.{_≤_};
 ghost use Rattle.graph.specs.Limits.{most-objects};
 ghost use Rattle.catalogue.specs.Answer.{row, foundRow, headerRow, misfits, Reads};
 ghost use Rattle.catalogue.specs.Acceptance.{Acceptance};
+use records::HEADER;
 use refusal::Refusal;
 use refusal::Verdict;
 
@@ -63,10 +63,10 @@ pub fn fault_of(found: Found) -> u8
 pub fn header(bytes: &[u8]) -> Answer
     ensures { λ r. ⌜ row r ≡ headerRow (now (bytes .entry)) ⌝ }
 {
-    match record::record_fault(bytes, record::HEADER, 0) {
+    match faults::record_fault(bytes, HEADER, 0) {
         Verdict::Faulty(refusal) => Answer::Refused(refusal),
         Verdict::Fine => {
-            let head = record::header_of(bytes);
+            let head = faults::header_of(bytes);
             Answer::Read {
                 n: head.n,
                 m: head.m,
@@ -107,10 +107,10 @@ pub fn read(
     ensures { λ r. ⌜ Acceptance (now (bytes .entry)) (foundRow r)
         (now (offsets .exit)) (now (targets .exit)) (now (sizes .exit)) (now (starts .exit)) ⌝ }
 {
-    if let Verdict::Faulty(refusal) = record::catalogue_fault(bytes) {
+    if let Verdict::Faulty(refusal) = check::catalogue_fault(bytes) {
         return Found::Refused(refusal);
     }
-    let head = record::header_of(bytes);
+    let head = faults::header_of(bytes);
     let n = head.n;
     let m = head.m;
     let index = head.index;
@@ -126,7 +126,7 @@ pub fn read(
     }
     fill::fill_sizes(bytes, sizes);
     fill::fill_graph(bytes, n, offsets, targets);
-    let count = fill::fill_starts(bytes, record::leases_place(n, m), index, starts);
+    let count = fill::fill_starts(bytes, check::leases_place(n, m), index, starts);
     Found::Read {
         n,
         m,

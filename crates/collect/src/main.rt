@@ -1,10 +1,10 @@
 // The program: reads `store.cat` and `order.run` in the current folder and prints what the
 // collection did. What it prints is made by `report::answer`; here are only files.
 use libc::STDOUT_FILENO;
-use report::Loaded;
-use report::limits::MOST_ORDER_BYTES;
-use report::limits::MOST_STORE_BYTES;
-use report::limits::TEXT_ROOM;
+use program::Loaded;
+use program::limits::MOST_ORDER_BYTES;
+use program::limits::MOST_STORE_BYTES;
+use program::limits::TEXT_ROOM;
 ghost use Prim.Native.Nat.{_≤_};
 ghost use lib.ListN.{length};
 

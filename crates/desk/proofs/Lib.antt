@@ -2,3 +2,4 @@ pub mod Checks
 pub mod Bounded
 pub mod Passed
 pub mod Kept
+pub mod Schedule

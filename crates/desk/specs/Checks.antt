@@ -1,9 +1,10 @@
 -- SPECIFICATION 2: the checks that several calls make, each with its number.
 use Prim.Native.Nat.{ℕ, _*_}
-use mathlib.Core.Bool.{Bool, false, not, _||_}
-use mathlib.Core.List.{List}
+use mathlib.Core.Bool.{Bool, true, false, not, _||_}
+use mathlib.Core.List.{List, [], _∷_}
 use lib.ListN.{length}
 use lib.Dec.{ltb, eqb}
+use Rattle.laws.specs.Choice.{both}
 use Rattle.refusal.specs.Order.{raise, first}
 use Rattle.graph.specs.Graph.{Graph, graph, objects, allBelow, wellFormed}
 use Rattle.graph.specs.Limits.{most-objects, most-references, most-starts}
@@ -64,6 +65,16 @@ startsFault starts = raise (outside most-starts (length starts)) 13 0
 -- 5: a start is no object
 abbrev pub objectFault : ℕ → List ℕ → ℕ
 objectFault n starts = raise (not (allBelow n starts)) 5 0
+
+-- whole entries, each with a worker below W
+unfoldable pub scheduleFits : ℕ → List ℕ → Bool
+scheduleFits W [] = true
+scheduleFits W (b ∷ []) = false
+scheduleFits W (b ∷ v ∷ l) = both (ltb b W) (scheduleFits W l)
+
+-- 9: a schedule of odd length, or an entry whose worker is not below W
+abbrev pub scheduleFault : ℕ → List ℕ → ℕ
+scheduleFault W schedule = raise (not (scheduleFits W schedule)) 9 0
 
 -- ---- several of them, in their order
 

@@ -9,7 +9,7 @@ ghost use Prim.Native.Nat.{_-_, _≤_};
 ghost use Rattle.graph.specs.Limits.{most-objects};
 ghost use Rattle.refusal.specs.Number.{numberOf};
 ghost use Rattle.desk.specs.Limits.{most-workers};
-ghost use Rattle.desk.specs.Checks.{outside, settingsOutside, countsOutside, savedWrong, lengthsWrong, graphFaults, storeFault};
+ghost use Rattle.desk.specs.Checks.{outside, settingsOutside, countsOutside, savedWrong, lengthsWrong, graphFaults, storeFault, scheduleFits};
 
 // The most workers, and the largest batch and cutoff.
 pub const MOST_WORKERS: u32 = 16;
@@ -157,4 +157,23 @@ pub fn check_store(offsets: &[u32], targets: &[u32], starts: &[u32]) -> Verdict
         return Verdict::Faulty(Refusal::Object);
     }
     Verdict::Fine
+}
+
+// Check 9: whole entries, each with a worker below W.
+pub fn schedule_fits(schedule: &[u8], workers: u32) -> bool
+    ensures { λ r. ⌜ r ≡ scheduleFits workers (now (schedule .entry)) ⌝ }
+{
+    let entries = schedule.len() / 2;
+    if 2 * entries != schedule.len() {
+        return false;
+    }
+    // Looks at every entry, so that the loop is compiled without a jump out of it.
+    let mut wrong: u32 = 0;
+    for k in 0..entries {
+        let b = schedule[2 * k] as u32;
+        if workers <= b {
+            wrong = 1;
+        }
+    }
+    wrong == 0
 }

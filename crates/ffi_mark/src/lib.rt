@@ -8,7 +8,7 @@ ghost use Rattle.marker.specs.Answer.{callOf};
 ghost use Rattle.kullneyra.specs.Calls.{sweepAnswer, sweepWords, sweepList};
 ghost use Rattle.kullneyra.specs.Calls.{LengthIn, settings};
 ghost use Rattle.kullneyra.specs.Promise.{Marks, Begins, Resumes, SweepPromise};
-ghost use Rattle.resume.specs.Answer.{lengthFor as savedLength};
+ghost use Rattle.begin.specs.Answer.{lengthFor as savedLength};
 
 // The marker; the tallies are four words for each worker: followed, won, lost and handed. Result
 // words: finished (1 or 0), then the counts in the order of `Counts`.
@@ -55,7 +55,7 @@ pub extern "C" fn kullneyra_mark(
 pub extern "C" fn kullneyra_saved_words(objects: u32, workers: u32, result: &mut [u64]) -> u32
     ensures { λ r. ⌜ LengthIn (savedLength objects workers) (now (result .entry)) (now (result .exit)) r ⌝ }
 {
-    kullneyra::give_length(resume::saved_words(objects, workers), result)
+    kullneyra::give_length(begin::saved_words(objects, workers), result)
 }
 
 // As the marker, and saves the collection.
@@ -81,7 +81,7 @@ pub extern "C" fn kullneyra_begin(
     if result.len() != kullneyra::MARK_WORDS {
         return kullneyra::BUFFER;
     }
-    let answer = resume::begin(
+    let answer = begin::begin(
         offsets,
         targets,
         starts,

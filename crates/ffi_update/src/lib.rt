@@ -1,4 +1,5 @@
 // What is worked out of a graph as C functions: hops, and references that are added and taken out.
+use desk::Length;
 ghost use Rattle.kullneyra.specs.Calls.{LengthIn, HopsIn, AddsIn, RemovesIn};
 ghost use Rattle.hops.specs.Call.{lengthFor as hopLength};
 ghost use Rattle.updates.specs.Call.{lengthFor as updateLength};
@@ -8,7 +9,8 @@ ghost use Rattle.updates.specs.Call.{lengthFor as updateLength};
 pub extern "C" fn kullneyra_hop_words(objects: u32, result: &mut [u64]) -> u32
     ensures { λ r. ⌜ LengthIn (hopLength objects) (now (result .entry)) (now (result .exit)) r ⌝ }
 {
-    kullneyra::give_length(hops::hop_words(objects), result)
+    let words: Length = hops::hop_words(objects);
+    kullneyra::give_length(words, result)
 }
 
 // The hop count of each object; there are no result words.
@@ -30,7 +32,8 @@ pub extern "C" fn kullneyra_hops(
 pub extern "C" fn kullneyra_update_words(objects: u32, result: &mut [u64]) -> u32
     ensures { λ r. ⌜ LengthIn (updateLength objects) (now (result .entry)) (now (result .exit)) r ⌝ }
 {
-    kullneyra::give_length(updates::update_words(objects), result)
+    let words: Length = updates::update_words(objects);
+    kullneyra::give_length(words, result)
 }
 
 // References are added, and the marks brought up to date; there are no result words.
@@ -49,7 +52,7 @@ pub extern "C" fn kullneyra_add(
         (now («new_offsets» .entry)) (now («new_targets» .entry)) (now (marks .entry)) (now (work .entry))
         (now («new_offsets» .exit)) (now («new_targets» .exit)) (now (marks .exit)) (now (work .exit)) r ⌝ }
 {
-    refusal::verdict_number(updates::add::add(
+    refusal::verdict_number(add::add(
         offsets,
         targets,
         from,
@@ -77,7 +80,7 @@ pub extern "C" fn kullneyra_remove(
         (now («new_offsets» .entry)) (now («new_targets» .entry)) (now (marks .entry)) (now (work .entry))
         (now («new_offsets» .exit)) (now («new_targets» .exit)) (now (marks .exit)) (now (work .exit)) r ⌝ }
 {
-    refusal::verdict_number(updates::remove::remove(
+    refusal::verdict_number(remove::remove(
         offsets,
         targets,
         numbers,

@@ -18,8 +18,8 @@ use Rattle.refusal.proofs.Numbers.{numbered, when-fine, when-faulty}
 use Rattle.graph.specs.Graph.{graph, objects}
 use Rattle.desk.specs.Checks.{countsOutside, countFault, storeFault}
 use Rattle.desk.proofs.Passed.{counted, stored}
-use Rattle.hops.specs.Hops.{HopsOf}
-use Rattle.hops.specs.Search.{Searchable}
+use Rattle.layers.specs.Hops.{HopsOf}
+use Rattle.layers.specs.Search.{Searchable}
 use Rattle.hops.specs.Call.{workWords, fault, Finds, Answered}
 
 abbrev pub Buffer? : ℕ → ℕ → ℕ → Bool

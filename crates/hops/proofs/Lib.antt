@@ -1,6 +1,1 @@
-pub mod Growing
-pub mod Visiting
-pub mod Walking
-pub mod Spreading
-pub mod Layers
 pub mod Checks

@@ -11,7 +11,7 @@ use Rattle.refusal.specs.Order.{raise, first}
 use Rattle.graph.specs.Graph.{graph, objects}
 use Rattle.desk.specs.Checks.{countFault, objectsFault, storeFault}
 use Rattle.desk.specs.Length.{LengthRow, lengthBy}
-use Rattle.hops.specs.Hops.{HopsOf}
+use Rattle.layers.specs.Hops.{HopsOf}
 
 -- how many work words n objects take
 abbrev pub workWords : ℕ → ℕ

@@ -2,20 +2,11 @@
 use mathlib.Core.Path.{_≡_, refl}
 use mathlib.Core.List.{List, [], _∷_, map}
 use Prim.Native.Nat.{ℕ}
-use native.Mathlib.Omega.{arith}
 use lib.ListN.{replicate}
-use Rattle.laws.specs.Sum.{sum, hit}
-use Rattle.graph.specs.Graph.{Graph, graph, rising, allBelow, wellFormed}
+use Rattle.graph.specs.Graph.{rising, allBelow, wellFormed}
 use Rattle.desk.specs.Length.{lengthWith}
-use Rattle.hops.specs.Hops.{Chain, here, on}
+use Rattle.layers.specs.Drawings.{offsetsS, targetsS, one}
 use Rattle.hops.specs.Call.{fault, lengthFor}
-
--- store S: 0→1, 0→2, 1→3, 2→3, 3→0, 5→4
-abbrev pub offsetsS : List ℕ
-offsetsS = 0 ∷ 2 ∷ 3 ∷ 4 ∷ 5 ∷ 5 ∷ 6 ∷ []
-
-abbrev pub targetsS : List ℕ
-targetsS = 1 ∷ 2 ∷ 3 ∷ 3 ∷ 0 ∷ 4 ∷ []
 
 pub record Lent : Type 0 where
   pub offsets : List ℕ
@@ -27,9 +18,6 @@ pub record Lent : Type 0 where
 
 abbrev pub lent : List ℕ → List ℕ → List ℕ → ℕ → ℕ → ℕ → Lent
 lent os ts ss hops work number = record { offsets = os; targets = ts; starts = ss; hops = hops; work = work; number = number }
-
-abbrev pub one : List ℕ
-one = 0 ∷ []
 
 -- both edges of each check, and two faults at once
 abbrev pub refusals : List Lent
@@ -61,13 +49,3 @@ refusals-hold = refl
 pub words-hold : map lengthFor (0 ∷ 1 ∷ 6 ∷ 65536 ∷ 65537 ∷ [])
     ≡ lengthWith 4 0 ∷ lengthWith 0 2 ∷ lengthWith 0 12 ∷ lengthWith 0 131072 ∷ lengthWith 4 0 ∷ []
 words-hold = refl
-
-abbrev pub S : Graph
-S = graph offsetsS targetsS
-
--- a chain of two references from the index to object 3: numbers 1 and 3
-pub chain-holds : Chain S one 2 3
-unfolding sum hit
-chain-holds =
-    on 3 (on 1 (here {v = 0} (omega arith)) (record { object = omega arith; from = omega arith; below = omega arith }))
-    (record { object = omega arith; from = omega arith; below = omega arith })

@@ -1,4 +1,2 @@
 pub mod Call
 pub mod Drawings
-pub mod Hops
-pub mod Search

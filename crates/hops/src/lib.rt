@@ -1,7 +1,5 @@
 // Hops: for each object the least number of references from a start. The call checks its inputs as
 // the marker does its own.
-pub mod search;
-
 use desk::Length;
 use refusal::Refusal;
 use refusal::Verdict;

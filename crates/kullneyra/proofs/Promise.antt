@@ -10,7 +10,7 @@ use Rattle.desk.specs.Kept.{unlessRefused}
 use Rattle.catalogue.specs.Answer.{Row as HeadRow, ReadRow}
 use Rattle.catalogue.specs.Acceptance.{Acceptance}
 use Rattle.machine.specs.Row.{Row}
-use Rattle.machine.specs.Machine.{State, entries}
+use Rattle.machine.specs.Machine.{State}
 use Rattle.machine.specs.Call.{Call, graphOf, settingOf, fault, final, answerFor}
 use Rattle.marker.specs.declared.Marked.{Marked}
 use Rattle.marker.specs.Answer.{row, Answered}
@@ -18,7 +18,8 @@ use Rattle.sweep.specs.Sweep.{Row as SweepRow}
 use Rattle.sweep.specs.Collection.{Collection}
 use Rattle.saved.specs.Sound.{SavedRun}
 use Rattle.saved.specs.Calls.{beginFault, resumeFault, resumed, rowFor}
-use Rattle.resume.specs.Answer.{Begun, Continued}
+use Rattle.begin.specs.Answer.{Begun}
+use Rattle.resume.specs.Answer.{Continued}
 use Rattle.seed.specs.declared.Seed.{Seed}
 use Rattle.seed.specs.declared.Dealt.the-variants.{Moved}
 use Rattle.seed.specs.Deal.{Deals}

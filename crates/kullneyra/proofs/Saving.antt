@@ -10,7 +10,7 @@ use Rattle.machine.specs.Machine.{State}
 use Rattle.machine.specs.Call.{Call}
 use Rattle.marker.specs.declared.Marked.{Marked}
 use Rattle.marker.specs.Answer.{row}
-use Rattle.resume.specs.Answer.{Answers}
+use Rattle.begin.specs.Answer.{Answers}
 use Rattle.kullneyra.specs.Calls.{mark-words, markWords, SavesIn}
 
 module _ {c : Call} {k : ℕ} {s : State} {marks work tallies w result : List ℕ} where

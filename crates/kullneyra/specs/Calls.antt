@@ -30,7 +30,7 @@ use Rattle.seed.specs.declared.Drawn.the-variants.{Card, Refused}
 use Rattle.seed.specs.Draw.{next, drawn}
 use Rattle.seed.specs.Deal.{afterDraws, handOf, fault}
 use Rattle.matrix.specs.Import.{headRow, taken as importTaken, answerOf}
-use Rattle.hops.specs.Hops.{HopsOf}
+use Rattle.layers.specs.Hops.{HopsOf}
 use Rattle.hops.specs.Call.{fault as hopFault}
 use Rattle.changes.specs.Pairs.{paired}
 use Rattle.changes.specs.Stores.{added, completed, removed, marksAfresh}

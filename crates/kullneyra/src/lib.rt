@@ -77,7 +77,7 @@ fn give_counts(finished: u64, counts: Counts, result: &mut [u64])
     ensures { λ _. ⌜ now (result .exit) ≡ resultWords finished counts ⌝ }
 {
     result[0] = finished;
-    machine::put_counts(counts, &mut result[1..]);
+    step::counts::put_counts(counts, &mut result[1..]);
 }
 
 // An answer of the marker: its number, and its values in the result words.

@@ -15,10 +15,10 @@ use Rattle.refusal.proofs.None.{raise-none, first-none}
 use Rattle.graph.specs.Graph.{objects, allBelow}
 use Rattle.graph.proofs.Formed.{both-true}
 use Rattle.desk.specs.declared.Lengths.{Lengths}
-use Rattle.desk.specs.Checks.{settingFault, countFault, bufferFault, storeFault}
+use Rattle.desk.specs.Checks.{settingFault, countFault, bufferFault, storeFault, scheduleFits, scheduleFault}
 use Rattle.desk.proofs.Passed.{settled, counted, exact, stored}
 use Rattle.machine.specs.Checked.{Checked}
-use Rattle.machine.specs.Call.{Call, graphOf, scheduledBy, scheduleFits, scheduleFault, firstFault}
+use Rattle.machine.specs.Call.{Call, graphOf, scheduledBy, firstFault}
 
 -- a number of the list, all of which are below n
 starts-low : (n : ℕ) (vs : List ℕ) → allBelow n vs ≡ true → (v : ℕ) → 0 < sum (hit v) vs → v < n

@@ -1,5 +1,5 @@
 -- What is promised of a collection's turns, each part by its theorem. R counts the trail of a schedule that is long enough to finish.
-use mathlib.Core.Path.{_≡_, sym, _∙_}
+use mathlib.Core.Path.{sym, _∙_}
 use mathlib.Core.List.{List}
 use Prim.Native.Nat.{ℕ}
 use lib.ListN.{take}

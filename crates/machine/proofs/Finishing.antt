@@ -13,7 +13,8 @@ use Rattle.laws.specs.Sum.{hit}
 use Rattle.laws.proofs.Sum.{sum-append}
 use Rattle.graph.specs.Chain.{leavingReached}
 use Rattle.machine.specs.Machine.{Entry, entries}
-use Rattle.machine.specs.Call.{graphOf, scheduledBy, scheduleFits, lengths}
+use Rattle.desk.specs.Checks.{scheduleFits}
+use Rattle.machine.specs.Call.{graphOf, scheduledBy, lengths}
 use Rattle.machine.specs.Demand3.{stretchBound, AllHave, joined, Cut}
 use Rattle.machine.specs.Finishing.{Finishes}
 use Rattle.machine.proofs.Accept.{checked, fault-scheduled}

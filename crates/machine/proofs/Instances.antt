@@ -19,7 +19,8 @@ use Rattle.graph.specs.Chain.{leavingReached, marksAt}
 use Rattle.machine.specs.Row.{Row}
 use Rattle.machine.specs.Run.{carried, keep, rest}
 use Rattle.machine.specs.Machine.{Setting, Entry, allEnded, entries, live, result, start, startRuns, turns}
-use Rattle.machine.specs.Call.{Call, graphOf, settingOf, scheduledBy, scheduleFits, fault, firstFault, lengths, marking}
+use Rattle.desk.specs.Checks.{scheduleFits}
+use Rattle.machine.specs.Call.{Call, graphOf, settingOf, scheduledBy, fault, firstFault, lengths, marking}
 use Rattle.machine.specs.Accepted.{Accepted}
 use Rattle.machine.specs.Demand2.{outcome}
 use Rattle.machine.specs.Demand3.{stretchBound, entriesOf, AllHave, joined, roundOf, rounds, longSchedule, Cut, Demand3}

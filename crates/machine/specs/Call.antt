@@ -1,15 +1,12 @@
 -- SPECIFICATION 2: the marker's checks in their order (8, 4, 7, 10, 13, 5, 9), its answer, and the lent buffers afterwards.
 use Prim.Native.Nat.{ℕ, zero, suc}
-use mathlib.Core.Bool.{Bool, true, false, not}
-use mathlib.Core.List.{List, [], _∷_}
+use mathlib.Core.List.{List}
 use lib.ListN.{length}
-use lib.Dec.{ltb}
-use Rattle.laws.specs.Choice.{both}
-use Rattle.refusal.specs.Order.{raise, first}
+use Rattle.refusal.specs.Order.{first}
 use Rattle.graph.specs.Graph.{Graph, graph, objects}
 use Rattle.desk.specs.declared.Lengths.{Lengths}
 use Rattle.desk.specs.declared.SavedWords.the-variants.{Absent}
-use Rattle.desk.specs.Checks.{settingFault, countFault, bufferFault, storeFault}
+use Rattle.desk.specs.Checks.{settingFault, countFault, bufferFault, storeFault, scheduleFault}
 use Rattle.desk.specs.Kept.{unlessRefused}
 use Rattle.machine.specs.Row.{Row, refusedRow}
 use Rattle.machine.specs.Tally.{talliesWords}
@@ -46,16 +43,6 @@ abbrev pub settingOf : Call → Setting
 settingOf c = record { batch = c .batch; cutoff = c .cutoff }
 
 -- ---- the checks
-
--- whole entries, each with a worker below W
-unfoldable pub scheduleFits : ℕ → List ℕ → Bool
-scheduleFits W [] = true
-scheduleFits W (b ∷ []) = false
-scheduleFits W (b ∷ v ∷ l) = both (ltb b W) (scheduleFits W l)
-
--- 9: a schedule of odd length, or an entry whose worker is not below W
-abbrev pub scheduleFault : ℕ → List ℕ → ℕ
-scheduleFault W schedule = raise (not (scheduleFits W schedule)) 9 0
 
 -- the number of the first fault of a call whose buffers are so long, or 0
 unfoldable pub firstFault : Call → Lengths → ℕ

@@ -7,9 +7,9 @@ use Rattle.graph.specs.Graph.{objects, references}
 use Rattle.graph.specs.Limits.{most-objects, most-references, most-starts}
 use Rattle.desk.specs.declared.Lengths.{Lengths}
 use Rattle.desk.specs.Lengths.{tally-words, stretchLength}
-use Rattle.desk.specs.Checks.{savedWrong}
+use Rattle.desk.specs.Checks.{savedWrong, scheduleFits}
 use Rattle.machine.specs.Accepted.{Accepted}
-use Rattle.machine.specs.Call.{Call, graphOf, settingOf, scheduleFits}
+use Rattle.machine.specs.Call.{Call, graphOf, settingOf}
 
 -- of a call whose buffers are so long
 pub record Checked (c : Call) (l : Lengths) : Type 0 where

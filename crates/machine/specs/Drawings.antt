@@ -10,7 +10,8 @@ use Rattle.desk.specs.Lengths.{stretchLength, tally-words}
 use Rattle.machine.specs.Run.{carried, keep, rest}
 use Rattle.machine.specs.Machine.{turns, trail, start, startRuns, entries, allEnded, live}
 use Rattle.machine.specs.Row.{Row, refusedRow}
-use Rattle.machine.specs.Call.{Call, graphOf, settingOf, fault, firstFault, scheduleFits, final, marking}
+use Rattle.desk.specs.Checks.{scheduleFits}
+use Rattle.machine.specs.Call.{Call, graphOf, settingOf, fault, firstFault, final, marking}
 use Rattle.machine.specs.Owners.{Win, claimsWon, claimsWonOf}
 
 -- a call, and the row that it must give

@@ -11,7 +11,7 @@ use Rattle.machine.specs.Run.{carried, keep, rest}
 use Rattle.machine.specs.Ring.{Colour, white, black, Ring}
 use Rattle.machine.specs.Machine.{live, startRuns, start, turns, entries, allEnded}
 use Rattle.machine.specs.Demand2.{outcome}
-use Rattle.machine.specs.Call.{scheduleFits}
+use Rattle.desk.specs.Checks.{scheduleFits}
 use Rattle.machine.specs.Drawings.{Drawing, gives, drawing, drawn}
 use Rattle.machine.specs.Rules.{repeated}
 

@@ -11,7 +11,8 @@ use Rattle.machine.specs.Run.{run, carried, keep, rest, pairs}
 use Rattle.machine.specs.Machine.{Worker, idle, asking, denied, given, busy, poll, look, claim, empty, from, turns, worker, runsOf, start, startRuns, entries, allEnded, live, stretch, memory}
 use Rattle.machine.specs.declared.frontier.Held.the-variants.{Front, Back, Middle}
 use Rattle.machine.specs.Split.{held, heldHalf}
-use Rattle.machine.specs.Call.{firstFault, scheduleFits, final, marksAfter, workAfter}
+use Rattle.desk.specs.Checks.{scheduleFits}
+use Rattle.machine.specs.Call.{firstFault, final, marksAfter, workAfter}
 use Rattle.machine.specs.Drawings.{Drawing, itself, naming0, gives, drawing, ones, drawn}
 
 -- a drawing, and the workers after its last turn

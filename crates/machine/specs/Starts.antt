@@ -8,7 +8,8 @@ use Rattle.graph.specs.Graph.{rising, allBelow, wellFormed}
 use Rattle.graph.specs.Chain.{marksAt, leavingReached}
 use Rattle.machine.specs.Run.{run, carried, keep, rest}
 use Rattle.machine.specs.Machine.{idle, ended, busy, poll, empty, turns, start, startRuns, entries, allEnded, live}
-use Rattle.machine.specs.Call.{fault, firstFault, scheduleFits, final}
+use Rattle.desk.specs.Checks.{scheduleFits}
+use Rattle.machine.specs.Call.{fault, firstFault, final}
 use Rattle.machine.specs.Drawings.{S, naming0, gives, drawingFrom, faulty, drawn, drawnTrail}
 use Rattle.machine.specs.Rules.{Rule, rule}
 

@@ -23,12 +23,12 @@ use Rattle.worker.specs.Stretch.{Told, Lowerable, Lowered}
 use Rattle.worker.proofs.Blocks.{store-stored}
 use Rattle.laws.proofs.Blocks.{laid-replicate}
 use Rattle.machine.specs.Tally.{Tally, noTally, tallyWords, talliesWords}
-use Rattle.turns.specs.declared.Setup.{Setup}
+use Rattle.step.specs.declared.Setup.{Setup}
 use Rattle.machine.specs.Ring.{freshRing}
-use Rattle.turns.proofs.Ringing.{fresh-words}
-use Rattle.turns.specs.Counting.{running?, countsOf, freshProgress}
-use Rattle.turns.specs.Held.{memory, BlockIs, Holds}
-use Rattle.turns.proofs.Each.{all-same, hold-one}
+use Rattle.step.proofs.Ringing.{fresh-words}
+use Rattle.step.specs.Counting.{running?, countsOf, freshProgress}
+use Rattle.step.specs.Held.{memory, BlockIs, Holds}
+use Rattle.step.proofs.Each.{all-same, hold-one}
 use Rattle.marker.specs.declared.start.Gathered.{Gathered}
 use Rattle.marker.specs.Starting.{Gatherable, runsFrom, IsGathered, Gathers, Startable, begin, Started}
 

@@ -1,15 +1,7 @@
--- The checks on the schedule, and the number of the first fault.
-use mathlib.Core.Path.{_≡_, refl, sym, ap, _∙_}
-use mathlib.Core.Bool.{Bool, true, false}
-use mathlib.Core.List.{List, [], _∷_}
-use Prim.Native.Nat.{ℕ, suc, _+_, _-_, _*_, _≤_, _<_}
-use native.Mathlib.Numerals.{add-one}
-use native.Mathlib.Omega.{arith}
-use borrow.Author.Tests.{lt-ltb, le-ltb}
-use lib.ListN.{length, getD, drop, drop-of-length-le}
-use lib.Dec.{ltb}
-use lib.Seq.{drop-cons}
-use Rattle.laws.specs.Choice.{both}
+-- The number of the first fault, by what the checks answer.
+use mathlib.Core.Path.{_≡_}
+use mathlib.Core.Bool.{true, false}
+use lib.ListN.{length}
 use Rattle.refusal.specs.declared.Refusal.{Refusal}
 use Rattle.refusal.specs.declared.Refusal.the-variants.{Setting, Count, Buffer, Schedule}
 use Rattle.refusal.specs.declared.Verdict.the-variants.{Fine, Faulty}
@@ -17,50 +9,9 @@ use Rattle.refusal.specs.Number.{number}
 use Rattle.refusal.proofs.Numbers.{first-found}
 use Rattle.graph.specs.Graph.{objects}
 use Rattle.desk.specs.declared.Lengths.{Lengths}
-use Rattle.desk.specs.Checks.{settingsOutside, countsOutside, lengthsWrong, storeFault}
-use Rattle.machine.specs.Call.{Call, graphOf, scheduleFits, firstFault}
+use Rattle.desk.specs.Checks.{settingsOutside, countsOutside, lengthsWrong, storeFault, scheduleFits}
+use Rattle.machine.specs.Call.{Call, graphOf, firstFault}
 use Rattle.marker.specs.Answer.{Finds}
-
-module _ (l : List ℕ) (i : ℕ) (h : i < length l) (room : 2 ≤ length l - i) where
-  -- the entry at i
-  pub pair-is : drop i l ≡ getD l i 0 ∷ getD l (i + 1) 0 ∷ drop (i + 2) l
-  pair-is =
-      let n : i + 1 ≡ suc i = add-one i in
-      let m : i + 2 ≡ suc (suc i) = omega arith in
-      rw (n, m) (drop-cons l i 0 h ∙ ap (λ (t : List ℕ). getD l i 0 ∷ t) (drop-cons l (suc i) 0 (omega arith)))
-
-  fits-wrong : (W : ℕ) → W ≤ getD l i 0 → scheduleFits W (drop i l) ≡ false
-  unfolding scheduleFits
-  fits-wrong W w = ap (λ (t : List ℕ). scheduleFits W t) pair-is ∙ rw (le-ltb (getD l i 0) W w)
-
-  fits-next : (W : ℕ) → getD l i 0 < W → scheduleFits W (drop (i + 2) l) ≡ scheduleFits W (drop i l)
-  unfolding scheduleFits
-  fits-next W w = sym (ap (λ (t : List ℕ). scheduleFits W t) pair-is ∙ rw (lt-ltb (getD l i 0) W w))
-
-pub fits-done : (W : ℕ) (l : List ℕ) (i : ℕ) → length l ≤ i → scheduleFits W (drop i l) ≡ true
-unfolding scheduleFits
-fits-done W l i h = ap (λ (t : List ℕ). scheduleFits W t) (drop-of-length-le l h)
-
--- a schedule of odd length
-pub fits-odd : (W : ℕ) (l : List ℕ) → ((k : ℕ) → 2 * k ≡ length l → ⊥) → scheduleFits W l ≡ false
-unfolding scheduleFits
-fits-odd W [] h = absurd (h 0 refl)
-fits-odd W (b ∷ []) h = refl
-fits-odd W (b ∷ v ∷ l) h = rw (fits-odd W l (λ k e. h (suc k) (omega arith))) (never (ltb b W))
-  where
-    never : (t : Bool) → both t false ≡ false
-    never true = refl
-    never false = refl
-
--- the next entry
-module _ (W : ℕ) (l : List ℕ) (k : ℕ) (room : 2 * k + 2 ≤ length l) where
-  pub entry-wrong : W ≤ getD l (2 * k) 0 → scheduleFits W (drop (2 * k) l) ≡ false
-  entry-wrong h = fits-wrong l (2 * k) (omega arith) (omega arith) W h
-
-  pub entry-right : getD l (2 * k) 0 < W → scheduleFits W (drop (2 * (k + 1)) l) ≡ scheduleFits W (drop (2 * k) l)
-  entry-right h = let n : 2 * (k + 1) ≡ 2 * k + 2 = omega arith in rw n (fits-next l (2 * k) (omega arith) (omega arith) W h)
-
--- ---- the first fault, by what the checks answer
 
 module _ {c : Call} {l : Lengths} where
   pub finds-8 : settingsOutside (c .workers) (c .batch) (c .cutoff) ≡ true → Finds (Faulty Setting) c l

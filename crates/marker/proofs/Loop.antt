@@ -17,17 +17,18 @@ use Rattle.graph.specs.Graph.{Graph}
 use Rattle.machine.specs.Machine.{Setting, State, Worker, idle, asking, denied, ended, given, busy, Entry, allEnded, entries, turn, turns}
 use Rattle.machine.specs.Accepted.{Accepted}
 use Rattle.machine.specs.Sound.{Sound}
-use Rattle.machine.specs.Call.{scheduleFits}
+use Rattle.desk.specs.Checks.{scheduleFits}
+use Rattle.desk.proofs.Schedule.{pair-is}
 use Rattle.machine.proofs.Kept.{sound-turn}
 use Rattle.machine.proofs.Progress.{counts-grow}
 use Rattle.machine.proofs.Ended.{ended-turns}
-use Rattle.turns.specs.declared.Setup.{Setup}
-use Rattle.turns.specs.Counting.{running?}
-use Rattle.turns.specs.declared.Progress.{Progress}
-use Rattle.turns.specs.Held.{Memory, memory, settingOf, Holds}
-use Rattle.turns.specs.Turned.{Ready, Does, IsLent}
+use Rattle.step.specs.declared.Setup.{Setup}
+use Rattle.step.specs.Counting.{running?}
+use Rattle.step.specs.declared.Progress.{Progress}
+use Rattle.step.specs.Held.{Memory, memory, settingOf, Holds}
+use Rattle.step.specs.Turned.{Ready, Does}
+use Rattle.turns.specs.Lent.{IsLent}
 use Rattle.marker.specs.Stages.{IsScheduled, scheduled}
-use Rattle.marker.proofs.Checks.{pair-is}
 
 -- ---- a schedule that fits, from its place i on
 

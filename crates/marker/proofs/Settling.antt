@@ -19,8 +19,8 @@ use Rattle.worker.specs.Registers.{Room, blockAt}
 use Rattle.worker.specs.Stretch.{Told, topWith, settled}
 use Rattle.worker.proofs.Pairs.{length-pairs}
 use Rattle.worker.proofs.Settling.{settled-told}
-use Rattle.turns.specs.Held.{stretchAt, BlockIs}
-use Rattle.turns.proofs.Parts.{length-stretch, length-back, back-here, back-other}
+use Rattle.step.specs.Held.{stretchAt, BlockIs}
+use Rattle.step.proofs.Parts.{length-stretch, length-back, back-here, back-other}
 use Rattle.marker.specs.Stages.{topFor, Settling}
 
 -- ---- one worker

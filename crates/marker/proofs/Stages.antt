@@ -30,12 +30,12 @@ use Rattle.machine.proofs.Facts.{runs-room}
 use Rattle.machine.proofs.Start.{sound-start, sound-turns}
 use Rattle.machine.proofs.Collected.{collected}
 use Rattle.worker.specs.Registers.{block-words, register-words}
-use Rattle.turns.specs.declared.Setup.{Setup}
-use Rattle.turns.specs.declared.Progress.{Progress}
-use Rattle.turns.specs.Counting.{Countable}
-use Rattle.turns.specs.Held.{Memory, memory, settingOf, stretchAt}
-use Rattle.turns.specs.Turned.{Ready}
-use Rattle.turns.proofs.Counting.{countable}
+use Rattle.step.specs.declared.Setup.{Setup}
+use Rattle.step.specs.declared.Progress.{Progress}
+use Rattle.step.specs.Counting.{Countable}
+use Rattle.step.specs.Held.{Memory, memory, settingOf, stretchAt}
+use Rattle.step.specs.Turned.{Ready}
+use Rattle.step.proofs.Counting.{countable}
 use Rattle.marker.specs.declared.Marked.{Marked}
 use Rattle.marker.specs.declared.Marked.the-variants.{Refused}
 use Rattle.marker.specs.Answer.{row, Finds, Answered}

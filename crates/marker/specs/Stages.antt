@@ -16,17 +16,18 @@ use Rattle.machine.specs.Row.{Row}
 use Rattle.machine.specs.Tally.{Tally}
 use Rattle.machine.specs.Machine as machine
 use Rattle.machine.specs.Machine.{State, Worker, ended, runsOf, turns, entries}
-use Rattle.machine.specs.Call.{Call, graphOf, final, scheduleFits}
+use Rattle.desk.specs.Checks.{scheduleFits}
+use Rattle.machine.specs.Call.{Call, graphOf, final}
 use Rattle.machine.specs.Checked.{Checked}
 use Rattle.worker.specs.declared.registers.Block.{Block}
 use Rattle.worker.specs.declared.stretch.Top.{Top}
 use Rattle.worker.specs.Registers.{block-words, status-given}
 use Rattle.worker.specs.Stretch.{topWith}
-use Rattle.turns.specs.declared.Setup.{Setup}
-use Rattle.turns.specs.declared.Progress.{Progress}
-use Rattle.turns.specs.Counting.{countsOf, Countable}
-use Rattle.turns.specs.Held.{Memory, memory, settingOf, topOf, Each, Holds}
-use Rattle.turns.specs.Turned.{Ready}
+use Rattle.step.specs.declared.Setup.{Setup}
+use Rattle.step.specs.declared.Progress.{Progress}
+use Rattle.step.specs.Counting.{countsOf, Countable}
+use Rattle.step.specs.Held.{Memory, memory, settingOf, topOf, Each, Holds}
+use Rattle.step.specs.Turned.{Ready}
 
 -- ---- the turns
 

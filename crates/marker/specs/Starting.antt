@@ -13,9 +13,9 @@ use Rattle.machine.specs.Machine.{Setting, State, live, unmarked, startRuns, st
 use Rattle.machine.specs.Accepted.{Accepted}
 use Rattle.worker.specs.Registers.{block-words}
 use Rattle.worker.specs.Stretch.{EndsWith}
-use Rattle.turns.specs.declared.Setup.{Setup}
-use Rattle.turns.specs.declared.Progress.{Progress}
-use Rattle.turns.specs.Held.{memory, settingOf, stretchAt, Holds}
+use Rattle.step.specs.declared.Setup.{Setup}
+use Rattle.step.specs.declared.Progress.{Progress}
+use Rattle.step.specs.Held.{memory, settingOf, stretchAt, Holds}
 use Rattle.marker.specs.declared.start.Gathered.{Gathered}
 
 -- ---- the starts gathered

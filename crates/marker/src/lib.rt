@@ -8,12 +8,12 @@ use desk::places;
 use machine::Counts;
 use refusal::Refusal;
 use refusal::Verdict;
-use turns::Entry;
-use turns::Outcome;
-use turns::Progress;
-use turns::Setup;
-use turns::Step;
-use turns::counts;
+use step::Entry;
+use step::Outcome;
+use step::Progress;
+use step::Setup;
+use step::Step;
+use step::counts;
 use worker::registers;
 use worker::registers::Block;
 use worker::stretch;
@@ -21,10 +21,9 @@ use worker::stretch::Top;
 ghost use mathlib.Core.Path.{_≡_};
 ghost use Prim.Native.Nat.{_≤_};
 ghost use Rattle.graph.specs.Limits.{most-objects};
-ghost use Rattle.machine.specs.Call.{scheduleFits};
-ghost use Rattle.turns.specs.Counting.{Countable};
-ghost use Rattle.turns.specs.Held.{memory};
-ghost use Rattle.turns.specs.Turned.{Ready};
+ghost use Rattle.step.specs.Counting.{Countable};
+ghost use Rattle.step.specs.Held.{memory};
+ghost use Rattle.step.specs.Turned.{Ready};
 ghost use Rattle.marker.specs.Answer.{callOf, row, Finds, Answered};
 ghost use Rattle.marker.specs.Stages.{IsScheduled, DoesAll, topFor, Settling, Settled, rowOf, setupFor, Runnable, Runs};
 
@@ -44,25 +43,6 @@ pub fn refusal_of(marked: Marked) -> u8
         Marked::Unfinished(_) => 0,
         Marked::Refused(cause) => refusal::number_of(cause),
     }
-}
-
-// Check 9: whole entries, each with a worker below W.
-fn schedule_fits(schedule: &[u8], workers: u32) -> bool
-    ensures { λ r. ⌜ r ≡ scheduleFits workers (now (schedule .entry)) ⌝ }
-{
-    let entries = schedule.len() / 2;
-    if 2 * entries != schedule.len() {
-        return false;
-    }
-    // Looks at every entry, so that the loop is compiled without a jump out of it.
-    let mut wrong: u32 = 0;
-    for k in 0..entries {
-        let b = schedule[2 * k] as u32;
-        if workers <= b {
-            wrong = 1;
-        }
-    }
-    wrong == 0
 }
 
 // The checks, in their order.
@@ -88,7 +68,7 @@ pub fn check(
     if let Verdict::Faulty(cause) = desk::check_store(offsets, targets, starts) {
         return Verdict::Faulty(cause);
     }
-    if !schedule_fits(schedule, settings.workers) {
+    if !desk::schedule_fits(schedule, settings.workers) {
         return Verdict::Faulty(Refusal::Schedule);
     }
     Verdict::Fine
@@ -226,7 +206,7 @@ pub fn run(
         &mut work[0..len],
         regs,
     );
-    start::clear_tallies(tallies);
+    slices::clear_u64s(tallies);
     let p = take_turns(
         offsets,
         targets,

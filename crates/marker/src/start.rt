@@ -1,7 +1,7 @@
 // The start: the starts are marked, and worker 0 carries their runs in list order.
-use turns::Progress;
-use turns::Setup;
-use turns::counts;
+use step::Progress;
+use step::Setup;
+use step::counts;
 use worker::registers;
 use worker::registers::Block;
 use worker::stretch;
@@ -24,15 +24,6 @@ fn clear_marks(marks: &mut [u8])
 {
     let n = marks.len();
     slices::clear_bytes(marks, 0, n);
-}
-
-// No tally counts anything.
-pub fn clear_tallies(tallies: &mut [u64])
-    ensures { λ _. ⌜ now (tallies .exit) ≡ replicate (length (now (tallies .entry))) 0 ⌝ }
-{
-    for i in 0..tallies.len() {
-        tallies[i] = 0;
-    }
 }
 
 // One start more: where it is not marked yet, it adds a mark, and its run if it has references.

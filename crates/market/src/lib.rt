@@ -1,8 +1,6 @@
 // Matrix Market (SPECIFICATION 13): a graph read from the text of a coordinate pattern file and
 // written as one. Any text, offsets, targets and buffers may come in.
 mod fill;
-mod parse;
-mod print;
 
 use catalogue::Answer;
 use desk::Length;
@@ -18,9 +16,6 @@ ghost use Rattle.desk.specs.Length.{lengthRow};
 ghost use Rattle.matrix.specs.Import.{misfits, headRow, Imports};
 ghost use Rattle.matrix.specs.Promise.{Accepts, Returns};
 ghost use Rattle.matrix.specs.Export.{lengthFor, exportFault, bytesAfter};
-
-// The first line of every text, with its line feed.
-pub const BANNER: [u8; 49] = *b"%%MatrixMarket matrix coordinate pattern general\n";
 
 // Check 7 of what is lent to import.
 fn buffers_wrong(n: u64, m: u64, offsets: usize, targets: usize, sizes: usize) -> bool

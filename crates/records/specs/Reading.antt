@@ -33,6 +33,12 @@ m-field b = number 4 8 b
 abbrev pub index-field : List ℕ → ℕ
 index-field b = number 4 12 b
 
+-- what a header says: n, m and the index
+pub record Heads (b : List ℕ) (n m index : ℕ) : Type 0 where
+  pub n-is : n ≡ n-field b
+  pub m-is : m ≡ m-field b
+  pub index-is : index ≡ index-field b
+
 abbrev pub size-field : List ℕ → ℕ
 size-field b = number 8 4 b
 

@@ -1,12 +1,14 @@
 -- The program's course up to the header: which text is due at each of its ends.
-use mathlib.Core.Path.{_≡_, sym, ap, _∙_}
+use mathlib.Core.Path.{_≡_, refl, sym, ap, subst, _∙_}
 use mathlib.Core.Bool.{_||_}
 use mathlib.Core.List.{List}
 use Prim.Native.Nat.{ℕ, zero, suc, _≤_}
 use native.Mathlib.Omega.{arith}
-use lib.ListN.{length}
+use lib.ListN.{length, take}
+use lib.Seq.{take-at}
 use lib.Dec.{ltb}
 use borrow.Author.Tests.{ltb-false}
+use Rattle.laws.specs.Words.{Bytes}
 use Rattle.refusal.specs.declared.Refusal.{Refusal}
 use Rattle.refusal.specs.Number.{number}
 use Rattle.refusal.proofs.None.{first-none, raise-none, or-none}
@@ -20,11 +22,13 @@ use Rattle.catalogue.specs.declared.Answer.{Answer}
 use Rattle.catalogue.specs.declared.Answer.the-variants.{Read, Refused}
 use Rattle.catalogue.specs.Answer.{Row, row, headerRow, header-values}
 use Rattle.catalogue.proofs.Reader.{store-objects, store-references}
-use Rattle.report.specs.Limits.{most-objects, most-references, order-length, text-room}
-use Rattle.report.specs.Lines.{refusalLine}
-use Rattle.report.specs.Report.{Files, unreadable, orderOf, scheduleOf, contentsOf, filesFault, countsFault, programFault, laterText, programText}
+use Rattle.program.specs.Limits.{most-objects, most-references, order-length, text-room}
+use Rattle.lines.specs.Lines.{refusalLine}
+use Rattle.program.specs.Program.{Files, unreadable, orderOf, scheduleOf, contentsOf, filesFault, countsFault, programFault, laterText, programText}
+use Rattle.program.specs.Promise.{Promise}
+use Rattle.program.proofs.Printed.{printed-refusal}
+use Rattle.program.proofs.Promise.{promise}
 use Rattle.report.specs.Ready.{Holding, Prints}
-use Rattle.report.proofs.Printed.{printed-refusal}
 
 -- a text at the beginning of a buffer with room
 pub prints-text : {before text after : List ℕ} {end : ℕ} → text-room ≤ length before → Put before 0 text after end
@@ -38,6 +42,14 @@ prints-text {text = text} {end = end} h p =
       keeps = λ q. absurd (omega arith);
       inside = omega (arith, same-long p);
     }
+
+-- the promise, of the bytes that stand in the buffer
+pub promised : (f : Files) → Bytes (f .store) → {before after : List ℕ} {end : ℕ} → Prints before (programText f) after end
+    → text-room ≤ length before → Promise f (take end after)
+promised f h {before} {after} {end} p room =
+    let q = p .prints room in
+    let e : take end after ≡ programText f = rw (q .0, q .1) (take-at (programText f) _ (length (programText f)) refl) in
+    subst (Promise f) (sym e) (promise f h)
 
 -- what the header says is what the store has
 fields : {n m i : ℕ} (f : ℕ) (b : List ℕ) → row (Read n m i) ≡ header-values f b → (n ≡ n-field b) × (m ≡ m-field b)

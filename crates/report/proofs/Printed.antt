@@ -1,45 +1,37 @@
--- What is printed: beside a fault, and for each answer of a call in which the marker can find no fault but in its schedule.
+-- What is printed for each answer of a call in which the marker can find no fault but in its schedule.
 use mathlib.Core.Path.{_≡_, refl, sym, ap, _∙_}
 use mathlib.Core.Bool.{false}
 use mathlib.Core.List.{List, [], _∷_, _++_, append-nil}
 use Prim.Native.Nat.{ℕ, zero, suc, _*_, _/_, _<_}
 use native.Mathlib.Omega.{arith}
 use lib.ListN.{length}
-use borrow.Author.Tests.{eq-eqb}
 use denote.Enum.Declared
 use types.Run.{OneOf, miss}
 use Rattle.refusal.specs.declared.Refusal.{Refusal}
 use Rattle.refusal.specs.Number.{number}
 use Rattle.refusal.proofs.Numbers.{numbered}
-use Rattle.graph.specs.Graph.{graph, objects}
 use Rattle.desk.specs.declared.Settings.{Settings}
 use Rattle.desk.specs.Lengths.{tally-words, stretchLength}
-use Rattle.desk.specs.Checks.{settingFault, bufferFault}
+use Rattle.desk.specs.Checks.{settingFault, scheduleFault}
 use Rattle.desk.specs.Kept.{unlessRefused}
 use Rattle.machine.specs.Row.{Row, refusedRow}
 use Rattle.machine.specs.Tally.{talliesWords}
 use Rattle.machine.specs.Machine.{result}
-use Rattle.machine.specs.Call.{Call, fault, firstFault, lengths, scheduleFault, answerFor, final}
+use Rattle.machine.specs.Call.{Call, fault, answerFor, final}
 use Rattle.marker.proofs.Marked as TheMarked
 use Rattle.marker.specs.declared.Marked.{Marked}
 use Rattle.marker.specs.declared.Marked.the-variants.{Finished, Unfinished, Refused}
 use Rattle.marker.specs.Answer.{row, Answered}
 use Rattle.sweep.specs.Sweep.{dead}
-use Rattle.report.specs.Lines.{refusalLine, countLines, wordLines}
-use Rattle.report.specs.Report.{Contents, callOf, deadText, printed}
-use Rattle.report.specs.Ready.{Passing, answerText}
-use Rattle.report.proofs.Tallying.{lines-are}
+use Rattle.lines.specs.Lines.{refusalLine, countLines, wordLines}
+use Rattle.program.specs.Program.{Contents, callOf, deadText, printed}
+use Rattle.program.specs.Passing.{Passing}
+use Rattle.program.proofs.Printed.{beside}
+use Rattle.program.proofs.Passing.{passing-fault}
+use Rattle.report.specs.Ready.{answerText, collectionText}
+use Rattle.lines.proofs.Tallying.{lines-are}
 
 module _ (s : Contents) (o : Settings) (schedule : List ℕ) where
-  -- a fault's only line
-  pub beside : (k f : ℕ) → 0 < k → k ≡ f → refusalLine k ≡ printed f s o schedule
-  beside k zero h e = absurd (omega arith)
-  beside k (suc f) h e = ap refusalLine e
-
-  -- the number v of the refusal that is the first fault
-  pub printed-refusal : {v f : ℕ} (r : Refusal) → v ≡ number r → number r ≡ f → refusalLine v ≡ printed f s o schedule
-  printed-refusal {f = f} r e h = ap refusalLine e ∙ beside (number r) f (numbered r) h
-
   -- the result, the words of the tallies and the marks of the collection
   printed-result : {f : ℕ} (r : Row) (words marks : List ℕ) → f ≡ 0 → r ≡ result (final (callOf s o schedule))
       → words ≡ talliesWords (final (callOf s o schedule) .tallies) → marks ≡ final (callOf s o schedule) .marks
@@ -68,25 +60,15 @@ result-row : (r : Row) (f : ℕ) (c : Call) → r .number ≡ 0 → r ≡ answer
 result-row r zero c z e = (refl, e)
 result-row r (suc f) c z e = let q = ap (λ (x : Row). x .number) e in absurd (omega arith)
 
--- contents that pass and settings in their ranges, with buffers of the lengths that they ask for: one check is left
-pub passing-fault : {s : Contents} (o : Settings) {marks work tallies : ℕ} → Passing s → settingFault (o .workers) (o .batch) (o .cutoff) ≡ 0
-    → marks ≡ length (s .sizes) → work ≡ o .workers * stretchLength (length (s .sizes)) → tallies ≡ o .workers * tally-words
-    → (schedule : List ℕ) → fault (callOf s o schedule) marks work tallies ≡ scheduleFault (o .workers) schedule
-unfolding firstFault
-passing-fault {s} o {marks} {work} {tallies} p settings em ew et schedule =
-    let buffers : bufferFault (objects (graph (s .offsets) (s .targets))) (o .workers) (lengths marks work tallies) ≡ 0 =
-    rw (p .objects-are, eq-eqb marks (length (s .sizes)) em, eq-eqb work (o .workers * stretchLength (length (s .sizes))) ew, eq-eqb tallies (o .workers * tally-words) et) in
-    rw (settings, p .counts, buffers, p .formed, p .some-starts, p .starts-below)
-
 -- a call in which the marker can find no fault but in its schedule
-pub record Collectable (s : Contents) (o : Settings) (marks work tallies : List ℕ) : Type 0 where
+pub record Markable (s : Contents) (o : Settings) (marks work tallies : List ℕ) : Type 0 where
   pub passing : Passing s
   pub settings : settingFault (o .workers) (o .batch) (o .cutoff) ≡ 0
   pub all-marks : length marks ≡ length (s .sizes)
   pub all-work : length work ≡ o .workers * stretchLength (length (s .sizes))
   pub all-tallies : length tallies ≡ o .workers * tally-words
 
-module _ {s : Contents} {o : Settings} {marks work tallies : List ℕ} (ready : Collectable s o marks work tallies) (schedule : List ℕ) where
+module _ {s : Contents} {o : Settings} {marks work tallies : List ℕ} (ready : Markable s o marks work tallies) (schedule : List ℕ) where
   abbrev call : Call
   call = callOf s o schedule
 
@@ -106,7 +88,7 @@ module _ {s : Contents} {o : Settings} {marks work tallies : List ℕ} (ready : 
 
   -- what an answer's lines say
   pub answer-text : (m : Marked) {marks′ work′ tallies′ : List ℕ} → Answered (callOf s o schedule) marks work tallies m marks′ work′ tallies′
-      → answerText m (s .sizes) marks′ tallies′ ≡ printed (scheduleFault (o .workers) schedule) s o schedule
+      → answerText m (s .sizes) marks′ tallies′ ≡ collectionText s o schedule
   answer-text (Refused k) done =
       beside s o schedule (number k) (scheduleFault (o .workers) schedule) (numbered k)
       (refused-row (number k) (scheduleFault (o .workers) schedule) call (numbered k) (answered done))

@@ -1,66 +1,27 @@
 -- The reader on buffers of exactly the lengths that the header says: what it refuses is the catalogue's first fault, and
 -- what it accepts passes the marker's checks and the sweep's.
 use mathlib.Core.Path.{_≡_, refl, sym, ap, subst, _∙_}
-use mathlib.Core.Bool.{true}
-use mathlib.Core.List.{List, [], _∷_}
+use mathlib.Core.List.{List}
 use Prim.Native.Nat.{ℕ, zero, suc, _+_, _-_, _≤_, _<_}
 use native.Mathlib.Omega.{arith}
 use lib.ListN.{length, take, replicate, length-append}
 use lib.Seq.{take-append-seam}
-use borrow.Author.Tests.{lt-ltb, le-ltb, le-leb, eq-eqb}
-use Rattle.laws.specs.Every.{Every}
+use borrow.Author.Tests.{eq-eqb}
 use Rattle.refusal.specs.declared.Refusal.{Refusal}
 use Rattle.refusal.specs.Number.{number}
 use Rattle.refusal.proofs.Numbers.{numbered, first-found}
-use Rattle.graph.specs.Graph.{objects as graph-objects, allBelow}
-use Rattle.graph.specs.Limits.{most-objects, most-references, largest-size, most-starts}
+use Rattle.graph.specs.Limits.{most-starts}
 use Rattle.catalogue.specs.declared.Found.{Found}
 use Rattle.catalogue.specs.declared.Found.the-variants.{Read, Refused}
-use Rattle.records.specs.Store.{Store, InRange, objects, references, targetsOf, startsOf}
+use Rattle.records.specs.Store.{Store, objects, references, startsOf}
 use Rattle.records.specs.Reading.{Reading, accepted, judged, reading, catalogueFault, storeOf}
-use Rattle.records.specs.ReadGraph.{ReadGraph, readGraph}
 use Rattle.catalogue.specs.Answer.{ReadRow, foundRow, unread, lent, taken, readRow, offsetsAfter, targetsAfter, sizesAfter, startsAfter, Reads}
-use Rattle.catalogue.proofs.Accepted.{whole-bytes, whole-range}
-use Rattle.records.proofs.ReadGraph.{read-graph}
-use Rattle.sweep.specs.Sweep.{allFit}
-use Rattle.report.specs.Lines.{refusalLine}
-use Rattle.report.specs.Report.{contents, contentsOf, Contents, orderOf, scheduleOf, orderText, laterText}
-use Rattle.report.specs.Ready.{Lent, Passing, Orderly, Readable}
-use Rattle.report.proofs.Printed.{printed-refusal}
-
-every-fits : (l : List ℕ) → Every (λ (x : ℕ). x ≤ largest-size) l → allFit l ≡ true
-unfolding allFit
-every-fits [] h = refl
-every-fits (x ∷ l) h = rw (le-leb x largest-size (h .0)) (every-fits l (h .1))
-
-every-below : (n : ℕ) (l : List ℕ) → Every (λ (x : ℕ). x < n) l → allBelow n l ≡ true
-unfolding allBelow
-every-below n [] h = refl
-every-below n (x ∷ l) h = rw (lt-ltb x n (h .0)) (every-below n l (h .1))
-
--- a store that was read passes
-pub passing : (b : List ℕ) → catalogueFault b ≡ 0 → Passing (contentsOf (storeOf b))
-passing b z =
-    let range : InRange (storeOf b) = whole-range b (whole-bytes b z) in
-    let g : ReadGraph (storeOf b) (readGraph (storeOf b)) = read-graph (storeOf b) range in
-    record {
-      counts =
-          rw (
-            le-ltb (graph-objects (readGraph (storeOf b))) 1 (omega arith),
-            le-ltb most-objects (graph-objects (readGraph (storeOf b))) (omega arith),
-            le-ltb most-references (length (targetsOf (storeOf b))) (omega arith),
-          );
-      formed = rw (g .passes);
-      some-starts =
-          rw (
-            le-ltb (length (startsOf (storeOf b))) 1 (omega arith),
-            le-ltb most-starts (length (startsOf (storeOf b))) (omega (arith, range .few-leases)),
-          );
-      starts-below = rw (g .n-is, every-below (objects (storeOf b)) (startsOf (storeOf b)) (range .index-below, range .leases-below));
-      objects-are = g .n-is;
-      some = range .some;
-      sizes-fit = every-fits (storeOf b .sizes) (range .sizes-small);
-    }
+use Rattle.lines.specs.Lines.{refusalLine}
+use Rattle.program.specs.Program.{contents, contentsOf, Contents, orderOf, scheduleOf, orderText, laterText}
+use Rattle.program.specs.Passing.{Passing}
+use Rattle.program.proofs.Printed.{printed-refusal}
+use Rattle.program.proofs.Passing.{passing}
+use Rattle.report.specs.Ready.{Orderly, Readable}
 
 -- rows of a reading
 row-refused : (k f : ℕ) (s : Store) → 0 < k → unread k ≡ readRow (judged f s) → k ≡ f
@@ -71,7 +32,7 @@ row-read : {n m i c : ℕ} (f : ℕ) (s : Store) → foundRow (Read n m i c) ≡
 row-read zero s e = (refl, ap (λ (x : ReadRow). x .starts) e)
 row-read (suc f) s e = let q = ap (λ (x : ReadRow). x .refusal) e in absurd (omega arith)
 
-module _ {b order o t s w : List ℕ} {l : Lent} (ready : Readable b order o t s w l) where
+module _ {b order o t s w out : List ℕ} (ready : Readable b order o t s w out) where
   taken-by : (k : ℕ) → lent (judged k (storeOf b)) (length o) (length t) (length s) (length w) ≡ judged k (storeOf b)
   taken-by zero =
       rw (
@@ -118,14 +79,13 @@ module _ {b order o t s w : List ℕ} {l : Lent} (ready : Readable b order o t s
       pub due-read : orderText (contents o′ t′ s′ (take c w′)) order ≡ laterText b order
       due-read = ap (λ (x : Contents). orderText x order) same ∙ rw (clean .0)
 
-      pub orderly : Orderly (contents o′ t′ s′ (take c w′)) order l
+      pub orderly : Orderly (contents o′ t′ s′ (take c w′)) order out
       orderly =
           let n : length s′ ≡ length s = ap (λ (x : Contents). length (x .sizes)) same ∙ sym (ready .all-sizes) in
-          let f = ready .fitting in
+          let few = ready .few in
           record {
             passing = subst Passing (sym same) (passing b (clean .0));
-            fitting = record { few = omega arith; all-marks = omega arith; all-list = omega arith; room = f .room };
+            few = omega arith;
             whole-order = ready .whole-order;
-            much-work = ready .much-work;
-            all-words = ready .all-words;
+            room = ready .room;
           }

@@ -16,10 +16,10 @@ use Rattle.sweep.specs.declared.Swept.{Swept}
 use Rattle.sweep.specs.declared.Swept.the-variants.{Dead, Refused}
 use Rattle.sweep.specs.Sweep.{Row, deadFrom, dead, sizesOf, row, sweeping, listAfter, fault}
 use Rattle.sweep.proofs.Fault.{fault-free}
-use Rattle.report.specs.Limits.{dead-room}
-use Rattle.report.specs.Lines.{deadLines, freedLine}
-use Rattle.report.specs.Report.{deadText}
-use Rattle.report.specs.Ready.{Below, Sweepable}
+use Rattle.lines.specs.Rooms.{dead-room}
+use Rattle.lines.specs.Lines.{deadLines, Below, freedLine}
+use Rattle.program.specs.Program.{deadText}
+use Rattle.report.specs.Ready.{Sweepable}
 
 dead-few : (b : ℕ) (ms : List ℕ) → length (deadFrom b ms) ≤ length ms
 unfolding deadFrom
@@ -41,12 +41,12 @@ pub record SweptTo (sizes marks list out : List ℕ) (at count freed : ℕ) : Ty
   pub objects : Below (take count list) (length sizes)
   pub room : at + (dead-room (length (take count list)) + 27) ≤ length out
 
-module _ {sizes marks list out : List ℕ} {at : ℕ} (s : Sweepable sizes marks list out at) where
+module _ {sizes marks out : List ℕ} {at : ℕ} (s : Sweepable sizes marks out at) (list : List ℕ) (all-list : length list ≡ length sizes) where
   free : fault marks sizes list ≡ 0
   free =
       let few : length sizes ≤ most-objects = omega (arith, s .few) in
       let inside : outside most-objects (length sizes) ≡ false = rw (le-ltb (length sizes) 1 (s .some), le-ltb most-objects (length sizes) few) refl in
-      fault-free marks sizes list inside (s .all-marks) (s .all-list) (s .sizes-fit)
+      fault-free marks sizes list inside (s .all-marks) all-list (s .sizes-fit)
 
   pub swept-to : {w : Swept} {count freed : ℕ} {list′ : List ℕ} → w ≡ Dead count freed → row w ≡ sweeping marks sizes list
       → list′ ≡ listAfter marks sizes list → SweptTo sizes marks list′ out at count freed

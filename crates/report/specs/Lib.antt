@@ -1,6 +1,1 @@
-pub mod Examples
-pub mod Limits
-pub mod Lines
-pub mod Promise
 pub mod Ready
-pub mod Report

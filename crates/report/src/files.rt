@@ -1,11 +1,11 @@
 // The checks of the two files, and of the numbers of objects and references.
-use crate::Loaded;
-use crate::limits;
+use program::Loaded;
+use program::limits;
 use refusal::Refusal;
 use refusal::Verdict;
 ghost use mathlib.Core.Path.{_≡_};
 ghost use Rattle.refusal.specs.Number.{numberOf};
-ghost use Rattle.report.specs.Report.{unreadable, larger, files, filesFault, countsFault};
+ghost use Rattle.program.specs.Program.{unreadable, larger, files, filesFault, countsFault};
 
 fn is_unreadable(file: Loaded) -> bool
     ensures { λ r. ⌜ r ≡ unreadable file ⌝ }

@@ -1,31 +1,22 @@
 // From the bytes of the two files to the bytes of the answer: all of the program but opening,
 // reading and writing.
-mod buffers;
 mod collection;
 mod dead;
 mod files;
-pub mod limits;
-mod lines;
 mod order;
 mod store;
 
 use catalogue::Answer;
-use limits::TEXT_ROOM;
+use program::Loaded;
+use program::limits::TEXT_ROOM;
 use refusal::Verdict;
 ghost use Prim.Native.Nat.{_≤_};
 ghost use lib.ListN.{length, take};
 ghost use Rattle.slices.specs.Put.{Put};
-ghost use Rattle.report.specs.Limits.{text-room};
-ghost use Rattle.report.specs.Report.{files, programText};
+ghost use Rattle.program.specs.Limits.{text-room};
+ghost use Rattle.program.specs.Program.{files, programText};
 ghost use Rattle.report.specs.Ready.{Prints};
-ghost use Rattle.report.specs.Promise.{Promise};
-
-// A file as the program got it: whole, with more bytes than its limit, or not at all.
-pub enum Loaded {
-    Whole,
-    TooLong,
-    Unreadable,
-}
+ghost use Rattle.program.specs.Promise.{Promise};
 
 // Writes the answer into a buffer that has room for every answer.
 fn put_answer(
@@ -51,7 +42,7 @@ fn put_answer(
     if let Verdict::Faulty(refusal) = counted {
         return lines::put_refusal(out, 0, refusal::number_of(refusal));
     }
-    buffers::put_in_buffers(store, order, n as usize, m as usize, out)
+    store::put_store(store, order, n as usize, m as usize, out)
 }
 
 // Writes what the program prints to the buffer's beginning, leaves the bytes behind it, and returns

@@ -1,14 +1,14 @@
 // The settings at the front of `order.run`.
-use crate::limits::MOST_WORKERS;
 use desk::Settings;
+use program::limits::MOST_WORKERS;
 use refusal::Refusal;
 use refusal::Verdict;
 ghost use mathlib.Core.Path.{_≡_};
 ghost use Prim.Native.Nat.{_≤_};
 ghost use lib.ListN.{length};
 ghost use Rattle.refusal.specs.Number.{numberOf};
-ghost use Rattle.report.specs.Limits.{order-length};
-ghost use Rattle.report.specs.Report.{orderOf, orderFault};
+ghost use Rattle.program.specs.Limits.{order-length};
+ghost use Rattle.program.specs.Program.{orderOf, orderFault};
 
 // One byte, then two words of two bytes.
 pub fn order_of(order: &[u8]) -> Settings

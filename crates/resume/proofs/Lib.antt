@@ -1,9 +1,2 @@
+pub mod Ready
 pub mod Calling
-pub mod Finishing
-pub mod Numbers
-pub mod Parts
-pub mod Records
-pub mod Restoring
-pub mod Resuming
-pub mod Running
-pub mod Saving

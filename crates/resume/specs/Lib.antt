@@ -1,5 +1,1 @@
 pub mod Answer
-pub mod Copies
-pub mod Restoring
-pub mod Saving
-pub mod Workers

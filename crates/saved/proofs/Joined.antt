@@ -12,7 +12,8 @@ use Rattle.machine.specs.Tally.{talliesWords}
 use Rattle.machine.specs.Machine.{State, Entry, turns, entries, allEnded, result, memory}
 use Rattle.machine.specs.Accepted.{Accepted}
 use Rattle.machine.specs.Sound.{Marked, Sound}
-use Rattle.machine.specs.Call.{Call, graphOf, settingOf, scheduleFits}
+use Rattle.desk.specs.Checks.{scheduleFits}
+use Rattle.machine.specs.Call.{Call, graphOf, settingOf}
 use Rattle.machine.specs.Demand2.{outcome}
 use Rattle.machine.proofs.Collected.{collected}
 use Rattle.machine.proofs.Demand2.{all-marked}

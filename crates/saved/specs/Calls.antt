@@ -13,7 +13,8 @@ use Rattle.desk.specs.declared.SavedWords.the-variants.{Lent}
 use Rattle.machine.specs.Row.{Row, refusedRow}
 use Rattle.machine.specs.Tally.{talliesWords}
 use Rattle.machine.specs.Machine.{State, Entry, turns, entries, result, memory}
-use Rattle.machine.specs.Call.{Call, scheduledBy, graphOf, settingOf, scheduleFits, firstFault}
+use Rattle.desk.specs.Checks.{scheduleFits}
+use Rattle.machine.specs.Call.{Call, scheduledBy, graphOf, settingOf, firstFault}
 use Rattle.machine.specs.Demand2.{outcome}
 use Rattle.machine.specs.Collected.{Collected}
 use Rattle.saved.specs.Layout.{savedWords, stateOf}

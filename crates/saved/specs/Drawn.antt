@@ -10,7 +10,8 @@ use Rattle.graph.specs.Chain.{marksAt, overMarked}
 use Rattle.machine.specs.Run.{carried, keep, rest}
 use Rattle.machine.specs.Machine.{Setting, State, start, startRuns, turns, entries, live}
 use Rattle.machine.specs.Sound.{runsSum}
-use Rattle.machine.specs.Call.{Call, scheduleFits, firstFault}
+use Rattle.desk.specs.Checks.{scheduleFits}
+use Rattle.machine.specs.Call.{Call, firstFault}
 use Rattle.machine.specs.Demand2.{outcome}
 use Rattle.machine.specs.Drawings.{S, turnsA}
 use Rattle.saved.specs.Layout.{savedWords, stateOf}

@@ -1,14 +1,2 @@
-pub mod Answering
-pub mod Asking
-pub mod Bounds
-pub mod Counting
-pub mod Dividing
-pub mod Each
-pub mod Raising
-pub mod Looking
-pub mod Advance
-pub mod Onward
-pub mod Parts
 pub mod Statuses
-pub mod Words
-pub mod Ringing
+pub mod Waking

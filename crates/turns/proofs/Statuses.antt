@@ -4,16 +4,20 @@ use mathlib.Core.Logic.{_≢_}
 use mathlib.Core.List.{List}
 use Prim.Native.Nat.{ℕ, zero, suc}
 use Rattle.graph.specs.Graph.{Graph}
-use Rattle.machine.specs.Machine.{State, Worker, idle, asking, denied, ended, given, busy, Cell, empty, Phase, poll, look, claim, worker, runsOf, workerTurn}
+use Rattle.machine.specs.Machine.{Worker, idle, asking, denied, ended, given, busy, Cell, empty, Phase, poll, look, claim, worker, runsOf, workerTurn}
 use Rattle.machine.specs.Sound.{sinceOf}
 use Rattle.worker.specs.declared.registers.Block.{Block}
 use Rattle.worker.specs.Registers.{blockAt}
 use Rattle.worker.specs.Status.{phaseWord}
-use Rattle.turns.specs.declared.Setup.{Setup}
-use Rattle.turns.specs.declared.Progress.{Progress}
-use Rattle.turns.specs.Held.{memory, settingOf, stretchAt, BlockIs, Holds}
-use Rattle.turns.specs.Turned.{turned, Ready, IsIdle, IsGiven, IsPolling, IsLooking, IsClaiming, IsLent}
-use Rattle.turns.proofs.Asking.{turn-as}
+use Rattle.step.specs.declared.Setup.{Setup}
+use Rattle.step.specs.declared.Progress.{Progress}
+use Rattle.step.specs.Held.{memory, settingOf, stretchAt, BlockIs, Holds}
+use Rattle.step.specs.Turned.{turned, Ready}
+use Rattle.idle.specs.Idle.{IsIdle}
+use Rattle.follow.specs.Following.{IsGiven, IsLooking, IsClaiming}
+use Rattle.poll.specs.Polling.{IsPolling}
+use Rattle.turns.specs.Lent.{IsLent}
+use Rattle.step.proofs.Turned.{turn-as}
 
 -- the status word of a worker
 abbrev statusOf : Worker → ℕ
@@ -127,10 +131,6 @@ module _ {g : Setup} {offsets targets : List ℕ} {b : ℕ} {marks work tallies 
         is = like 7 z;
         graph-is = x .here .graph-is;
       }
-
-  -- the same state, with what is known of the worker
-  abbrev pub told : {P : Graph → State → Type 0} → P (x .graph) (x .state) → Ready P g (memory marks work tallies regs p)
-  told h = record { graph = x .graph; state = x .state; scene = x .scene; holds = x .holds; here = h }
 
   -- with any other status nothing changes
   pub holds-quiet : blockAt regs b .status ≢ 0 → blockAt regs b .status ≢ 2 → blockAt regs b .status ≢ 4 → blockAt regs b .status ≢ 5

@@ -1,8 +1,5 @@
-// References that come and go (SPECIFICATION 12): adding pairs to a store and taking references out,
-// with the marks brought up to date.
-pub mod add;
-pub mod remove;
-
+// References that come and go (SPECIFICATION 12): what the calls that add them and take them out share. The
+// checks and promises of both stand in specs/.
 use desk::Length;
 use refusal::Refusal;
 ghost use mathlib.Core.Path.{_≡_};
@@ -30,7 +27,7 @@ pub fn update_words(objects: u32) -> Length
 }
 
 // Check 7: the lengths of the buffers that both calls are lent.
-fn lengths_wrong(n: usize, targets: usize, l: Lengths) -> bool
+pub fn lengths_wrong(n: usize, targets: usize, l: Lengths) -> bool
     requires { ⌜ n ≤ most-objects ⌝ }
     ensures { λ r. ⌜ r ≡ lengthsWrong n targets l ⌝ }
 {

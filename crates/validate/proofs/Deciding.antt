@@ -15,17 +15,17 @@ use Rattle.desk.specs.Lengths.{marks-place}
 use Rattle.machine.specs.Machine.{Setting}
 use Rattle.saved.specs.Layout.{stateOf}
 use Rattle.saved.proofs.RoundTrip.{state-sized}
-use Rattle.validate.specs.declared.counts.Sums.{Sums}
-use Rattle.validate.specs.declared.heads.Heads.{Heads}
-use Rattle.validate.specs.declared.marks.Marks.{Marks}
-use Rattle.validate.specs.declared.marks.Starts.{Starts}
-use Rattle.validate.specs.declared.runs.Loads.{Loads}
+use Rattle.tallies.specs.declared.Sums.{Sums}
+use Rattle.protocol.specs.declared.heads.Heads.{Heads}
+use Rattle.marks.specs.declared.Marks.{Marks}
+use Rattle.marks.specs.declared.Starts.{Starts}
+use Rattle.frontier.specs.declared.runs.Loads.{Loads}
 use Rattle.validate.specs.Checked.{Checked, Saves}
-use Rattle.validate.specs.Counts.{TalliesThere, RangesLow, SumsLow, Agree}
-use Rattle.validate.specs.Heads.{WorkersThere, HeadsSound, HeadsFound}
-use Rattle.validate.specs.Ring.{LinksSound}
-use Rattle.validate.specs.Marks.{MarksThere, MarksFound, StartsBelow, StartsFound, distinct}
-use Rattle.validate.specs.Runs.{LoadsThere, LoadedFound}
+use Rattle.tallies.specs.Counts.{TalliesThere, RangesLow, SumsLow, Agree}
+use Rattle.protocol.specs.Heads.{WorkersThere, HeadsSound, HeadsFound}
+use Rattle.protocol.specs.Ring.{LinksSound}
+use Rattle.marks.specs.Marks.{MarksThere, MarksFound, StartsBelow, StartsFound, distinct}
+use Rattle.frontier.specs.Runs.{LoadsThere, LoadedFound}
 use Rattle.validate.proofs.Rebuilt.{Words32}
 use Rattle.validate.proofs.Told.{marksIn}
 use Rattle.validate.proofs.Parts.{SumsAre, saves}

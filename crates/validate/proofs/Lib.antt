@@ -1,7 +1,3 @@
-pub mod HeadLaws
-pub mod RunLaws
-pub mod StretchLaws
-pub mod LoadLaws
 pub mod Reading
 pub mod Rebuilt
 pub mod Told
@@ -9,5 +5,3 @@ pub mod RingLaws
 pub mod Parts
 pub mod Needed
 pub mod Deciding
-pub mod MarkLaws
-pub mod CountLaws

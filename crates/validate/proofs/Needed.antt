@@ -20,16 +20,16 @@ use Rattle.laws.specs.Blocks.{laid}
 use Rattle.saved.specs.Layout.{savedWords, Shaped, workerWord, stretchIn, workerIn, restedIn, ringIn, stateOf, runsIn}
 use Rattle.saved.proofs.Kept.{shaped}
 use Rattle.saved.proofs.RoundTrip.{worker-word, stretch-told}
-use Rattle.validate.specs.declared.counts.Sums.{Sums}
+use Rattle.tallies.specs.declared.Sums.{Sums}
 use Rattle.validate.specs.Checked.{Checked, Saves}
-use Rattle.validate.specs.Counts.{Agree}
-use Rattle.validate.specs.Heads.{HeadsSound, CellsSound}
-use Rattle.validate.specs.Marks.{MarksLow, StartsMarked}
-use Rattle.validate.specs.Ring.{ringWord, RingSound, LinksSound}
+use Rattle.tallies.specs.Counts.{Agree}
+use Rattle.protocol.specs.Heads.{HeadsSound, CellsSound}
+use Rattle.marks.specs.Marks.{MarksLow, StartsMarked}
+use Rattle.protocol.specs.Ring.{ringWord, RingSound, LinksSound}
 use Rattle.validate.proofs.RingLaws.{below-told, first-back, above-back}
-use Rattle.validate.specs.Runs.{runsAt, StretchAt, StretchesSound, TargetsSound}
+use Rattle.frontier.specs.Runs.{runsAt, StretchAt, StretchesSound, TargetsSound}
 use Rattle.validate.proofs.Reading.{wordOf, head-back, cell-back}
-use Rattle.validate.proofs.StretchLaws.{runs-all}
+use Rattle.frontier.proofs.StretchLaws.{runs-all}
 use Rattle.validate.proofs.Parts.{SumsAre, stretch-long}
 use Rattle.validate.proofs.Told.{marksIn, worker-in, worker-out, rested-in, tally-in, sum-tallies, read, runs-in, times-told, carried-told, carrying-told, ended-told, holds-told, since-told}
 

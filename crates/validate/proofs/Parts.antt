@@ -23,16 +23,16 @@ use Rattle.machine.specs.Sound.{Marked, Within, WholeInside, waits, holds, dist
 use Rattle.saved.specs.Layout.{workerWord, stretchIn, workerIn, stateOf}
 use Rattle.saved.specs.Sound.{SavedSound}
 use Rattle.saved.proofs.RoundTrip.{state-sized}
-use Rattle.validate.specs.declared.counts.Sums.{Sums}
+use Rattle.tallies.specs.declared.Sums.{Sums}
 use Rattle.validate.specs.Checked.{Checked, Saves}
-use Rattle.validate.specs.Counts.{Agree}
-use Rattle.validate.specs.Heads.{HeadsSound, endedWords, sinceWords, holders}
-use Rattle.validate.specs.Ring.{LinksSound}
-use Rattle.validate.specs.Marks.{MarksLow, StartsMarked}
-use Rattle.validate.specs.Runs.{carriedWords, carryingWords, StretchesSound, TargetsSound}
+use Rattle.tallies.specs.Counts.{Agree}
+use Rattle.protocol.specs.Heads.{HeadsSound, endedWords, sinceWords, holders}
+use Rattle.protocol.specs.Ring.{LinksSound}
+use Rattle.marks.specs.Marks.{MarksLow, StartsMarked}
+use Rattle.frontier.specs.Runs.{carriedWords, carryingWords, StretchesSound, TargetsSound}
 use Rattle.validate.proofs.Rebuilt.{Words32, rebuilt}
 use Rattle.validate.proofs.RingLaws.{ring-are, above-told, first-told}
-use Rattle.validate.proofs.StretchLaws.{runs-all}
+use Rattle.frontier.proofs.StretchLaws.{runs-all}
 use Rattle.validate.proofs.Told.{marksIn, worker-in, worker-out, rested-in, tally-in, tally-out, sum-tallies, read, runs-in, times-told, carried-told, carrying-told, ended-told, holds-told, since-told}
 
 span-none : (g : ℕ → ℕ) (k : ℕ) → ((i : ℕ) → i < k → g i ≡ 0) → span g 0 k ≡ 0

@@ -18,8 +18,8 @@ use Rattle.machine.specs.Sound.{batchOf, batchIn, Supplied, holds, cellHolds, w
 use Rattle.machine.proofs.Runs.{length-carried}
 use Rattle.worker.specs.Status.{cellWord, phaseWord}
 use Rattle.saved.specs.Layout.{workerWords, workerFrom, restedFrom, cellFrom}
-use Rattle.validate.specs.Heads.{Head}
-use Rattle.validate.proofs.HeadLaws.{head-some, head-resting}
+use Rattle.protocol.specs.Heads.{Head}
+use Rattle.protocol.proofs.HeadLaws.{head-some, head-resting}
 
 cell-word : (ce : ℕ) → cellWord (cellFrom ce) ≡ ce
 cell-word zero = refl

@@ -1,21 +1,18 @@
 -- The ring's words and the ring that they tell of, both ways.
 use mathlib.Core.Path.{_≡_, refl, sym, ap, _∙_}
-use mathlib.Core.Bool.{Bool, false}
 use mathlib.Core.List.{List, [], _∷_}
 use mathlib.Core.Logic.{by-cases}
 use Prim.Native.Nat.{ℕ, zero, suc, _+_, _/_, _%_, _^_, _≤_, _<_}
 use native.Mathlib.Decide.{decLt}
-use native.Mathlib.Nat.{zero-add, two-pow-succ, div-one, div-lt-iff-lt-mul}
+use native.Mathlib.Nat.{zero-add, two-pow-succ, div-one}
 use native.Mathlib.Omega.{arith}
 use lib.ListN.{getD}
-use lib.Pow.{pow-pos, shr-shr}
+use lib.Pow.{shr-shr}
 use borrow.Author.Tests.{lt-ltb, le-ltb}
-use Rattle.laws.specs.Decides.{Decides}
 use Rattle.laws.specs.Span.{listing}
-use Rattle.laws.proofs.Decides.{refuted}
 use Rattle.laws.specs.Sum.{sum, hit}
-use Rattle.laws.proofs.Passing.{span-next, span-agree}
-use Rattle.laws.proofs.Span.{span-at, listing-at}
+use Rattle.laws.proofs.Passing.{span-agree}
+use Rattle.laws.proofs.Span.{listing-at}
 use Rattle.laws.proofs.Sum.{hit-same, hit-equal}
 use Rattle.machine.specs.Ring.{white, shade, blackSet, blackBelow}
 use Rattle.machine.specs.Run.{carried}
@@ -23,8 +20,8 @@ use Rattle.machine.specs.Machine.{worker, carriedBy, stopped}
 use Rattle.machine.specs.Sound.{Supplied}
 use Rattle.machine.proofs.Runs.{length-carried}
 use Rattle.saved.specs.Layout.{ringWords, colourFrom, colourIn, ringIn, workerWord, stretchIn, workerIn, stateOf, runsIn}
-use Rattle.validate.specs.Heads.{HeadsSound, endedWords}
-use Rattle.validate.specs.Ring.{ringWord, blackBits, ClearAbove, RingSound}
+use Rattle.protocol.specs.Heads.{HeadsSound, endedWords}
+use Rattle.protocol.specs.Ring.{ringWord, blackBits, ClearAbove, RingSound}
 use Rattle.validate.proofs.Told.{worker-in, worker-out, read, ended-told}
 
 -- ---- numbers and colours
@@ -46,28 +43,6 @@ set-back x a (suc k) h =
     let two : 2 ^ 1 ≡ 2 = refl in
     let next : x / 2 ^ suc a ≡ x / 2 ^ a / 2 = rw (e, ← shr-shr x a 1, two) refl in
     omega (arith, next, set-back x (suc a) k (omega (arith, h, next, two-pow-succ k)), bit-shade x a)
-
--- a bit that is set among the first k, and one more that is not
-pub bits-some : (x k b : ℕ) → b < k → x / 2 ^ b % 2 ≡ 1 → 0 < blackBits x k
-bits-some x k b h e = omega (arith, e, span-at (λ (i : ℕ). x / 2 ^ i % 2) b 0 k (omega arith) (omega arith))
-
-pub bits-next : (x b : ℕ) → blackBits x b ≡ 0 → (x / 2 ^ b % 2 ≡ 1 → ⊥) → blackBits x (b + 1) ≡ 0
-bits-next x b z h =
-    by-cases (decLt 0 (x / 2 ^ b % 2))
-    (λ (p : 0 < x / 2 ^ b % 2). absurd (h (omega arith)))
-    (λ (p : ¬ (0 < x / 2 ^ b % 2)). omega (arith, z, span-next (λ (i : ℕ). x / 2 ^ i % 2) b))
-
--- none is, where the answer is no
-pub none-black : {r : Bool} {k : ℕ} → Decides r (0 < k) → r ≡ false → k ≡ 0
-none-black {r} {k} d e =
-    by-cases (decLt 0 k) (λ (p : 0 < k). absurd (refuted d e p)) (λ (p : ¬ (0 < k)). omega arith)
-
--- no bit is set from W on
-pub low-black : (x W : ℕ) → x / 2 ^ W ≡ 0 → x < 2 ^ W
-low-black x W e = omega (arith, div-lt-iff-lt-mul {k = 2 ^ W} {x = x} {y = 1} (pow-pos W) .0 (omega arith))
-
-pub black-low : (x W : ℕ) → x < 2 ^ W → x / 2 ^ W ≡ 0
-black-low x W h = omega (arith, div-lt-iff-lt-mul {k = 2 ^ W} {x = x} {y = 1} (pow-pos W) .1 (omega arith))
 
 module _ (n W : ℕ) (w : List ℕ) where
   -- the words of the ring that they tell of

@@ -16,8 +16,8 @@ use Rattle.machine.specs.Tally.{Tally, noTally}
 use Rattle.machine.specs.Machine.{Worker, ended, worker, runsOf, carriedBy, carries?, carriedAll, stopped}
 use Rattle.machine.specs.Sound.{holds, sinceOf, runsSum, heldSum, carriedTimes, tallyOf}
 use Rattle.saved.specs.Layout.{workerWord, stretchIn, workerIn, restedIn, tallyIn, stateOf, runsIn}
-use Rattle.validate.specs.Heads.{HeadsSound, endedWords, sinceWords, holders}
-use Rattle.validate.specs.Runs.{runsAt, timesWords, carriedWords, carryingWords}
+use Rattle.protocol.specs.Heads.{HeadsSound, endedWords, sinceWords, holders}
+use Rattle.frontier.specs.Runs.{runsAt, timesWords, carriedWords, carryingWords}
 use Rattle.validate.proofs.Reading.{Reads, reads}
 
 -- the marks

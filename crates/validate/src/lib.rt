@@ -1,42 +1,12 @@
-// Whether saved words hold a sound run (SPECIFICATION 8.2). Nothing lent is written: the references
-// that are carried, and the objects that are starts, are one bit each in local words.
-mod counts;
-mod fields;
-mod heads;
-mod marks;
-mod ring;
-mod runs;
-
-use counts::Sums;
+// Whether saved words hold a sound run (SPECIFICATION 8.2).
 use desk::Settings;
 use desk::places;
-use runs::Loads;
+use protocol::heads;
+use protocol::ring;
+use tallies::Sums;
 ghost use Rattle.laws.specs.Decides.{Decides};
 ghost use Rattle.graph.specs.Graph.{graph};
 ghost use Rattle.validate.specs.Checked.{Checked, Saves, settingOf};
-ghost use Rattle.validate.specs.Runs.{LoadsThere, LoadedFound};
-
-// What all workers carry, where a marked object's reference that nobody carries has a marked target.
-fn check_loads(
-    offsets: &[u32],
-    targets: &[u32],
-    marks: &[u32],
-    saved: &[u32],
-    workers: u32,
-) -> Loads
-    requires { ⌜ LoadsThere (graph (now offsets) (now targets)) (now marks) workers (now saved) ⌝ }
-    ensures { λ r. ⌜ LoadedFound (graph (now (offsets .entry)) (now (targets .entry))) (now (marks .entry)) workers (now (saved .entry)) r ⌝ }
-{
-    let mut carried = [0u32; 32768];
-    let loads = runs::check_stretches(offsets, targets, marks, &mut carried, saved, workers);
-    if !loads.sound {
-        return runs::NO_LOADS;
-    }
-    if !marks::targets_marked(offsets, targets, marks, &carried) {
-        return runs::NO_LOADS;
-    }
-    loads
-}
 
 // Whether they do, of a call that is accepted so far.
 pub fn is_sound(
@@ -71,7 +41,7 @@ pub fn is_sound(
     if !begun.sound {
         return false;
     }
-    let loads = check_loads(offsets, targets, marks, saved, workers);
+    let loads = frontier::check_loads(offsets, targets, marks, saved, workers);
     if !loads.sound {
         return false;
     }
@@ -84,5 +54,5 @@ pub fn is_sound(
         carrying: loads.carrying,
         carried: loads.carried,
     };
-    counts::agree(saved, targets.len() as u64, settings, sums)
+    tallies::agree(saved, targets.len() as u64, settings, sums)
 }

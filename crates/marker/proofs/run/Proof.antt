@@ -12,10 +12,10 @@ use Rattle.marker.proofs.run.Tie as tie
 abbrev turned : tie.After-settle-arg2 → tie.After-take-turns
 turned c = let tallied = c .before .before .before .before .before in tallied .before .before .before .before .before
 
-abbrev cleared : tie.After-take-turns → tie.After-clear-tallies
+abbrev cleared : tie.After-take-turns → tie.After-clear-u64s
 cleared c = c .before .before .before .before .before .before .before
 
-abbrev started : tie.After-clear-tallies → tie.After-start
+abbrev started : tie.After-clear-u64s → tie.After-start
 started c = c .before .before .before .before .before .before .before .before
 
 abbrev made : tie.After-start → tie.After-setup-of
@@ -39,7 +39,7 @@ take-turns-requires c κs =
     let blank = c .before .before .before .before .before .before in
     let begun = started blank in
     let m = made begun in
-    turns-ready (entry m .pre) (m .setup-of .ensures) (begun .start .ensures) (begun .start .kept .1 .1 .1 .1 .1 .0) (blank .clear-tallies .ensures)
+    turns-ready (entry m .pre) (m .setup-of .ensures) (begun .start .ensures) (begun .start .kept .1 .1 .1 .1 .1 .0) (blank .clear-u64s .ensures)
     (short (entry m))
 
 settle-requires : tie.Need-settle-requires

@@ -3,9 +3,9 @@ use Prim.Native.Nat.{_≤_, _<_, _+_, _-_}
 use mathlib.Core.Path.{_≡_, refl, ap, subst}
 use native.Mathlib.Omega.{arith}
 use lib.ListN.{length}
-use Rattle.turns.specs.Held.{memory}
-use Rattle.turns.specs.Outcome.{progressOf, ToldOver}
-use Rattle.turns.specs.Turned.{Ready}
+use Rattle.step.specs.Held.{memory}
+use Rattle.step.specs.Outcome.{progressOf, ToldOver}
+use Rattle.step.specs.Turned.{Ready}
 use Rattle.marker.specs.Stages.{IsScheduled}
 use Rattle.marker.proofs.Loop.{LoopAt, at-start, at-stop, at-end, at-pair, at-turn, at-told}
 use borrow.Author.Needs.{needs}

@@ -2,9 +2,8 @@
 use mathlib.Core.Path.{refl}
 use native.Mathlib.Omega.{arith}
 use Rattle.laws.specs.Words.{Bytes}
-use Rattle.report.specs.Report.{Files, files}
-use Rattle.report.proofs.Opening.{prints-text}
-use Rattle.report.proofs.Promise.{promised}
+use Rattle.program.specs.Program.{Files, files}
+use Rattle.report.proofs.Opening.{prints-text, promised}
 use borrow.Author.Needs.{needs}
 use Rattle.report.proofs.answer.Statement.{statement}
 use Rattle.report.proofs.answer.Tie as tie

@@ -3,7 +3,7 @@ use mathlib.Core.Path.{_≡_, sym, ap, _∙_}
 use Rattle.refusal.proofs.Numbers.{when-fine, when-faulty}
 use Rattle.catalogue.specs.Answer.{row}
 use Rattle.slices.proofs.Written.{as-text}
-use Rattle.report.specs.Report.{Files, files, filesFault, countsFault}
+use Rattle.program.specs.Program.{Files, files, filesFault, countsFault}
 use Rattle.report.proofs.Opening.{due-files, due-header, Headed, due-counts, due-later, holding}
 use borrow.Author.Needs.{needs}
 use Rattle.report.proofs.put_answer.Statement.{statement}
@@ -57,14 +57,14 @@ returns-3 c =
     as-text (due-counts (read (k .before .before)) (v .0 .0) (at-refusal .before .number-of2 .ensures) fault)
     (at-refusal .put-refusal3 .ensures .put)
 
-put-in-buffers-requires : tie.Need-put-in-buffers-requires
-put-in-buffers-requires c κs = holding (read (at-head (c .before))) (few (c .before)) (search needs)
+put-store-requires : tie.Need-put-store-requires
+put-store-requires c κs = holding (read (at-head (c .before))) (few (c .before)) (search needs)
 
 returns-4 : tie.Need-returns-4
 returns-4 c =
-    let at-buffers = c .before .before in
-    let s = at-buffers .before .before in
-    as-text (due-later (read (at-head s)) (few s)) (at-buffers .put-in-buffers .ensures)
+    let at-store = c .before .before in
+    let s = at-store .before .before in
+    as-text (due-later (read (at-head s)) (few s)) (at-store .put-store .ensures)
 
 pub put-answer-spec : {M : Type 1} → statement M
 put-answer-spec =
@@ -73,4 +73,4 @@ put-answer-spec =
     (λ c. search needs) returns (λ c. search needs) (λ c κs. search needs) (λ c. search needs) (λ c. search needs)
     (λ c κs. search needs) (λ c κs. search needs) (λ c. search needs) returns-2 (λ c κs. search needs)
     (λ c. search needs) (λ c κs. search needs) (λ c κs. search needs) (λ c. search needs) returns-3
-    (λ c. search needs) (λ c. search needs) (λ c. search needs) put-in-buffers-requires (λ c. search needs) returns-4)
+    (λ c. search needs) (λ c. search needs) (λ c. search needs) put-store-requires (λ c. search needs) returns-4)

@@ -1,15 +1,20 @@
 -- What the checks and the test of the saved words find decides: a refusal, or the words taken up, the turns, the stretches written
 -- out, and the state saved, each on what the one before it left.
-use mathlib.Core.Path.{refl, sym}
+use mathlib.Core.Path.{refl, sym, subst}
 use Prim.Native.Nat.{_<_, _^_}
 use native.Mathlib.Omega.{arith}
 use lib.ListN.{length}
 use borrow.Author.Needs.{needs}
 use borrow.Author.Tests.{not-true, not-false}
 use Rattle.refusal.specs.declared.Refusal.the-variants.{Saved}
+use Rattle.desk.specs.declared.Lengths.{Lengths}
+use Rattle.machine.specs.Call.{Call}
+use Rattle.saved.specs.Calls.{savingLengths}
+use Rattle.marker.specs.Answer.{callOf, Finds}
 use Rattle.marker.proofs.Stages.{workers-few, registers-long, passed, settle-ready, leaves}
-use Rattle.resume.proofs.Finishing.{resume-ready}
-use Rattle.resume.proofs.Calling.{testable, answers-fine, answers-refused, test-right, test-wrong, resumable, resume-fits, resume-leaves, resume-savable, resume-saved, continued-refused, continued-fine}
+use Rattle.begin.proofs.Calling.{answers-fine, answers-refused}
+use Rattle.resume.proofs.Ready.{resume-ready}
+use Rattle.resume.proofs.Calling.{testable, test-right, test-wrong, resumable, resume-fits, resume-leaves, resume-savable, resume-saved, continued-refused, continued-fine}
 use Rattle.resume.proofs.resume.Statement.{statement}
 use Rattle.resume.proofs.resume.Tie as tie
 
@@ -30,56 +35,66 @@ made c = c .before .before .before .before .before .before
 abbrev told : tie.Else1 → tie.After-enum-told
 told c = c .before .before .before
 
-abbrev entry : tie.After-enum-told → tie.Start
-entry c = let checked = c .before .before in checked .before .before .before .before .before .before .before .before .before
+abbrev entry : tie.After-check → tie.Start
+entry c = let read = c .before .before .before .before .before in read .before .before .before .before .before
+
+-- what the checks found of the call and of the lengths of its buffers
+abbrev call : tie.Start → Call
+call c = callOf (c .args .offsets .now) (c .args .targets .now) (c .args .starts .now) (c .args .settings) (c .args .schedule .now)
+
+abbrev lengths : tie.Start → Lengths
+lengths c = savingLengths (length (c .args .marks .now)) (length (c .args .work .now)) (length (c .args .tallies .now)) (length (c .args .saved .now))
+
+found : (c : tie.After-check) → Finds (c .check .result) (call (entry c)) (lengths (entry c))
+found c = subst (λ (l : Lengths). Finds (c .check .result) (call (entry c)) l) (c .before .lent .ensures) (c .check .ensures)
 
 -- a schedule is no longer than a word can say
 short : (c : tie.Start) → length (c .args .schedule .now) < 2 ^ 64
 short c = omega (arith, c .good)
 
 returns : tie.Need-returns
-returns c = let t = c .before in continued-refused (t .before .before .check .ensures) (t .verdict .given .1)
+returns c = let t = c .before in continued-refused (found (t .before .before)) (t .verdict .given .1)
 
 is-sound-requires : tie.Need-is-sound-requires
 is-sound-requires c κs =
-    let t = c .before in testable _ (passed (t .before .before .check .ensures) (t .enum-told .given .1))
+    let t = c .before in testable _ (passed (found (t .before .before)) (t .enum-told .given .1))
 
 returns-2 : tie.Need-returns-2
 returns-2 c =
     let tested = c .before in
     let t = tested .before .before in
-    let found = t .before .before .check .ensures in
-    continued-fine found (t .enum-told .given .1)
-    (answers-refused Saved _ (test-wrong (passed found (t .enum-told .given .1)) (tested .is-sound .ensures) (not-true _ (c .if1 .taken))))
+    let finds = found (t .before .before) in
+    continued-fine finds (t .enum-told .given .1)
+    (answers-refused Saved _ (test-wrong (passed finds (t .enum-told .given .1)) (tested .is-sound .ensures) (not-true _ (c .if1 .taken))))
 
 sub-setup-of : tie.Need-sub-setup-of
-sub-setup-of c = let t = told c in omega (arith, passed (t .before .before .check .ensures) (t .enum-told .given .1) .offsets-some)
+sub-setup-of c = let t = told c in omega (arith, passed (found (t .before .before)) (t .enum-told .given .1) .offsets-some)
 
 setup-of-requires : tie.Need-setup-of-requires
-setup-of-requires c κs = let t = told c in passed (t .before .before .check .ensures) (t .enum-told .given .1) .objects-limit
+setup-of-requires c κs = let t = told c in passed (found (t .before .before)) (t .enum-told .given .1) .objects-limit
 
 cast-size : tie.Need-cast-size
 cast-size c =
-    let t = told (c .before) in omega (arith, workers-few (passed (t .before .before .check .ensures) (t .enum-told .given .1)))
+    let t = told (c .before) in omega (arith, workers-few (passed (found (t .before .before)) (t .enum-told .given .1)))
 
 mul-size : tie.Need-mul-size
 mul-size c =
-    let t = told (c .before) in omega (arith, workers-few (passed (t .before .before .check .ensures) (t .enum-told .given .1)))
+    let t = told (c .before) in omega (arith, workers-few (passed (found (t .before .before)) (t .enum-told .given .1)))
 
 array-borrow-prefix-registers : tie.Need-array-borrow-prefix-registers
 array-borrow-prefix-registers c =
-    let t = told (c .before) in omega (arith, workers-few (passed (t .before .before .check .ensures) (t .enum-told .given .1)))
+    let t = told (c .before) in omega (arith, workers-few (passed (found (t .before .before)) (t .enum-told .given .1)))
 
 slice-aggregate-regs : tie.Need-slice-aggregate-regs
 slice-aggregate-regs c =
-    let t = told (c .before .before) in sym (registers-long (passed (t .before .before .check .ensures) (t .enum-told .given .1)))
+    let t = told (c .before .before) in sym (registers-long (passed (found (t .before .before)) (t .enum-told .given .1)))
 
 restore-requires : tie.Need-restore-requires
 restore-requires c κs =
     let m = made c in
     let e = m .before in
     let t = told e in
-    resumable (passed (t .before .before .check .ensures) (t .enum-told .given .1)) (e .before .is-sound .ensures .right (not-false _ (e .if1 .left)))
+    resumable (passed (found (t .before .before)) (t .enum-told .given .1)) (e .before .is-sound .ensures .right (not-false _ (e .if1 .left)))
     (m .setup-of .ensures)
 
 take-turns-requires : tie.Need-take-turns-requires
@@ -90,9 +105,9 @@ take-turns-requires c κs =
     let e = m .before in
     let t = told e in
     resume-ready (restore-requires (r .before) (r .restore .lifetimes)) refl
-    (resume-fits (passed (t .before .before .check .ensures) (t .enum-told .given .1)) (e .before .is-sound .ensures .right (not-false _ (e .if1 .left)))
+    (resume-fits (passed (found (t .before .before)) (t .enum-told .given .1)) (e .before .is-sound .ensures .right (not-false _ (e .if1 .left)))
     (m .setup-of .ensures))
-    (short (entry t)) (r .restore .ensures)
+    (short (entry (t .before .before))) (r .restore .ensures)
 
 settle-requires : tie.Need-settle-requires
 settle-requires c κs =
@@ -107,7 +122,7 @@ save-requires c κs =
     let m = made (taken (u .before) .before) in
     let e = m .before in
     let t = told e in
-    let x = passed (t .before .before .check .ensures) (t .enum-told .given .1) in
+    let x = passed (found (t .before .before)) (t .enum-told .given .1) in
     let X = e .before .is-sound .ensures .right (not-false _ (e .if1 .left)) in
     resume-savable x X
     (resume-leaves x X (m .setup-of .ensures)
@@ -126,13 +141,13 @@ returns-3 c =
     let m = made (taken (u .before) .before) in
     let e = m .before in
     let t = told e in
-    let found = t .before .before .check .ensures in
-    let x = passed found (t .enum-told .given .1) in
+    let finds = found (t .before .before) in
+    let x = passed finds (t .enum-told .given .1) in
     let X = e .before .is-sound .ensures .right (not-false _ (e .if1 .left)) in
     let l =
     resume-leaves x X (m .setup-of .ensures)
     (leaves (take-turns-requires (u .before) (u .take-turns .lifetimes)) (u .take-turns .ensures) (s .settle .ensures)) in
-    continued-fine found (t .enum-told .given .1)
+    continued-fine finds (t .enum-told .given .1)
     (answers-fine (test-right x X) l (resume-saved x X l (saved .save .ensures)) (c .answer .result) (c .answer .ensures))
 
 -- the buffers' lengths stay
@@ -155,6 +170,6 @@ same-length-4 c =
 pub resume-spec : {M : Type 1} → statement M
 resume-spec =
     tie.close
-    (tie.spec (λ c κs. search needs) (λ c. search needs) returns (λ c. search needs) is-sound-requires (λ c. search needs) returns-2
+    (tie.spec (λ c κs. search needs) (λ c κs. search needs) (λ c. search needs) returns (λ c. search needs) is-sound-requires (λ c. search needs) returns-2
     sub-setup-of setup-of-requires cast-size mul-size array-borrow-prefix-registers slice-aggregate-regs restore-requires take-turns-requires
     settle-requires save-requires answer-requires same-length-2 same-length-3 same-length-4 (λ c. search needs) returns-3)

@@ -2,9 +2,10 @@
 use native.Mathlib.Omega.{arith}
 use mathlib.Core.Path.{ap, _∙_}
 use Rattle.worker.specs.declared.registers.Block.{Block}
-use Rattle.turns.proofs.Bounds.{block-room, roomy}
-use Rattle.turns.proofs.Asking.{holds-woken}
-use Rattle.turns.proofs.Statuses.{told, idle-here, denied-here, given-here, poll-here, look-here, claim-here, holds-quiet}
+use Rattle.step.proofs.Bounds.{block-room, roomy}
+use Rattle.step.proofs.Turned.{told-as}
+use Rattle.turns.proofs.Waking.{holds-woken}
+use Rattle.turns.proofs.Statuses.{idle-here, denied-here, given-here, poll-here, look-here, claim-here, holds-quiet}
 use borrow.Author.Needs.{needs}
 use Rattle.turns.proofs.turn.Statement.{statement}
 use Rattle.turns.proofs.turn.Tie as tie
@@ -29,7 +30,7 @@ idle-turn-requires c κs =
     let at-load = at-match .before in
     let start = entry at-load in
     let z = rw (at-load .load .ensures) at (at-match .match .keys1) in
-    (start .args .marks .now, (start .args .work .now, (start .args .tallies .now, told (start .pre) (idle-here (start .pre) z))))
+    (start .args .marks .now, (start .args .work .now, (start .args .tallies .now, told-as (start .pre) (idle-here (start .pre) z))))
 
 put-requires : tie.Need-put-requires
 put-requires c κs =
@@ -50,7 +51,7 @@ take-up-requires c κs =
     let at-load = at-match .before in
     let start = entry at-load in
     let z = rw (at-load .load .ensures) at (at-match .match .keys3) in
-    (start .args .marks .now, (start .args .work .now, (start .args .tallies .now, told (start .pre) (given-here (start .pre) z))))
+    (start .args .marks .now, (start .args .work .now, (start .args .tallies .now, told-as (start .pre) (given-here (start .pre) z))))
 
 poll-requires : tie.Need-poll-requires
 poll-requires c κs =
@@ -58,7 +59,7 @@ poll-requires c κs =
     let at-load = at-match .before in
     let start = entry at-load in
     let z = rw (at-load .load .ensures) at (at-match .match .keys4) in
-    (start .args .marks .now, told (start .pre) (poll-here (start .pre) z))
+    (start .args .marks .now, told-as (start .pre) (poll-here (start .pre) z))
 
 look-requires : tie.Need-look-requires
 look-requires c κs =
@@ -66,7 +67,7 @@ look-requires c κs =
     let at-load = at-match .before in
     let start = entry at-load in
     let z = rw (at-load .load .ensures) at (at-match .match .keys5) in
-    told (start .pre) (look-here (start .pre) z)
+    told-as (start .pre) (look-here (start .pre) z)
 
 claim-requires : tie.Need-claim-requires
 claim-requires c κs =
@@ -74,7 +75,7 @@ claim-requires c κs =
     let at-load = at-match .before in
     let start = entry at-load in
     let z = rw (at-load .load .ensures) at (at-match .match .keys6) in
-    told (start .pre) (claim-here (start .pre) z)
+    told-as (start .pre) (claim-here (start .pre) z)
 
 returns : tie.Need-returns
 returns c =
@@ -82,7 +83,7 @@ returns c =
     let at-match = at-idle-turn .before .before in
     let at-load = at-match .before in
     let z = rw (at-load .load .ensures) at (at-match .match .keys1) in
-    (λ x. at-idle-turn .idle-turn .ensures .0 _ _ _ (told x (idle-here x z)), at-idle-turn .idle-turn .ensures .1)
+    (λ x. at-idle-turn .idle-turn .ensures .0 _ _ _ (told-as x (idle-here x z)), at-idle-turn .idle-turn .ensures .1)
 
 returns-2 : tie.Need-returns-2
 returns-2 c =
@@ -102,7 +103,7 @@ returns-3 c =
     let start = entry at-load in
     let z = rw (at-load .load .ensures) at (at-match .match .keys3) in
     let v = start .args .step .entry .named in
-    (λ x. at-take-up .take-up .ensures _ _ _ v (told x (given-here x z)), tt)
+    (λ x. at-take-up .take-up .ensures _ _ _ v (told-as x (given-here x z)), tt)
 
 returns-4 : tie.Need-returns-4
 returns-4 c =
@@ -112,7 +113,7 @@ returns-4 c =
     let start = entry at-load in
     let z = rw (at-load .load .ensures) at (at-match .match .keys4) in
     let v = start .args .step .entry .named in
-    (λ x. at-poll .poll .ensures _ v (told x (poll-here x z)), tt)
+    (λ x. at-poll .poll .ensures _ v (told-as x (poll-here x z)), tt)
 
 returns-5 : tie.Need-returns-5
 returns-5 c =
@@ -122,7 +123,7 @@ returns-5 c =
     let start = entry at-load in
     let z = rw (at-load .load .ensures) at (at-match .match .keys5) in
     let v = start .args .step .entry .named in
-    (λ x. at-look .look .ensures v (told x (look-here x z)), tt)
+    (λ x. at-look .look .ensures v (told-as x (look-here x z)), tt)
 
 returns-6 : tie.Need-returns-6
 returns-6 c =
@@ -132,7 +133,7 @@ returns-6 c =
     let start = entry at-load in
     let z = rw (at-load .load .ensures) at (at-match .match .keys6) in
     let v = start .args .step .entry .named in
-    (λ x. at-claim .claim .ensures v (told x (claim-here x z)), tt)
+    (λ x. at-claim .claim .ensures v (told-as x (claim-here x z)), tt)
 
 returns-7 : tie.Need-returns-7
 returns-7 c =

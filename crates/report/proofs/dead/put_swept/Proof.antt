@@ -29,13 +29,15 @@ left : (c : tie.After-swept) → let a = entry (at-sweep c) .args in
     SweptTo (a .sizes .now) (a .marks .now) (list c) (a .out .now) (a .at) (count c) (c .swept .given .0 .1 .0)
 left c =
     let done = at-sweep c .sweep .ensures in
-    swept-to (entry (at-sweep c) .pre) (c .swept .given .1) (done .0) (done .1 .0)
+    let p = entry (at-sweep c) .pre in
+    swept-to (p .0) _ (p .1) (c .swept .given .1) (done .0) (done .1 .0)
 
 returns : tie.Need-returns
 returns c =
     let at-told = c .before .before .before .before .before in
     let s = at-told .before .before .before .before in
-    absurd (not-refused (entry s .pre) (at-told .enum-told .given .1) (s .sweep .ensures .0))
+    let p = entry s .pre in
+    absurd (not-refused (p .0) _ (p .1) (at-told .enum-told .given .1) (s .sweep .ensures .0))
 
 slice-reshare-prefix-put-dead-list : tie.Need-slice-reshare-prefix-put-dead-list
 slice-reshare-prefix-put-dead-list c = left (c .before .before) .inside

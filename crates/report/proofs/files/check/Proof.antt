@@ -2,7 +2,7 @@
 use mathlib.Core.Path.{_≡_, sym, _∙_}
 use mathlib.Core.Bool.{false, _||_}
 use borrow.Author.Tests.{lt-ltb, le-ltb}
-use Rattle.report.specs.Report.{unreadable}
+use Rattle.program.specs.Program.{unreadable}
 use borrow.Author.Needs.{needs}
 use Rattle.report.proofs.files.check.Statement.{statement}
 use Rattle.report.proofs.files.check.Tie as tie

@@ -1,5 +1,5 @@
 -- By the tests.
-use Rattle.report.specs.Limits.{most-objects, most-references}
+use Rattle.program.specs.Limits.{most-objects, most-references}
 use borrow.Author.Tests.{lt-ltb, le-ltb}
 use Rattle.report.proofs.files.check_counts.Statement.{statement}
 use Rattle.report.proofs.files.check_counts.Tie as tie

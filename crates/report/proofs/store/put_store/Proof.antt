@@ -1,68 +1,55 @@
--- The reader's answer decides; what it read passes every later check of it.
-use mathlib.Core.Path.{sym}
-use lib.Seq.{length-take-le}
-use Rattle.slices.proofs.Written.{as-text}
-use Rattle.report.proofs.Reading.{due-catalogue, due-read, starts-fit, orderly}
+-- Each buffer has the length that the store asks for (`part-long`).
+use mathlib.Core.Path.{_≡_, sym, _∙_}
+use Prim.Native.Nat.{ℕ, _+_}
+use native.Mathlib.Omega.{arith}
+use lib.ListN.{length, take, replicate, length-replicate}
+use Rattle.records.specs.Store.{start-words}
+use Rattle.program.specs.Limits.{most-objects, most-references}
+use Rattle.report.proofs.Parts.{part-long}
 use borrow.Author.Needs.{needs}
 use Rattle.report.proofs.store.put_store.Statement.{statement}
 use Rattle.report.proofs.store.put_store.Tie as tie
 
-abbrev at-start : tie.After-slice-known4 → tie.Start
-at-start c = c .before .before .before .before .before .before
+-- the parts for n objects and m references
+module _ (s : tie.Start) where
+  offsets : length (take {A = ℕ} (s .args .n + 1) (replicate (most-objects + 1) 0)) ≡ s .args .n + 1
+  offsets = let few = s .pre .few-objects in part-long (s .args .n + 1) (most-objects + 1) (omega arith)
 
-abbrev lent : tie.After-read → tie.After-slice-known9
-lent c = c .before .before .before .before .before
+  targets : length (take {A = ℕ} (s .args .m) (replicate most-references 0)) ≡ s .args .m
+  targets = part-long (s .args .m) most-references (s .pre .few-references)
 
-abbrev entry : tie.After-read → tie.Start
-entry c = at-start (lent c .before .before .before .before .before)
+  each : length (take {A = ℕ} (s .args .n) (replicate most-objects 0)) ≡ s .args .n
+  each = part-long (s .args .n) most-objects (s .pre .few-objects)
 
-abbrev at-read : tie.After-slice-known13 → tie.After-read
-at-read c = c .before .before .before .before .before .before .before .before
+abbrev entry : tie.After-offsets → tie.Start
+entry c = c .before .before .before .before
 
--- the starts are cut to their number once the reader has told it
-abbrev found : tie.After-put-ordered-arg3 → tie.After-found
-found c = c .before .before .before .before
+slice-aggregate-put-read : tie.Need-slice-aggregate-put-read
+slice-aggregate-put-read c = sym (offsets (entry c))
 
--- the arguments behind the starts, back to the cut
-abbrev at-cut : tie.After-put-ordered-arg9 → tie.After-put-ordered-arg3
-at-cut c = c .before .before .before .before .before .before
+slice-aggregate-put-read-2 : tie.Need-slice-aggregate-put-read-2
+slice-aggregate-put-read-2 c = sym (targets (entry (c .before)))
 
-returns : tie.Need-returns
-returns c =
-    let at-refusal = c .before .before in
-    let at-told = at-refusal .before .before .before in
-    let r = at-read (at-told .before .before) in
-    as-text (due-catalogue (entry r .pre) (r .read .ensures .0) (at-told .enum-told .given .1) (at-refusal .before .fault-of .ensures))
-    (at-refusal .put-refusal .ensures .put)
+slice-aggregate-put-read-3 : tie.Need-slice-aggregate-put-read-3
+slice-aggregate-put-read-3 c = sym (each (entry (c .before .before)))
 
--- the starts are the first words of their buffer
-slice-reshare-prefix-put-ordered : tie.Need-slice-reshare-prefix-put-ordered
-slice-reshare-prefix-put-ordered c =
-    let at-found = found c in
-    let r = at-read (at-found .before .before) in
-    starts-fit (entry r .pre) (r .read .ensures .0) (at-found .found .given .1)
-
-slice-aggregate-put-ordered : tie.Need-slice-aggregate-put-ordered
-slice-aggregate-put-ordered c = sym (length-take-le _ _ (slice-reshare-prefix-put-ordered (c .before)))
-
-put-ordered-requires : tie.Need-put-ordered-requires
-put-ordered-requires c κs =
-    let at-found = found (at-cut c) in
-    let r = at-read (at-found .before .before) in
-    orderly (entry r .pre) (r .read .ensures .0) (at-found .found .given .1)
-
-returns-2 : tie.Need-returns-2
-returns-2 c =
-    let work-back = c .before .before .before .before .before .before in
-    let at-ordered = work-back .before .before .before .before in
-    let at-found = found (at-cut (at-ordered .before)) in
-    let r = at-read (at-found .before .before) in
-    as-text (due-read (entry r .pre) (r .read .ensures .0) (at-found .found .given .1)) (at-ordered .put-ordered .ensures)
+put-read-requires : tie.Need-put-read-requires
+put-read-requires c κs =
+    let s = entry (c .before .before .before .before) in
+    let p = s .pre in
+    let e = each s in
+    record {
+      all-offsets = omega (arith, offsets s);
+      all-targets = targets s ∙ p .references-are;
+      all-sizes = e ∙ p .objects-are;
+      all-starts = length-replicate {A = ℕ} start-words 0;
+      few = omega arith;
+      whole-order = p .whole-order;
+      room = p .room;
+    }
 
 pub put-store-spec : {M : Type 1} → statement M
 put-store-spec =
     tie.close
-    (tie.spec (λ c κs. search needs) (λ c. search needs) (λ c. search needs) (λ c κs. search needs)
-    (λ c κs. search needs) (λ c. search needs) (λ c. search needs) (λ c. search needs) (λ c. search needs)
-    (λ c. search needs) returns (λ c. search needs) slice-reshare-prefix-put-ordered slice-aggregate-put-ordered put-ordered-requires (λ c. search needs) (λ c. search needs)
-    (λ c. search needs) (λ c. search needs) (λ c. search needs) (λ c. search needs) (λ c. search needs) (λ c. search needs) (λ c. search needs) returns-2)
+    (tie.spec (λ c. search needs) (λ c. search needs) slice-aggregate-put-read (λ c. search needs) slice-aggregate-put-read-2
+    (λ c. search needs) slice-aggregate-put-read-3 (λ c. search needs) put-read-requires (λ c. search needs) (λ c. search needs))

@@ -1,0 +1,4 @@
+pub mod Copies
+pub mod Restoring
+pub mod Saving
+pub mod Workers

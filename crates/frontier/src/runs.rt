@@ -1,0 +1,276 @@
+// The stretches: the runs that the workers carry.
+use desk::places;
+use protocol::fields;
+use slices::bits;
+use worker::registers;
+ghost use mathlib.Core.Path.{_≡_};
+ghost use Prim.Native.Nat.{_+_, _-_, _*_, _≤_, _<_};
+ghost use lib.ListN.{length, getD, drop, replicate};
+ghost use Rattle.laws.specs.Decides.{Decides};
+ghost use Rattle.slices.specs.Bits.{word-bits};
+ghost use Rattle.graph.specs.Graph.{graph};
+ghost use Rattle.graph.specs.Limits.{most-objects};
+ghost use Rattle.desk.specs.Lengths.{stretchLength};
+ghost use Rattle.worker.specs.Registers.{status-given};
+ghost use Rattle.frontier.specs.Runs.{HasOwner, Owns, Carried, Roomy, RunFound, RunsFound, LoadFound, StretchesThere, LoadsFound};
+
+// The object that reference e leaves: its references begin at or before e, the next one's after e.
+fn object_of(offsets: &[u32], e: u32) -> usize
+    requires { ⌜ HasOwner (now offsets) e ⌝ }
+    ensures { λ v. ⌜ Owns (now (offsets .entry)) e v ⌝ }
+{
+    let mut low: usize = 0;
+    let mut high: usize = offsets.len() - 1;
+    while 1 < high - low {
+        let middle = low + (high - low) / 2;
+        if offsets[middle] <= e {
+            low = middle;
+        } else {
+            high = middle;
+        }
+    }
+    low
+}
+
+// Takes the references from one to another into the set; false where one of them is in it already.
+fn carry(carried: &mut [u32], from: u32, to: u32) -> bool
+    requires { ⌜ (from ≤ to) × (to ≤ word-bits * length (now carried)) ⌝ }
+    ensures { λ r. ⌜ Carried (now (carried .entry)) from to r (now (carried .exit)) ⌝ }
+{
+    for e in from..to {
+        if !bits::insert(carried, e) {
+            return false;
+        }
+    }
+    true
+}
+
+// Whether object v has no other references than those from one to another.
+fn is_whole(offsets: &[u32], v: usize, from: u32, to: u32) -> bool
+    requires { ⌜ v + 1 < length (now offsets) ⌝ }
+    ensures { λ r. ⌜ Decides r ((from ≡ getD (now (offsets .entry)) v 0) × (to ≡ getD (now (offsets .entry)) (v + 1) 0)) ⌝ }
+{
+    if from != offsets[v] {
+        return false;
+    }
+    to == offsets[v + 1]
+}
+
+// What a run is: whether its references are those of one marked object and new, and whether they are
+// all of them.
+pub struct Tested {
+    pub sound: bool,
+    pub whole: bool,
+}
+
+const WRONG: Tested = Tested {
+    sound: false,
+    whole: false,
+};
+
+// The run from one reference to another, which is after it.
+fn check_run(
+    offsets: &[u32],
+    targets: &[u32],
+    marks: &[u32],
+    carried: &mut [u32],
+    from: u32,
+    to: u32,
+) -> Tested
+    requires { ⌜ Roomy (graph (now offsets) (now targets)) (now marks) (now carried) × (from < to) ⌝ }
+    ensures { λ r. ⌜ RunFound (graph (now (offsets .entry)) (now (targets .entry))) (now (marks .entry)) (now (carried .entry)) from to r (now (carried .exit)) ⌝ }
+{
+    if targets.len() < to as usize {
+        return WRONG;
+    }
+    let v = object_of(offsets, from);
+    if offsets[v + 1] < to {
+        return WRONG;
+    }
+    if marks[v] == 0 {
+        return WRONG;
+    }
+    if !carry(carried, from, to) {
+        return WRONG;
+    }
+    let whole = is_whole(offsets, v, from, to);
+    Tested { sound: true, whole }
+}
+
+// What the runs of a stretch come to: how many pairs, and how many references.
+pub struct Runs {
+    pub sound: bool,
+    pub pairs: usize,
+    pub carried: u64,
+}
+
+const NO_RUNS: Runs = Runs {
+    sound: false,
+    pairs: 0,
+    carried: 0,
+};
+
+// The pairs of a stretch up to the first that is none. All but the first and the last must be whole.
+fn check_runs(
+    offsets: &[u32],
+    targets: &[u32],
+    marks: &[u32],
+    carried: &mut [u32],
+    stretch: &[u32],
+) -> Runs
+    requires { ⌜ Roomy (graph (now offsets) (now targets)) (now marks) (now carried) × (length (now stretch) ≤ stretchLength most-objects) ⌝ }
+    ensures { λ r. ⌜ RunsFound (graph (now (offsets .entry)) (now (targets .entry))) (now (marks .entry)) (now (carried .entry)) (now (stretch .entry)) r (now (carried .exit)) ⌝ }
+{
+    let mut total: u64 = 0;
+    let mut whole = true;
+    let pairs = stretch.len() / 2;
+    for i in 0..pairs {
+        let from = stretch[2 * i];
+        let to = stretch[2 * i + 1];
+        if to <= from {
+            return Runs {
+                sound: true,
+                pairs: i,
+                carried: total,
+            };
+        }
+        // The run before this one was neither stored first nor last, and is not whole.
+        if !whole {
+            return NO_RUNS;
+        }
+        let run = check_run(offsets, targets, marks, carried, from, to);
+        let sound = run.sound;
+        if !sound {
+            return NO_RUNS;
+        }
+        if 0 < i {
+            whole = run.whole;
+        }
+        total += (to - from) as u64;
+    }
+    Runs {
+        sound: true,
+        pairs,
+        carried: total,
+    }
+}
+
+// Whether the words from a place on are zeros.
+fn zeros(words: &[u32], from: usize) -> bool
+    requires { ⌜ from ≤ length (now words) ⌝ }
+    ensures { λ r. ⌜ Decides r (drop from (now (words .entry)) ≡ replicate (length (now (words .entry)) - from) 0) ⌝ }
+{
+    for i in from..words.len() {
+        if words[i] != 0 {
+            return false;
+        }
+    }
+    true
+}
+
+// What a worker carries.
+pub struct Load {
+    pub sound: bool,
+    pub carried: u64,
+}
+
+const NO_LOAD: Load = Load {
+    sound: false,
+    carried: 0,
+};
+
+// The stretch of a worker with this status and batch.
+fn check_stretch(
+    offsets: &[u32],
+    targets: &[u32],
+    marks: &[u32],
+    carried: &mut [u32],
+    stretch: &[u32],
+    status: u32,
+    batch: u32,
+) -> Load
+    requires { ⌜ Roomy (graph (now offsets) (now targets)) (now marks) (now carried) × (length (now stretch) ≤ stretchLength most-objects) × (status < status-given → batch ≡ 0) ⌝ }
+    ensures { λ r. ⌜ LoadFound (graph (now (offsets .entry)) (now (targets .entry))) (now (marks .entry)) (now (carried .entry)) status batch (now (stretch .entry)) r (now (carried .exit)) ⌝ }
+{
+    if status < registers::GIVEN {
+        let sound = zeros(stretch, 0);
+        return Load { sound, carried: 0 };
+    }
+    let runs = check_runs(offsets, targets, marks, carried, stretch);
+    let sound = runs.sound;
+    let pairs = runs.pairs;
+    let total = runs.carried;
+    if !sound {
+        return NO_LOAD;
+    }
+    if pairs == 0 {
+        return NO_LOAD;
+    }
+    if total < batch as u64 {
+        return NO_LOAD;
+    }
+    let clear = zeros(stretch, 2 * pairs);
+    Load {
+        sound: clear,
+        carried: total,
+    }
+}
+
+// What all workers carry, and how many of them carry something.
+pub struct Loads {
+    pub sound: bool,
+    pub carrying: u64,
+    pub carried: u64,
+}
+
+pub const NO_LOADS: Loads = Loads {
+    sound: false,
+    carrying: 0,
+    carried: 0,
+};
+
+// All workers' stretches, with a set of references that is empty at first.
+pub fn check_stretches(
+    offsets: &[u32],
+    targets: &[u32],
+    marks: &[u32],
+    carried: &mut [u32],
+    saved: &[u32],
+    workers: u32,
+) -> Loads
+    requires { ⌜ StretchesThere (graph (now offsets) (now targets)) (now marks) (now carried) workers (now saved) ⌝ }
+    ensures { λ r. ⌜ LoadsFound (graph (now (offsets .entry)) (now (targets .entry))) (now (marks .entry)) workers (now (saved .entry)) r (now (carried .exit)) ⌝ }
+{
+    let mut carrying: u64 = 0;
+    let mut total: u64 = 0;
+    let n = offsets.len() - 1;
+    let len = places::stretch(n);
+    let stretches = places::marks(workers) + n;
+    for b in 0..workers {
+        let at = places::WORKERS + places::WORKER * b as usize;
+        let from = stretches + b as usize * len;
+        let load = check_stretch(
+            offsets,
+            targets,
+            marks,
+            carried,
+            &saved[from..from + len],
+            saved[at + fields::STATUS],
+            saved[at + fields::BATCH],
+        );
+        let sound = load.sound;
+        let own = load.carried;
+        if !sound {
+            return NO_LOADS;
+        }
+        if own != 0 {
+            carrying += 1;
+        }
+        total += own;
+    }
+    Loads {
+        sound: true,
+        carrying,
+        carried: total,
+    }
+}

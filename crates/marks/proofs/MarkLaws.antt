@@ -1,0 +1,231 @@
+-- The loops over the marks, the starts and the targets.
+use mathlib.Core.Path.{_≡_, refl, sym, ap, _∙_}
+use mathlib.Core.Bool.{Bool, true, false}
+use mathlib.Core.List.{List, map}
+use mathlib.Core.Logic.{_≢_, by-cases}
+use Prim.Native.Nat.{ℕ, zero, suc, _+_, _-_, _*_, _≤_, _<_}
+use native.Mathlib.Decide.{ℕ-discrete, decLt}
+use native.Mathlib.Nat.{add-zero}
+use native.Mathlib.Numerals.{add-one}
+use native.Mathlib.Omega.{arith}
+use lib.ListN.{length, getD, take, drop, replicate, drop-of-length-le, length-replicate}
+use lib.Seq.{drop-cons, take-suc, take-length}
+use borrow.Author.Count.{below-more}
+use Rattle.laws.specs.Span.{span}
+use Rattle.laws.specs.Sum.{sum, hit}
+use Rattle.laws.proofs.Decides.{never}
+use Rattle.laws.proofs.Passing.{span-plus, span-agree, span-limit}
+use Rattle.laws.proofs.Span.{span-hit-one}
+use Rattle.laws.proofs.Sum.{sum-snoc, inside, hit-same, hit-other, hit-swap}
+use Rattle.slices.specs.Bits.{bit, Inserts}
+use Rattle.slices.proofs.BitWords.{bit-low, bit-none}
+use Rattle.graph.specs.Graph.{graph, degree}
+use Rattle.graph.specs.Chain.{set?, overMarked}
+use Rattle.graph.specs.Leaving.{leavingUnmarked, unset?}
+use Rattle.machine.specs.Machine.{live}
+use Rattle.machine.specs.Sound.{Marked}
+use Rattle.marks.specs.Marks.{MarksLow, MarksFound, StartsBelow, StartsThere, StartsMarked, distinct, StartsFound}
+
+-- ---- `check_marks`: what is left makes up the whole
+
+pub record MarksAt (W : ℕ) (os ms : List ℕ) (live⁺ leaving v : ℕ) : Type 0 where
+  pub high : v ≤ length ms
+  pub each : (u : ℕ) → u < v → getD ms u 0 ≤ W
+  pub live-left : live⁺ + sum set? (drop v ms) ≡ live ms
+  pub leaving-left : (ts : List ℕ) → leaving + overMarked (degree (graph os ts)) v (map unset? (drop v ms)) ≡ leavingUnmarked (graph os ts) ms
+  pub live-low : live⁺ ≤ v
+  pub leaving-low : leaving ≤ getD os v 0
+
+module _ {W : ℕ} {os ms : List ℕ} where
+  pub marks-start : MarksAt W os ms 0 0 0
+  unfolding live
+  marks-start =
+      record {
+        high = omega arith;
+        each = λ u h. absurd (omega arith);
+        live-left = omega arith;
+        leaving-left = λ ts. omega arith;
+        live-low = omega arith;
+        leaving-low = omega arith;
+      }
+
+  module _ {live⁺ leaving v live′ leaving′ : ℕ} (x : MarksAt W os ms live⁺ leaving v) (h : v < length ms) (low : getD ms v 0 ≤ W)
+      (rises : getD os v 0 ≤ getD os (suc v) 0) where
+    -- an object that is not marked
+    pub unmarked-next : getD ms v 0 ≡ 0 → live′ ≡ live⁺ → leaving′ ≡ leaving + (getD os (v + 1) 0 - getD os v 0)
+        → MarksAt W os ms live′ leaving′ (v + 1)
+    unfolding sum overMarked
+    unmarked-next e a b =
+        let next = add-one v in
+        record {
+          high = omega arith;
+          each = below-more _ v (x .each) low;
+          live-left = rw next (omega (arith, a, rw (drop-cons ms v 0 h, e) at (x .live-left)));
+          leaving-left = λ ts. rw next (omega (arith, rw next at b, rw (drop-cons ms v 0 h, e) at (x .leaving-left ts)));
+          live-low = omega (arith, x .live-low);
+          leaving-low = rw next (omega (arith, rw next at b, x .leaving-low));
+        }
+
+    -- one that is
+    pub marked-next : (getD ms v 0 ≡ 0 → ⊥) → live′ ≡ live⁺ + 1 → leaving′ ≡ leaving → MarksAt W os ms live′ leaving′ (v + 1)
+    unfolding sum overMarked
+    marked-next n a b = some (getD ms v 0) refl
+      where
+        some : (k : ℕ) → getD ms v 0 ≡ k → MarksAt W os ms live′ leaving′ (v + 1)
+        some zero e = absurd (n e)
+        some (suc k) e =
+            let next = add-one v in
+            record {
+              high = omega arith;
+              each = below-more _ v (x .each) low;
+              live-left = rw next (omega (arith, a, rw (drop-cons ms v 0 h, e) at (x .live-left)));
+              leaving-left = λ ts. rw next (omega (arith, b, rw (drop-cons ms v 0 h, e) at (x .leaving-left ts)));
+              live-low = omega (arith, x .live-low);
+              leaving-low = rw next (omega (arith, b, x .leaving-low));
+            }
+
+  pub marks-end : {live⁺ leaving v : ℕ} → MarksAt W os ms live⁺ leaving v → length ms ≤ v
+      → MarksFound W os ms (record { sound = true; live = live⁺; leaving = leaving })
+  unfolding sum overMarked
+  marks-end {v = v} x h =
+      let none = drop-of-length-le ms h in
+      record {
+        right = λ z u. by-cases (decLt 0 (getD ms u 0)) (λ (p : 0 < getD ms u 0). x .each u (omega (arith, inside ms u 0 (λ (k : ℕ). k) refl p))) (λ (p : ¬ (0 < getD ms u 0)). omega arith);
+        known = λ q. refl;
+        live = λ z. omega (arith, rw none at (x .live-left));
+        leaving = λ z ts. omega (arith, rw none at (x .leaving-left ts));
+      }
+
+  pub marks-wrong : (MarksLow W ms → ⊥) → MarksFound W os ms (record { sound = false; live = 0; leaving = 0 })
+  marks-wrong n =
+      record { right = λ z. never z refl; known = λ h. absurd (n h); live = λ z. never z refl; leaving = λ z. never z refl }
+
+-- ---- `check_starts`: the set holds the starts passed
+
+-- a count with one more, which counted before or not
+set-none : (a : ℕ) → set? a ≡ 0 → a ≡ 0
+set-none zero e = refl
+set-none (suc a) e = absurd (omega arith)
+
+set-some : (a : ℕ) → set? a ≡ 1 → 0 < a
+set-some zero e = absurd (omega arith)
+set-some (suc a) e = omega arith
+
+set-same : (a k : ℕ) → k ≡ 0 → set? (a + k) ≡ set? a + k
+set-same a k e = rw (e, add-zero a, add-zero (set? a))
+
+set-first : (a k : ℕ) → set? a ≡ 0 → k ≡ 1 → set? (a + k) ≡ set? a + k
+set-first a k e q = rw (set-none a e, q)
+
+set-again : (a k : ℕ) → set? a ≡ 1 → set? (a + k) ≡ set? a
+set-again a k e = let r : a + k ≡ suc (a + k - 1) = omega (arith, set-some a e) in rw (r, e)
+
+span-zero : (k : ℕ) → span (λ (v : ℕ). 0) 0 k ≡ 0
+span-zero k = omega (arith, span-limit (λ (v : ℕ). 0) 0 0 k (λ i. omega arith))
+
+pub record StartsAt (starts ms seen₀ seen : List ℕ) (distinct⁺ i : ℕ) : Type 0 where
+  pub high : i ≤ length starts
+  pub each : (k : ℕ) → k < i → Marked ms (getD starts k 0)
+  pub bits : (v : ℕ) → bit seen v ≡ set? (sum (hit v) (take i starts))
+  pub number : distinct⁺ ≡ distinct (length ms) (take i starts)
+  pub low : distinct⁺ ≤ i
+  pub long : length seen ≡ length seen₀
+
+module _ {starts ms seen₀ : List ℕ} where
+  pub starts-start : StartsThere starts ms seen₀ → StartsAt starts ms seen₀ seen₀ 0 0
+  unfolding sum
+  starts-start there =
+      record {
+        high = omega arith;
+        each = λ k h. absurd (omega arith);
+        bits = there .none;
+        number = sym (span-zero (length ms));
+        low = omega arith;
+        long = refl;
+      }
+
+  module _ {seen seen′ : List ℕ} {distinct⁺ i : ℕ} {r : Bool} (x : StartsAt starts ms seen₀ seen distinct⁺ i) (h : i < length starts)
+      (below : getD starts i 0 < length ms) (marked : Marked ms (getD starts i 0)) (long : length seen′ ≡ length seen)
+      (put : Inserts seen (getD starts i 0) r seen′) where
+    -- the start passed, how often v stands among those before it, and among those up to it
+    abbrev s : ℕ
+    s = getD starts i 0
+
+    abbrev times : ℕ → ℕ
+    times v = sum (hit v) (take i starts)
+
+    times-more : (v : ℕ) → sum (hit v) (take (i + 1) starts) ≡ times v + hit v s
+    times-more v = rw (add-one, take-suc starts i 0 h) (sum-snoc (hit v) (take i starts) s)
+
+    -- it is new
+    pub new-next : {distinct′ : ℕ} → r ≡ true → distinct′ ≡ distinct⁺ + 1 → StartsAt starts ms seen₀ seen′ distinct′ (i + 1)
+    new-next t e =
+        record {
+          high = omega arith;
+          each = below-more _ i (x .each) marked;
+          bits = λ v. rw times-more (put .fresh t v ∙ ap (λ (k : ℕ). k + hit v s) (x .bits v) ∙ sym (joins v));
+          number = e ∙ rw (x .number) (sym counted);
+          low = omega (arith, e, x .low);
+          long = long ∙ x .long;
+        }
+      where
+        first : set? (times s) ≡ 0
+        first = omega (arith, put .fresh t s, bit-low seen′ s, hit-same s, x .bits s)
+
+        joins : (v : ℕ) → set? (times v + hit v s) ≡ set? (times v) + hit v s
+        joins v =
+            by-cases (ℕ-discrete v s)
+            (λ (q : v ≡ s). rw q (set-first (times s) (hit s s) first (hit-same s)))
+            (λ (q : v ≢ s). set-same (times v) (hit v s) (hit-other v s q))
+
+        counted : distinct (length ms) (take (i + 1) starts) ≡ distinct (length ms) (take i starts) + 1
+        counted =
+            span-agree (λ (v : ℕ). set? (sum (hit v) (take (i + 1) starts))) (λ (v : ℕ). set? (times v) + hit v s) (length ms)
+            (λ v q. ap set? (times-more v) ∙ joins v)
+            ∙ span-plus (λ (v : ℕ). set? (times v)) (λ (v : ℕ). hit v s) 0 (length ms)
+            ∙ ap (λ (k : ℕ). distinct (length ms) (take i starts) + k)
+            (span-agree (λ (v : ℕ). hit v s) (hit s) (length ms) (λ v q. hit-swap v s) ∙ span-hit-one s 0 (length ms) (omega arith) (omega (arith, below)))
+
+    -- it stands there again
+    pub again-next : {distinct′ : ℕ} → r ≡ false → distinct′ ≡ distinct⁺ → StartsAt starts ms seen₀ seen′ distinct′ (i + 1)
+    again-next t e =
+        record {
+          high = omega arith;
+          each = below-more _ i (x .each) marked;
+          bits = λ v. rw times-more (put .same t v ∙ x .bits v ∙ sym (stays v));
+          number = e ∙ x .number ∙ sym counted;
+          low = omega (arith, e, x .low);
+          long = long ∙ x .long;
+        }
+      where
+        before : set? (times s) ≡ 1
+        before = sym (x .bits s) ∙ put .there t
+
+        stays : (v : ℕ) → set? (times v + hit v s) ≡ set? (times v)
+        stays v =
+            by-cases (ℕ-discrete v s)
+            (λ (q : v ≡ s). rw q (set-again (times s) (hit s s) before))
+            (λ (q : v ≢ s). rw (hit-other v s q, add-zero (times v)))
+
+        counted : distinct (length ms) (take (i + 1) starts) ≡ distinct (length ms) (take i starts)
+        counted =
+            span-agree (λ (v : ℕ). set? (sum (hit v) (take (i + 1) starts))) (λ (v : ℕ). set? (times v)) (length ms)
+            (λ v q. ap set? (times-more v) ∙ stays v)
+
+  pub starts-end : {seen : List ℕ} {distinct⁺ i : ℕ} → StartsAt starts ms seen₀ seen distinct⁺ i → length starts ≤ i
+      → StartsFound starts ms (record { sound = true; distinct = distinct⁺ })
+  starts-end {i = i} x h =
+      let all : i ≡ length starts = omega (arith, x .high) in
+      record {
+        right = λ z k q. x .each k (omega arith);
+        known = λ q. refl;
+        distinct = λ z. x .number ∙ ap (distinct (length ms)) (ap (λ (k : ℕ). take k starts) all ∙ take-length starts);
+      }
+
+pub starts-wrong : {starts ms : List ℕ} → (StartsMarked starts ms → ⊥) → StartsFound starts ms (record { sound = false; distinct = 0 })
+starts-wrong n = record { right = λ z. never z refl; known = λ h. absurd (n h); distinct = λ z. never z refl }
+
+-- a set of zeros is empty
+pub zeros-for : {starts ms : List ℕ} (k : ℕ) → 65536 ≤ 32 * k → StartsBelow starts (length ms) → length ms ≤ 65536
+    → StartsThere starts ms (replicate k 0)
+zeros-for k h b l = record { below = b; room = rw length-replicate (omega arith); none = bit-none k }

@@ -1,0 +1,77 @@
+-- The marks, and what the functions on them say.
+use mathlib.Core.Path.{_≡_}
+use mathlib.Core.Bool.{true}
+use mathlib.Core.List.{List}
+use Prim.Native.Nat.{ℕ, suc, _*_, _≤_, _<_}
+use lib.ListN.{length, getD}
+use Rattle.laws.specs.Span.{span}
+use Rattle.laws.specs.Sum.{sum, hit}
+use Rattle.slices.specs.Bits.{bit, word-bits}
+use Rattle.graph.specs.Graph.{graph}
+use Rattle.graph.specs.Chain.{set?}
+use Rattle.graph.specs.Leaving.{leavingUnmarked}
+use Rattle.machine.specs.Machine.{live}
+use Rattle.machine.specs.Sound.{Marked}
+use Rattle.marks.specs.declared.Marks.{Marks}
+use Rattle.marks.specs.declared.Starts.{Starts}
+
+-- a mark for each object, whose references begin at offsets that do not fall
+pub record MarksThere (os ms : List ℕ) : Type 0 where
+  pub long : length os ≡ suc (length ms)
+  pub rises : (v : ℕ) → v < length ms → getD os v 0 ≤ getD os (suc v) 0
+
+-- no mark is above W
+abbrev pub MarksLow : ℕ → List ℕ → Type 0
+MarksLow W ms = (v : ℕ) → getD ms v 0 ≤ W
+
+-- what `check_marks` says
+pub record MarksFound (W : ℕ) (os ms : List ℕ) (r : Marks) : Type 0 where
+  pub right : r .sound ≡ true → MarksLow W ms
+  pub known : MarksLow W ms → r .sound ≡ true
+  pub live : r .sound ≡ true → r .live ≡ live ms
+  pub leaving : r .sound ≡ true → (ts : List ℕ) → r .leaving ≡ leavingUnmarked (graph os ts) ms
+
+-- the starts are objects
+abbrev pub StartsBelow : List ℕ → ℕ → Type 0
+StartsBelow starts n = (i : ℕ) → i < length starts → getD starts i 0 < n
+
+-- and there is a bit for each object, none of which is set
+pub record StartsThere (starts ms seen : List ℕ) : Type 0 where
+  pub below : StartsBelow starts (length ms)
+  pub room : length ms ≤ word-bits * length seen
+  pub none : (v : ℕ) → bit seen v ≡ 0
+
+abbrev pub StartsMarked : List ℕ → List ℕ → Type 0
+StartsMarked starts ms = (i : ℕ) → i < length starts → Marked ms (getD starts i 0)
+
+-- how many of n objects are in a list
+abbrev pub distinct : ℕ → List ℕ → ℕ
+distinct n vs = span (λ (v : ℕ). set? (sum (hit v) vs)) 0 n
+
+-- what `check_starts` and `count_starts` say
+pub record StartsFound (starts ms : List ℕ) (r : Starts) : Type 0 where
+  pub right : r .sound ≡ true → StartsMarked starts ms
+  pub known : StartsMarked starts ms → r .sound ≡ true
+  pub distinct : r .sound ≡ true → r .distinct ≡ distinct (length ms) starts
+
+-- ---- the targets
+
+-- targets that are objects, with a mark for each object and a bit for each reference
+pub record TargetsThere (ts ms carried : List ℕ) : Type 0 where
+  pub inside : (e : ℕ) → e < length ts → getD ts e 0 < length ms
+  pub room : length ts ≤ word-bits * length carried
+
+-- each of the references from one to another that nobody carries has a marked target
+abbrev pub PartMarked : List ℕ → List ℕ → List ℕ → ℕ → ℕ → Type 0
+PartMarked ts ms carried from to = (e : ℕ) → from ≤ e → e < to → bit carried e ≡ 0 → Marked ms (getD ts e 0)
+
+-- each reference of a marked object
+abbrev pub AllMarked : List ℕ → List ℕ → List ℕ → List ℕ → Type 0
+AllMarked os ts ms carried =
+    (v : ℕ) → v < length ms → Marked ms v → PartMarked ts ms carried (getD os v 0) (getD os (suc v) 0)
+
+-- the offsets bound parts of the targets
+pub record PartsThere (os ts ms carried : List ℕ) : Type 0 where
+  pub targets : TargetsThere ts ms carried
+  pub long : length os ≡ suc (length ms)
+  pub inside : (v : ℕ) → v < length ms → getD os (suc v) 0 ≤ length ts

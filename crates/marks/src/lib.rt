@@ -1,0 +1,118 @@
+// Whether saved marks are those of a collection (SPECIFICATION 8.2): what they come to, the starts, and the
+// targets of references that nobody carries. Nothing lent is written: the objects that are starts are one
+// bit each in local words.
+use slices::bits;
+ghost use Prim.Native.Nat.{_≤_};
+ghost use lib.ListN.{length};
+ghost use Rattle.laws.specs.Decides.{Decides};
+ghost use Rattle.graph.specs.Limits.{most-objects};
+ghost use Rattle.marks.specs.Marks.{MarksThere, MarksFound, StartsBelow, StartsThere, StartsFound, TargetsThere, PartMarked, PartsThere, AllMarked};
+
+// The words of a set of all objects.
+const OBJECT_WORDS: usize = graph::MOST_OBJECTS / 32;
+
+// What the marks come to: how many are set, and how many references leave unmarked objects.
+pub struct Marks {
+    pub sound: bool,
+    pub live: u64,
+    pub leaving: u64,
+}
+
+// Whether no mark is above the number of workers.
+pub fn check_marks(offsets: &[u32], marks: &[u32], workers: u32) -> Marks
+    requires { ⌜ MarksThere (now offsets) (now marks) ⌝ }
+    ensures { λ r. ⌜ MarksFound workers (now (offsets .entry)) (now (marks .entry)) r ⌝ }
+{
+    let mut live: u64 = 0;
+    let mut leaving: u64 = 0;
+    for v in 0..marks.len() {
+        let mark = marks[v];
+        if workers < mark {
+            return Marks {
+                sound: false,
+                live: 0,
+                leaving: 0,
+            };
+        }
+        if mark == 0 {
+            leaving += (offsets[v + 1] - offsets[v]) as u64;
+        } else {
+            live += 1;
+        }
+    }
+    Marks {
+        sound: true,
+        live,
+        leaving,
+    }
+}
+
+// What the starts come to: how many objects they are.
+pub struct Starts {
+    pub sound: bool,
+    pub distinct: u64,
+}
+
+// Whether all starts are marked; they are counted by a set of objects that is empty at first.
+fn count_starts(starts: &[u32], marks: &[u32], seen: &mut [u32]) -> Starts
+    requires { ⌜ StartsThere (now starts) (now marks) (now seen) ⌝ }
+    ensures { λ r. ⌜ StartsFound (now (starts .entry)) (now (marks .entry)) r ⌝ }
+{
+    let mut distinct: u64 = 0;
+    for i in 0..starts.len() {
+        let v = starts[i];
+        if marks[v as usize] == 0 {
+            return Starts {
+                sound: false,
+                distinct: 0,
+            };
+        }
+        if bits::insert(seen, v) {
+            distinct += 1;
+        }
+    }
+    Starts {
+        sound: true,
+        distinct,
+    }
+}
+
+// The same, with such a set.
+pub fn check_starts(starts: &[u32], marks: &[u32]) -> Starts
+    requires { ⌜ StartsBelow (now starts) (length (now marks)) × (length (now marks) ≤ most-objects) ⌝ }
+    ensures { λ r. ⌜ StartsFound (now (starts .entry)) (now (marks .entry)) r ⌝ }
+{
+    let mut seen = [0u32; OBJECT_WORDS];
+    count_starts(starts, marks, &mut seen)
+}
+
+// Whether each of the references from one to another that nobody carries has a marked target.
+fn part_marked(targets: &[u32], marks: &[u32], carried: &[u32], from: u32, to: u32) -> bool
+    requires { ⌜ TargetsThere (now targets) (now marks) (now carried) × (to ≤ length (now targets)) ⌝ }
+    ensures { λ r. ⌜ Decides r (PartMarked (now (targets .entry)) (now (marks .entry)) (now (carried .entry)) from to) ⌝ }
+{
+    for e in from..to {
+        let target = targets[e as usize];
+        if marks[target as usize] == 0 {
+            if !bits::contains(carried, e) {
+                return false;
+            }
+        }
+    }
+    true
+}
+
+// The same for the references of all marked objects.
+pub fn targets_marked(offsets: &[u32], targets: &[u32], marks: &[u32], carried: &[u32]) -> bool
+    requires { ⌜ PartsThere (now offsets) (now targets) (now marks) (now carried) ⌝ }
+    ensures { λ r. ⌜ Decides r (AllMarked (now (offsets .entry)) (now (targets .entry)) (now (marks .entry)) (now (carried .entry))) ⌝ }
+{
+    for v in 0..marks.len() {
+        if marks[v] != 0 {
+            if !part_marked(targets, marks, carried, offsets[v], offsets[v + 1]) {
+                return false;
+            }
+        }
+    }
+    true
+}

@@ -1,0 +1,135 @@
+// The text of a graph (SPECIFICATION 13): its length, and the text in a buffer of exactly that length.
+use matrix::BANNER;
+ghost use mathlib.Core.Path.{_≡_};
+ghost use mathlib.Core.List.{_++_};
+ghost use Prim.Native.Nat.{suc, _+_, _*_, _≤_, _<_};
+ghost use lib.ListN.{length};
+ghost use Rattle.laws.specs.Blocks.{laid};
+ghost use Rattle.graph.specs.Graph.{graph};
+ghost use Rattle.slices.specs.Put.{Put};
+ghost use Rattle.text.specs.Text.{decimal};
+ghost use Rattle.matrix.specs.Layout.{banner, stopped};
+ghost use Rattle.matrix.specs.Export.{lineOf, pairsFrom, countsLine, exported};
+ghost use Rattle.matrix.specs.Steps.{Exportable, Printable, Listable, pairAt, short};
+
+// The bytes that part numbers and lines, and the digit 0.
+const SPACE: u8 = 32;
+
+const FEED: u8 = 10;
+
+const ZERO: u64 = 48;
+
+// How many decimal digits a number has.
+fn width(v: u64) -> usize
+    requires { ⌜ v < short ⌝ }
+    ensures { λ r. ⌜ (r ≡ length (decimal v)) × (r ≤ 7) ⌝ }
+{
+    if v < 10 {
+        return 1;
+    }
+    if v < 100 {
+        return 2;
+    }
+    if v < 1000 {
+        return 3;
+    }
+    if v < 10000 {
+        return 4;
+    }
+    if v < 100000 {
+        return 5;
+    }
+    if v < 1000000 {
+        return 6;
+    }
+    7
+}
+
+// Writes a number and the byte behind it.
+fn put_field(out: &mut [u8], at: usize, v: u64, stop: u8) -> usize
+    requires { ⌜ (v < short) × (at + suc (length (decimal v)) ≤ length (now out)) ⌝ }
+    ensures { λ r. ⌜ Put (now (out .entry)) at (stopped (decimal v) stop) (now (out .exit)) r ⌝ }
+{
+    let end = at + width(v);
+    out[end] = stop;
+    let mut left = v;
+    let mut i = end;
+    while at < i {
+        i -= 1;
+        out[i] = (ZERO + left % 10) as u8;
+        left = left / 10;
+    }
+    end + 1
+}
+
+// Writes the line of a pair.
+fn put_line(out: &mut [u8], at: usize, from: u64, to: u64) -> usize
+    requires { ⌜ (from + 1 < short) × ((to + 1 < short) × (at + length (lineOf (pairAt from to)) ≤ length (now out))) ⌝ }
+    ensures { λ r. ⌜ Put (now (out .entry)) at (lineOf (pairAt from to)) (now (out .exit)) r ⌝ }
+{
+    let middle = put_field(out, at, from + 1, SPACE);
+    put_field(out, middle, to + 1, FEED)
+}
+
+// Writes the lines of the references of object v.
+fn put_object(out: &mut [u8], at: usize, v: u32, targets: &[u32]) -> usize
+    requires { ⌜ Printable v (now targets) (now out) at ⌝ }
+    ensures { λ r. ⌜ Put (now (out .entry)) at (laid lineOf (pairsFrom v (now (targets .entry)))) (now (out .exit)) r ⌝ }
+{
+    let mut end = at;
+    for e in 0..targets.len() {
+        end = put_line(out, end, v as u64, targets[e] as u64);
+    }
+    end
+}
+
+// Writes the first line and the counts.
+fn put_head(out: &mut [u8], n: u64, m: u64) -> usize
+    requires { ⌜ (n < short) × ((m < short) × (length (banner ++ countsLine n m) ≤ length (now out))) ⌝ }
+    ensures { λ r. ⌜ Put (now (out .entry)) 0 (banner ++ countsLine n m) (now (out .exit)) r ⌝ }
+{
+    let first = text::put(out, 0, &BANNER);
+    let second = put_field(out, first, n, SPACE);
+    let third = put_field(out, second, n, SPACE);
+    put_field(out, third, m, FEED)
+}
+
+// Writes the text of a graph.
+pub fn put_text(out: &mut [u8], offsets: &[u32], targets: &[u32])
+    requires { ⌜ Exportable (graph (now offsets) (now targets)) × (length (now out) ≡ length (exported (graph (now offsets) (now targets)))) ⌝ }
+    ensures { λ _. ⌜ now (out .exit) ≡ exported (graph (now (offsets .entry)) (now (targets .entry))) ⌝ }
+{
+    let n = offsets.len() - 1;
+    let mut end = put_head(out, n as u64, targets.len() as u64);
+    for v in 0..n {
+        let part = graph::references(offsets, targets, v as u32);
+        end = put_object(out, end, v as u32, part);
+    }
+}
+
+// How many bytes the lines of the references of object v have.
+fn object_length(v: u32, targets: &[u32]) -> usize
+    requires { ⌜ Listable v (now targets) ⌝ }
+    ensures { λ r. ⌜ (r ≡ length (laid lineOf (pairsFrom v (now (targets .entry))))) × (r ≤ 16 * length (now (targets .entry))) ⌝ }
+{
+    let from = width(v as u64 + 1);
+    let mut total: usize = 0;
+    for e in 0..targets.len() {
+        total += from + width(targets[e] as u64 + 1) + 2;
+    }
+    total
+}
+
+// How many bytes the text of a graph has.
+pub fn text_length(offsets: &[u32], targets: &[u32]) -> usize
+    requires { ⌜ Exportable (graph (now offsets) (now targets)) ⌝ }
+    ensures { λ r. ⌜ (r ≡ length (exported (graph (now (offsets .entry)) (now (targets .entry))))) × (r ≤ 100000000) ⌝ }
+{
+    let n = offsets.len() - 1;
+    let mut total = BANNER.len() + 2 * width(n as u64) + width(targets.len() as u64) + 3;
+    for v in 0..n {
+        let part = graph::references(offsets, targets, v as u32);
+        total += object_length(v as u32, part);
+    }
+    total
+}

@@ -1,0 +1,3 @@
+pub mod Passing
+pub mod Printed
+pub mod Promise

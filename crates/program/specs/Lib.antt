@@ -1,0 +1,5 @@
+pub mod Limits
+pub mod Program
+pub mod Passing
+pub mod Promise
+pub mod Examples

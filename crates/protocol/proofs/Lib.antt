@@ -1,0 +1,2 @@
+pub mod BlackBits
+pub mod HeadLaws
