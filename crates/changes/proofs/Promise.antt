@@ -18,10 +18,11 @@ use Rattle.laws.proofs.Span.{listing-length, listing-at}
 use Rattle.graph.specs.Graph.{Graph, objects, target, allBelow}
 use Rattle.graph.specs.Formed.{Formed}
 use Rattle.graph.specs.Chain.{Reach, here, on, set?, closure, Closed}
-use Rattle.graph.proofs.Formed.{below-all}
+use Rattle.graph.proofs.Formed.{below-all, well-formed}
 use Rattle.graph.proofs.Reached.{closure-length, closure-holds, closure-least, closure-closed}
 use Rattle.graph.proofs.View.{view-has, view-only}
 use Rattle.machine.specs.Sound.{Marked}
+use Rattle.machine.specs.Demand2.{LiveMarks}
 use Rattle.machine.proofs.Demand2.{marked-is}
 use Rattle.changes.specs.Pairs.{Pair, leading}
 use Rattle.changes.specs.Stores.{markBy, added, completed, new-mark, startMarks, marksAfresh}
@@ -147,14 +148,18 @@ module _ (G : Graph) (F : Formed G) (ps : List Pair) (low : Every (Inside (objec
       let w = view-only F′ o t (rw (added-refers G F ps low u t (l .object)) (omega (arith, q))) in
       subst (Reach G′ starts) (sym (w .2)) (on (w .0) (still-reached starts r) (w .1))
 
-  module _ (starts : List ℕ) (live : (v : ℕ) → Marked ms v ↔ Reach G starts v) where
+  module _ (starts : List ℕ) (live : LiveMarks G starts ms) where
     live-reached : {v : ℕ} → Reach G′ starts v → Marked (completed G′ ms) v
-    live-reached (here {v = v} h) = of-closure G′ ms v (closure-holds G′ ms v (live v .1 (here h)))
+    live-reached (here {v = v} h) = of-closure G′ ms v (closure-holds G′ ms v (live .exactly v .1 (here h)))
     live-reached (on {u = u} e r l) = completed-closed G′ ms F′ sizes′ u e (live-reached r) l
 
-    pub still-live : (v : ℕ) → Marked (completed G′ ms) v ↔ Reach G′ starts v
-    still-live v =
-        (completed-least G′ ms (Reach G′ starts) (λ w h. still-reached starts (live w .0 h)) (λ u e p l. on e p l) v, λ r. live-reached r)
+    pub still-live : LiveMarks G′ starts (completed G′ ms)
+    still-live =
+        record {
+          long = completed-long G′ ms ∙ sizes′;
+          exactly = λ v.
+              (completed-least G′ ms (Reach G′ starts) (λ w h. still-reached starts (live .exactly w .0 h)) (λ u e p l. on e p l) v, λ r. live-reached r);
+        }
 
 -- two smallest sets of the same pairs are one
 pub smallest-one : {G : Graph} {ps qs : List Pair} {ms r s : List ℕ} → Smallest G ps ms r → Smallest G qs ms s → Alike ps qs → r ≡ s
@@ -231,6 +236,7 @@ pub add-promise : (G : Graph) → Formed G → (ps : List Pair) → Every (Insid
 add-promise G F ps low ms n cl =
     let s = completed-smallest G F ps low ms n in
     record {
+      passes = well-formed (added G ps) (added-formed G F ps low);
       smallest = s;
       live = still-live G F ps low ms n;
       any-order = λ qs same. smallest-one s (singly-smallest qs G F (alike-inside (objects G) ps qs same low) ms n cl) same;
@@ -282,7 +288,8 @@ module _ (G : Graph) (F : Formed G) (starts : List ℕ) (low : allBelow (objects
   pub afresh-promise : RemovePromise G starts (marksAfresh G starts)
   afresh-promise =
       record {
-        reached = marked-reached;
+        passes = well-formed G F;
+        live = record { long = completed-long G given ∙ given-long; exactly = marked-reached };
         start-mark = λ v h. completed-kept G given v (omega (arith, given-start v h)) ∙ given-start v h;
         other-mark = λ v z h. completed-fresh G given v (unmarked-at given v (λ q. omega (arith, z, given-only v q))) h;
         finished = λ marks m v.

@@ -1,13 +1,14 @@
 -- SPECIFICATION 12: what holds of the marks that the two calls leave.
 use mathlib.Core.Path.{_≡_}
+use mathlib.Core.Bool.{true}
 use mathlib.Core.List.{List, [], _∷_}
 use mathlib.Core.Logic.{_↔_}
 use Prim.Native.Nat.{ℕ, _<_}
 use lib.ListN.{length, getD}
 use Rattle.laws.specs.Sum.{sum, hit}
-use Rattle.graph.specs.Graph.{Graph}
-use Rattle.graph.specs.Chain.{Closed, Reach}
-use Rattle.machine.specs.Demand2.{FinishedMarks}
+use Rattle.graph.specs.Graph.{Graph, wellFormed}
+use Rattle.graph.specs.Chain.{Closed}
+use Rattle.machine.specs.Demand2.{FinishedMarks, LiveMarks}
 use Rattle.machine.specs.Sound.{Marked}
 use Rattle.changes.specs.Pairs.{Pair, leading}
 use Rattle.changes.specs.Stores.{added, completed, new-mark}
@@ -40,15 +41,20 @@ Alike ps qs = (u t : ℕ) → leading u t ps ≡ leading u t qs
 
 -- adding the pairs ps to the store G with the marks ms leaves the marks r
 pub record AddPromise (G : Graph) (ps : List Pair) (ms r : List ℕ) : Type 0 where
+  -- the enlarged store passes check 10
+  pub passes : wellFormed (added G ps) ≡ true
   pub smallest : Smallest G ps ms r
   -- the live set, if the marks were that before
-  pub live : (starts : List ℕ) → ((v : ℕ) → Marked ms v ↔ Reach G starts v) → (v : ℕ) → Marked r v ↔ Reach (added G ps) starts v
+  pub live : (starts : List ℕ) → LiveMarks G starts ms → LiveMarks (added G ps) starts r
   -- the marks of the same pairs given singly, in any order
   pub any-order : (qs : List Pair) → Alike ps qs → r ≡ singly G ms qs
 
 -- taking references out leaves the store G and the marks r
 pub record RemovePromise (G : Graph) (starts r : List ℕ) : Type 0 where
-  pub reached : (v : ℕ) → Marked r v ↔ Reach G starts v
+  -- the store passes check 10
+  pub passes : wellFormed G ≡ true
+  -- the live set
+  pub live : LiveMarks G starts r
   -- 1 for a start and 255 for others
   pub start-mark : (v : ℕ) → 0 < sum (hit v) starts → getD r v 0 ≡ 1
   pub other-mark : (v : ℕ) → sum (hit v) starts ≡ 0 → Marked r v → getD r v 0 ≡ new-mark

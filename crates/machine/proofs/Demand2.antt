@@ -1,10 +1,10 @@
 -- Demand 2 holds of the result and the marks of every accepted call.
-use mathlib.Core.Path.{_≡_, ap}
+use mathlib.Core.Path.{_≡_, ap, _∙_}
 use mathlib.Core.Bool.{true}
 use mathlib.Core.List.{List}
 use mathlib.Core.Logic.{_↔_}
 use Prim.Native.Nat.{ℕ}
-use lib.ListN.{take}
+use lib.ListN.{length, take}
 use Rattle.laws.specs.Sum.{sum, hit}
 use Rattle.laws.proofs.Sum.{sum-zero-each}
 use Rattle.graph.specs.Graph.{Graph}
@@ -12,7 +12,7 @@ use Rattle.graph.specs.Chain.{Reach, here, on}
 use Rattle.machine.specs.Machine.{Setting, State, Entry, ended, allEnded, result}
 use Rattle.machine.specs.Accepted.{Accepted}
 use Rattle.machine.specs.Sound.{Marked, runsSum, heldSum, Sound}
-use Rattle.machine.specs.Demand2.{outcome, FinishedMarks, Demand2}
+use Rattle.machine.specs.Demand2.{outcome, FinishedMarks, LiveMarks, Demand2}
 use Rattle.machine.proofs.Ended.{ended-at}
 use Rattle.machine.proofs.Start.{sound, fresh}
 
@@ -42,3 +42,7 @@ demand2 A xs =
 -- of the marks that a finished collection leaves
 pub marked-is : {G : Graph} {starts marks : List ℕ} (m : FinishedMarks G starts marks) (v : ℕ) → Marked marks v ↔ Reach G starts v
 marked-is m v = rw (m .marks-are) (demand2 (m .accepted) (m .turns) .marked-exactly (m .finished) v)
+
+pub finished-live : {G : Graph} {starts marks : List ℕ} → FinishedMarks G starts marks → LiveMarks G starts marks
+finished-live m =
+    record { long = ap length (m .marks-are) ∙ sound (m .accepted) (m .turns) .sized .marks-length; exactly = marked-is m }

@@ -5,8 +5,8 @@ use mathlib.Core.Bool.{true}
 use mathlib.Core.List.{List}
 use mathlib.Core.Logic.{_↔_}
 use Prim.Native.Nat.{ℕ, _+_}
-use lib.ListN.{take}
-use Rattle.graph.specs.Graph.{Graph, references}
+use lib.ListN.{length, take}
+use Rattle.graph.specs.Graph.{Graph, objects, references}
 use Rattle.graph.specs.Chain.{Reach}
 use Rattle.graph.specs.Leaving.{leavingUnmarked}
 use Rattle.machine.specs.Machine.{Setting, State, Entry, start, turns, carriedAll, live, result}
@@ -26,6 +26,12 @@ pub record FinishedMarks (G : Graph) (starts marks : List ℕ) : Type 0 where
   pub accepted : Accepted G starts workers setting
   pub finished : result (outcome G starts workers setting turns) .finished ≡ true
   pub marks-are : marks ≡ outcome G starts workers setting turns .marks
+
+-- the marks are set exactly where a chain leads, whatever their values: those of a finished collection are, and those that adding and taking
+-- out references leave
+pub record LiveMarks (G : Graph) (starts marks : List ℕ) : Type 0 where
+  pub long : length marks ≡ objects G
+  pub exactly : (v : ℕ) → Marked marks v ↔ Reach G starts v
 
 pub record Demand2 (G : Graph) (starts : List ℕ) (W : ℕ) (g : Setting) (xs : List Entry) (r : Row) (marks : List ℕ) : Type 0 where
   -- finished: an object is marked if and only if a chain leads to it from a start

@@ -3,11 +3,17 @@ use mathlib.Core.Path.{_≡_, refl, ap, sym, _∙_}
 use mathlib.Core.Bool.{Bool, true, false, not, _||_}
 use mathlib.Core.List.{List, [], _∷_, map}
 use Prim.Native.Nat.{ℕ, suc, _+_}
-use lib.Dec.{eqb}
+use lib.Dec.{leb, ltb, eqb}
 use lib.ListN.{length, drop, replicate, length-replicate, length-map}
-use borrow.Author.Tests.{eqb-true, not-false}
+use native.Mathlib.Omega.{arith}
+use borrow.Author.Tests.{eqb-true, leb-true, ltb-true, not-false}
+use Rattle.laws.specs.Every.{Every}
 use Rattle.laws.specs.Grouping.{grouped, starts}
-use Rattle.refusal.proofs.None.{or-none}
+use Rattle.laws.specs.Test.{all}
+use Rattle.laws.proofs.Test.{both-true}
+use Rattle.refusal.proofs.None.{or-none, raise-none}
+use Rattle.graph.proofs.Formed.{well-formed}
+use Rattle.graph.proofs.Grouped.{groupedGraph, Inside, grouped-formed}
 use Rattle.records.specs.Store.{Pair, refers, stored, objects, references, pairs as storePairs}
 use Rattle.records.specs.Reading.{Reading, judged}
 use Rattle.catalogue.specs.Answer.{refusal-row, offsetsAfter, targetsAfter, sizesAfter}
@@ -15,7 +21,7 @@ use Rattle.records.specs.Fill.{fromOf, toOf}
 use Rattle.desk.specs.Checks.{countsOutside}
 use Rattle.desk.proofs.Checks.{counts-low}
 use Rattle.matrix.specs.Reading.{isHead, isText, areLines, pairsIn, rows, entries, linesIn, pairs}
-use Rattle.matrix.specs.Import.{fromZero, storeOf, inside, fault, headFault, headRow, misfits, lentTo, lent, taken, answerOf, Imports}
+use Rattle.matrix.specs.Import.{fromZero, storeOf, within, isInside, inside, fault, headFault, headRow, misfits, lentTo, lent, taken, answerOf, Imports}
 use Rattle.matrix.specs.Steps.{HeadOf, BodyAt, Fillable}
 use Rattle.matrix.proofs.Filling.{length-pairs}
 
@@ -103,9 +109,33 @@ pub same-pairs : (ps : List Pair) → map stored (map (λ (p : Pair). refers (fr
 same-pairs [] = refl
 same-pairs (p ∷ ps) = ap (λ (l : List Pair). fromZero p ∷ l) (same-pairs ps)
 
+-- the pairs of a text without a fault lead from objects to objects
+pairs-inside : (n : ℕ) (ps : List Pair) → inside n ps ≡ true → Every (Inside fromOf toOf n) (map fromZero ps)
+unfolding inside all
+pairs-inside n [] h = tt
+pairs-inside n (p ∷ ps) h =
+    let t = both-true (isInside n p) (inside n ps) h in
+    let q = both-true (within n (p .from)) (within n (p .to)) (t .0) in
+    let a = both-true (ltb 0 (p .from)) (leb (p .from) n) (q .0) in
+    let b = both-true (ltb 0 (p .to)) (leb (p .to) n) (q .1) in
+    (
+      (
+        omega (arith, ltb-true 0 (p .from) (a .0), leb-true (p .from) n (a .1)),
+        omega (arith, ltb-true 0 (p .to) (b .0), leb-true (p .to) n (b .1)),
+      ),
+      pairs-inside n ps (t .1),
+    )
+
 -- ---- the answers of import
 
 module _ (text os ts ss : List ℕ) where
+  text-inside : fault text ≡ 0 → Every (Inside fromOf toOf (rows text)) (map fromZero (pairs text))
+  unfolding fault
+  text-inside e =
+      let a = raise-none (not (isText text)) 17 _ e in
+      let b = raise-none (countsOutside (rows text) (entries text)) 3 _ (a .1) in
+      pairs-inside (rows text) (pairs text) (not-false _ (raise-none (not (inside (rows text) (pairs text))) 4 0 (b .1) .0))
+
   pub imports-refused : {k : ℕ} → fault text ≡ suc k → Imports text os ts ss (refusal-row (suc k)) os ts ss
   imports-refused e =
       let t = ap (λ (j : ℕ). lent (judged j (storeOf text)) (length os) (length ts) (length ss)) e in
@@ -114,6 +144,7 @@ module _ (text os ts ss : List ℕ) where
         offsets-are = sym (ap (λ (r : Reading). offsetsAfter r os) t);
         targets-are = sym (ap (λ (r : Reading). targetsAfter r ts) t);
         sizes-are = sym (ap (λ (r : Reading). sizesAfter r ss) t);
+        passes = λ z. absurd (omega (arith, z));
       }
 
   module _ (none : fault text ≡ 0) {n m : ℕ} (n-is : n ≡ rows text) (m-is : m ≡ entries text) {wrong : Bool}
@@ -133,6 +164,7 @@ module _ (text os ts ss : List ℕ) where
           offsets-are = sym (ap (λ (r : Reading). offsetsAfter r os) t);
           targets-are = sym (ap (λ (r : Reading). targetsAfter r ts) t);
           sizes-are = sym (ap (λ (r : Reading). sizesAfter r ss) t);
+          passes = λ z. absurd (omega (arith, z));
         }
 
     pub imports-filled : wrong ≡ false → {ps : List Pair} → map fromZero (pairs text) ≡ ps → {os′ ts′ ss′ : List ℕ} → os′ ≡ starts fromOf n ps
@@ -151,6 +183,8 @@ module _ (text os ts ss : List ℕ) where
               g ∙ ap (λ (j : ℕ). map toOf (grouped fromOf j ps)) k ∙ ap (λ (l : List Pair). map toOf (grouped fromOf (objects (storeOf text)) l)) q
               ∙ sym (ap (λ (r : Reading). targetsAfter r ts) t);
           sizes-are = z ∙ ap (λ (j : ℕ). replicate j 0) n-is ∙ sym (ap (λ (r : Reading). sizesAfter r ss) t);
+          passes = λ e.
+              rw (o, g) (well-formed (groupedGraph fromOf toOf n ps) (grouped-formed fromOf toOf n ps (rw (n-is, ← p) (text-inside none))));
         }
 
 -- the lent lengths

@@ -8,6 +8,7 @@ use lib.Dec.{leb, ltb, eqb}
 use Rattle.laws.specs.Choice.{both}
 use Rattle.laws.specs.Test.{all}
 use Rattle.refusal.specs.Order.{raise}
+use Rattle.graph.specs.Graph.{graph, wellFormed}
 use Rattle.desk.specs.Checks.{countsOutside}
 use Rattle.records.specs.Store.{Pair, Store, refers, objects, references}
 use Rattle.records.specs.Reading.{Reading, refused, accepted, judged}
@@ -82,3 +83,5 @@ pub record Imports (t os ts ss : List ℕ) (r : Row) (os′ ts′ ss′ : List �
   pub offsets-are : os′ ≡ offsetsAfter (taken t os ts ss) os
   pub targets-are : ts′ ≡ targetsAfter (taken t os ts ss) ts
   pub sizes-are : ss′ ≡ sizesAfter (taken t os ts ss) ss
+  -- what is written passes check 10
+  pub passes : r .refusal ≡ 0 → wellFormed (graph os′ ts′) ≡ true

@@ -23,6 +23,7 @@ use Rattle.machine.specs.Machine.{result, entries}
 use Rattle.machine.specs.Demand2.{FinishedMarks}
 use Rattle.machine.specs.Accepted.{Accepted}
 use Rattle.machine.proofs.Accept.{checked}
+use Rattle.machine.proofs.Demand2.{finished-live}
 use Rattle.machine.proofs.Tallies.{tallies}
 use Rattle.sweep.specs.Sweep.{dead}
 use Rattle.sweep.proofs.Collection.{dead-upwards, dead-exactly}
@@ -65,7 +66,7 @@ module _ (b : List ℕ) (clear : catalogueFault b ≡ 0) (o : Settings) (schedul
   dead-are : result (final call) .finished ≡ true
       → (v : ℕ) → (0 < sum (hit v) (dead (final call .marks))) ↔ ((v < objects s) × (Chain s (startsOf s) v → ⊥))
   dead-are e v =
-      let d = dead-exactly (finished-marks e) v in
+      let d = dead-exactly (finished-live (finished-marks e)) v in
       let n = read-graph s range .n-is in
       let c = chain-is-reach s range (startsOf s) (range .index-below, range .leases-below) v in (
         λ h. (let i = d .0 h .0 in omega arith, λ q. d .0 h .1 (c .0 q)),

@@ -1,5 +1,5 @@
--- After a finished marking the dead objects are those to which no chain leads.
-use mathlib.Core.Path.{_≡_, refl, ap, _∙_}
+-- Where the marks are the live set, the dead objects are those to which no chain leads.
+use mathlib.Core.Path.{_≡_, refl}
 use mathlib.Core.List.{List, [], _∷_}
 use mathlib.Core.Logic.{by-cases, _↔_}
 use native.Mathlib.Decide.{decLe}
@@ -12,9 +12,7 @@ use Rattle.laws.specs.Sum.{sum, hit}
 use Rattle.laws.proofs.Sum.{hit-same, hit-equal}
 use Rattle.graph.specs.Graph.{Graph, objects}
 use Rattle.graph.specs.Chain.{Reach}
-use Rattle.machine.specs.Demand2.{FinishedMarks}
-use Rattle.machine.proofs.Demand2.{marked-is}
-use Rattle.machine.proofs.Start.{sound}
+use Rattle.machine.specs.Demand2.{LiveMarks}
 use Rattle.sweep.specs.Sweep.{deadFrom, dead, Row, refusedRow, fault, sweeping, listAfter}
 use Rattle.sweep.specs.Collection.{UpwardsFrom, listed, Collection}
 
@@ -81,15 +79,12 @@ listed-is ms v h =
 is-listed : (ms : List ℕ) (v : ℕ) → v < length ms → (0 < getD ms v 0 → ⊥) → 0 < sum (hit v) (dead ms)
 is-listed ms v h z = rw zero-add at (place-dead 0 ms v h (zero-or (getD ms v 0) z))
 
--- the dead after a finished marking; of the machine this needs only that there is a mark for each object, and demand 2
-module _ {G : Graph} {starts marks : List ℕ} (m : FinishedMarks G starts marks) where
-  all-marks : length marks ≡ objects G
-  all-marks = ap length (m .marks-are) ∙ sound (m .accepted) (m .turns) .sized .marks-length
-
+-- the dead, where the marks are the live set
+module _ {G : Graph} {starts marks : List ℕ} (m : LiveMarks G starts marks) where
   pub dead-exactly : (v : ℕ) → (0 < sum (hit v) (dead marks)) ↔ ((v < objects G) × (Reach G starts v → ⊥))
   dead-exactly v = (
-    λ h. (omega (arith, all-marks, listed-is marks v h .0), λ r. omega (arith, marked-is m v .1 r, listed-is marks v h .1)),
-    λ p. is-listed marks v (omega (arith, all-marks, p .0)) (λ q. p .1 (marked-is m v .0 q)),
+    λ h. (omega (arith, m .long, listed-is marks v h .0), λ r. omega (arith, m .exactly v .1 r, listed-is marks v h .1)),
+    λ p. is-listed marks v (omega (arith, m .long, p .0)) (λ q. p .1 (m .exactly v .0 q)),
   )
 
 -- what was answered and listed by the definition

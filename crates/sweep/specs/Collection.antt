@@ -1,5 +1,5 @@
 -- SPECIFICATION 5: after a finished marking the sweep lists exactly the objects to which no chain leads, upwards. It is in the
--- contract of `sweep::sweep`, for any lent marks.
+-- contract of `sweep::sweep`, for any lent marks, be they a collection's or those that adding and taking out references leave.
 use mathlib.Core.Path.{_≡_}
 use mathlib.Core.List.{List, [], _∷_}
 use mathlib.Core.Logic.{_↔_}
@@ -8,7 +8,7 @@ use lib.ListN.{length, take}
 use Rattle.laws.specs.Sum.{sum, hit}
 use Rattle.graph.specs.Graph.{Graph, objects}
 use Rattle.graph.specs.Chain.{Reach}
-use Rattle.machine.specs.Demand2.{FinishedMarks}
+use Rattle.machine.specs.Demand2.{LiveMarks}
 use Rattle.sweep.specs.Sweep.{Row}
 
 -- every number of the list is at least b, and the later ones are larger
@@ -26,6 +26,6 @@ pub record Collection (marks : List ℕ) (r : Row) (list : List ℕ) : Type 0 wh
   pub upwards : UpwardsFrom 0 (listed r list)
   -- only objects
   pub objects-only : (v : ℕ) → 0 < sum (hit v) (listed r list) → v < length marks
-  -- after a finished marking: exactly those to which no chain leads
-  pub exactly : r .number ≡ 0 → (G : Graph) (starts : List ℕ) → FinishedMarks G starts marks
+  -- where the marks are the live set: exactly those to which no chain leads
+  pub exactly : r .number ≡ 0 → (G : Graph) (starts : List ℕ) → LiveMarks G starts marks
       → (v : ℕ) → (0 < sum (hit v) (listed r list)) ↔ ((v < objects G) × (Reach G starts v → ⊥))
