@@ -1,14 +1,16 @@
 #!/usr/bin/env python3
 """The boundary from one source: C, Rust and Go as the exported functions of the crates ffi_* have the calls.
 
-    tools/boundary.py             writes the files below, the header between its two marks
+    tools/boundary.py             writes the files below, the header between its marks
     tools/boundary.py --check     writes nothing, says where a file is another, and ends with 1 then
 
-    runtime/include/kullneyra.h             structs, prototypes, and the forms that give their answer in a struct
+    runtime/include/kullneyra.h             refusals, constants, structs, prototypes, the forms that answer in a struct
+    runtime/rust/kullneyra/src/numbers.rs   the refusals and the constants
     runtime/rust/kullneyra/src/raw.rs       the C functions on slices
     runtime/rust/kullneyra/src/calls.rs     the functions with Rust's own types
     runtime/rust/compare/src/calls.rs       what each call may answer, the calls of numbers, the sides that only pass on
     runtime/go/kullneyra/calls.go           the functions in Go
+    runtime/go/kullneyra/numbers.go         the refusals and the constants
 
 tools/boundary.toml has what a signature does not say. What is not understood is an error, and nothing is written then.
 """
@@ -20,34 +22,41 @@ from typing import Dict, Iterator, List
 import boundary_c
 import boundary_go
 import boundary_rust
-from boundary_source import WRITTEN, Boundary, Fault
+from boundary_source import NUMBERS_WRITTEN, WRITTEN, Boundary, Fault
 
 TOP = Path(__file__).resolve().parent.parent
 HEADER = "runtime/include/kullneyra.h"
+NUMBERS = "runtime/rust/kullneyra/src/numbers.rs"
 RAW = "runtime/rust/kullneyra/src/raw.rs"
 TYPED = "runtime/rust/kullneyra/src/calls.rs"
 COMPARE = "runtime/rust/compare/src/calls.rs"
 GO = "runtime/go/kullneyra/calls.go"
-MARKS = (f"/* From here on {WRITTEN}. */\n\n", "/* Up to here. */\n")
+GO_NUMBERS = "runtime/go/kullneyra/numbers.go"
+END = "/* Up to here. */\n"
 
 
-def between_marks(text: str, part: str) -> str:
-    """The header with this part between its marks."""
-    start, end = (text.find(mark) for mark in MARKS)
-    if start < 0 or end < start:
-        raise Fault(f"{HEADER}: the lines {MARKS[0].strip()} and {MARKS[1].strip()} are not there")
-    return text[: start + len(MARKS[0])] + part + text[end:]
+def between_marks(text: str, written: str, part: str) -> str:
+    """The header with this part between its marks; the first says how it is written."""
+    begin = f"/* From here on {written}. */\n\n"
+    start = text.find(begin)
+    end = text.find(END, start)
+    if start < 0 or end < 0:
+        raise Fault(f"{HEADER}: the lines {begin.strip()} and {END.strip()} are not there")
+    return text[: start + len(begin)] + part + text[end:]
 
 
 def files(top: Path) -> Dict[str, str]:
     """The files as they should be."""
     boundary = Boundary(top)
+    header = between_marks((top / HEADER).read_text(encoding="utf-8"), NUMBERS_WRITTEN, boundary_c.numbers(boundary))
     return {
-        HEADER: between_marks((top / HEADER).read_text(encoding="utf-8"), boundary_c.header(boundary)),
+        HEADER: between_marks(header, WRITTEN, boundary_c.header(boundary)),
+        NUMBERS: boundary_rust.numbers(boundary),
         RAW: boundary_rust.raw(boundary),
         TYPED: boundary_rust.typed(boundary),
         COMPARE: boundary_rust.compare(boundary),
         GO: boundary_go.go(boundary),
+        GO_NUMBERS: boundary_go.numbers(boundary),
     }
 
 

@@ -1,9 +1,9 @@
-"""The boundary in C: structs, lengths, prototypes, and the forms that give their answer in a struct."""
+"""The boundary in C: numbers, structs, lengths, prototypes, and the forms that give their answer in a struct."""
 
 from typing import List, Optional
 
-from boundary_source import Boundary, Call, Parameter, Record
-from boundary_text import filled, wrapped
+from boundary_source import Boundary, Call, Constant, Parameter, Record
+from boundary_text import WIDTH, filled, wrapped
 
 TYPES = {"u8": "uint8_t", "u32": "uint32_t", "u64": "uint64_t", "usize": "size_t"}
 
@@ -35,6 +35,61 @@ def passed(parameters: List[Parameter], moved: Optional[Record] = None, *instead
         else:
             parts += [one.name, f"{one.name}_len"] if one.lent else [one.name]
     return parts
+
+
+def number_of(constant: Constant) -> str:
+    """The number of a constant, as a literal that has its type."""
+    literal = str(constant.number)
+    if constant.rust == "u64":
+        literal = f"UINT64_C({literal})"
+    elif constant.number >> 31:
+        literal += "u"
+    return constant.c % literal
+
+
+def defined(name: str, number: str, doc: str) -> str:
+    """A macro and its documentation, which stands above it where the line would be too long."""
+    line = f"#define KULLNEYRA_{name} {number} /* {doc} */"
+    return line if len(line) <= WIDTH else f"{comment(doc)}\n#define KULLNEYRA_{name} {number}"
+
+
+def refusal_text(boundary: Boundary) -> str:
+    """From a number to words."""
+    cases = []
+    for one in boundary.refusals.values():
+        cases += [f"    case KULLNEYRA_{one.c}:", f'        return "{one.words}";']
+    return "\n".join(
+        [
+            comment("What a number says in words, for messages; a number that no call answers has words, too."),
+            "static inline const char *kullneyra_refusal_text(uint32_t number) {",
+            "    switch (number) {",
+            "    case KULLNEYRA_OK:",
+            '        return "no fault";',
+            *cases,
+            "    default:",
+            '        return "a number newer than this header";',
+            "    }",
+            "}",
+            "",
+        ]
+    )
+
+
+def numbers(boundary: Boundary) -> str:
+    """The part of the header that has the numbers: the refusals, and the constants."""
+    lines = [comment("The number that a call answers."), defined("OK", "0", "no fault")]
+    for one in boundary.refusals.values():
+        only = "only printed by the program: " if one.program else ""
+        lines.append(defined(one.c, str(one.number), only + boundary.text(one.doc, "c")))
+    lines += ["", refusal_text(boundary)]
+    lines.append(
+        comment(
+            "Limits, and what the calls write. Objects, starts, workers, batch and cutoff are 1 at least; references and"
+            " sizes may be 0."
+        )
+    )
+    lines += [defined(one.name, number_of(one), boundary.text(one.doc, "c")) for one in boundary.constants.values()]
+    return "\n".join([*lines, "", ""])
 
 
 def length(words: str) -> str:

@@ -3,7 +3,7 @@ the comparison that only pass on."""
 
 from typing import Callable, Dict, List, Optional
 
-from boundary_source import WRITTEN, Boundary, Call, Record, camel
+from boundary_source import NUMBERS_WRITTEN, WRITTEN, Boundary, Call, Record, camel
 from boundary_text import WIDTH, wrapped
 
 SAFETY = "// SAFETY: each pointer comes with the length of its own slice, and a slice that is written overlaps no other."
@@ -71,6 +71,58 @@ def raw(boundary: Boundary) -> str:
     return "\n".join([told, "", *externs, *(raw_function(boundary, call) for call in boundary.calls)])
 
 
+# The refusals and the constants.
+
+
+def sentence(told: str) -> str:
+    return f"{told[0].upper()}{told[1:]}."
+
+
+def numbers(boundary: Boundary) -> str:
+    refusals = [one for one in boundary.refusals.values() if not one.program]
+    variants, constants = [], []
+    for one in refusals:
+        variants += [doc(f"{one.number}: {boundary.text(one.doc, 'rust')}.", "    "), f"    {one.name},"]
+    for one in boundary.constants.values():
+        constants.append(doc(sentence(boundary.text(one.doc, "rust"))))
+        constants.append(f"pub const {one.name}: {one.rust} = {one.number:_};")
+    lines = [
+        doc(f"The refusals and the constants, {NUMBERS_WRITTEN}.", mark="//!"),
+        "",
+        *constants,
+        "",
+        "/// Why a call is refused: the table of the specification, section 2.",
+        "#[derive(Clone, Copy, Debug, PartialEq, Eq, Hash)]",
+        "#[non_exhaustive]",
+        "pub enum Refusal {",
+        *variants,
+        "    /// A number that this crate has no name for: the library is newer than the crate.",
+        "    Other(u32),",
+        "}",
+        "",
+        "/// The refusals that have a name.",
+        f"const NAMED: [Refusal; {len(refusals)}] = [",
+        *(f"    Refusal::{one.name}," for one in refusals),
+        "];",
+        "",
+        "impl Refusal {",
+        "    /// The refusal of a number that the library answered.",
+        "    pub(crate) fn of(number: u32) -> Self {",
+        "        NAMED.into_iter().find(|named| named.number() == number).unwrap_or(Refusal::Other(number))",
+        "    }",
+        "",
+        "    pub(crate) fn number_and_words(self) -> (u32, &'static str) {",
+        "        match self {",
+        *(f'            Refusal::{one.name} => ({one.number}, "{one.words}"),' for one in refusals),
+        '            Refusal::Other(number) => (number, "a number newer than this crate"),',
+        "        }",
+        "    }",
+        "}",
+        "",
+    ]
+    return "\n".join(lines)
+
+
 # The functions with Rust's own types.
 
 
@@ -82,7 +134,7 @@ def record_type(boundary: Boundary, record: Record) -> str:
     for (name, told), own in zip(record.fields.items(), names):
         flag = record.flags.get(name)
         told = flag or told
-        fields += [doc(f"{told[0].upper()}{told[1:]}.", "    "), f"    pub {own}: {'bool' if flag else record.type},"]
+        fields += [doc(sentence(told), "    "), f"    pub {own}: {'bool' if flag else record.type},"]
     taken = [f"{own}: {own} == 1" if flag else own for own, flag in zip(names, is_flag)]
     given = [f"{record.type}::from({own})" if flag else own for own, flag in zip(names, is_flag)]
     quoted = [f'"{own}"' for own in names]

@@ -1,4 +1,5 @@
-"""What the boundary is made from: the exported functions, the counts of a marking, and tools/boundary.toml beside them."""
+"""What the boundary is made from: the exported functions, the counts of a marking, the refusals, the constants, and
+tools/boundary.toml beside them."""
 
 import re
 import tomllib
@@ -9,8 +10,10 @@ from typing import Dict, Iterator, List, NamedTuple, Optional, Tuple
 
 EXPORTS = "crates/ffi_*/src/lib.rt"
 COUNTS = "crates/machine/src/lib.rt"
+REFUSALS = "crates/refusal/src/lib.rt"
 TABLE = "tools/boundary.toml"
 WRITTEN = "written by tools/boundary.py from the exported functions"
+NUMBERS_WRITTEN = "written by tools/boundary.py from the constants of the crates"
 
 
 class Fault(Exception):
@@ -42,6 +45,7 @@ class Record:
     go_names: Dict[str, str] = field(default_factory=dict)
     flags: Dict[str, str] = field(default_factory=dict)
     counts: Dict[str, str] = field(default_factory=dict)
+    of: str = ""  # the constant of the crates that is its number of fields
     moved: str = ""  # the parameter that is this record
     each: str = ""  # the parameter that has one for each worker
     type: str = ""
@@ -69,6 +73,31 @@ class Call:
         return self.parameters + ([self.result] if self.result else [])
 
 
+@dataclass
+class Refusal:
+    """A cause that a call is refused for, and its row."""
+
+    name: str
+    number: int
+    c: str = ""
+    go: str = ""
+    words: str = ""
+    doc: str = ""
+    program: bool = False  # only the program answers it
+
+
+@dataclass
+class Constant:
+    """A number of the crates that callers need, and its row."""
+
+    name: str
+    number: int
+    of: str = ""
+    rust: str = ""  # its type there
+    c: str = "%s"
+    doc: str = ""
+
+
 class Group(NamedTuple):
     """Parameters that stand together: as what they are taken, what it gives for each, and how it is made of them."""
 
@@ -82,7 +111,10 @@ SIGNATURE = re.compile(r'#\[no_mangle\]\s*pub extern "C" fn (\w+)\s*\(([^()]*)\)
 EXPORT = re.compile(r"\b(?:no_mangle|extern|export_name)\b")
 PARAMETER = re.compile(r"(\w+): (?:(&(?:mut )?)\[(u8|u32|u64)\]|(u32|u64|usize))")
 COUNT = re.compile(r"pub (\w+): u64,")
-WRONG_LENGTH = 7  # the refusal of a lent buffer that is not as long as it must be
+NUMBER_OF = re.compile(r"pub fn number_of\b.*?\n\{\s*match r \{(.*?)\n    \}\n\}", re.DOTALL)
+CAUSE = re.compile(r"Refusal::(\w+) => (\d+),")
+CONSTANT = r"^(?:pub )?const {}: (u8|u16|u32|u64|usize) = (\d+);"
+BITS = {"u8": 8, "u16": 16, "u32": 32, "u64": 64, "usize": 32}
 
 
 def bare(source: str) -> str:
@@ -161,13 +193,50 @@ def counts_in(source: str) -> List[str]:
     return names
 
 
+def refusals_in(source: str) -> Dict[str, int]:
+    """The causes of `number_of`, and the number of each."""
+    source = bare(source)
+    found = NUMBER_OF.search(source)
+    if found is None:
+        raise Fault(f"{REFUSALS}: no function number_of")
+    numbers: Dict[str, int] = {}
+    for number, line in enumerate(found[1].split("\n"), line_of(source, found.start(1))):
+        if line.strip():
+            one = CAUSE.fullmatch(line.strip())
+            if one is None:
+                raise Fault(f"{REFUSALS}:{number}: not understood: {line.strip()}")
+            numbers[one[1]] = int(one[2])
+    if sorted(numbers.values()) != list(range(1, len(numbers) + 1)):
+        raise Fault(f"{REFUSALS}: the numbers are not 1 to {len(numbers)}")
+    return dict(sorted(numbers.items(), key=lambda one: one[1]))
+
+
+def constant_in(sources: Dict[str, str], name: str, where: str) -> int:
+    """The number of a constant of the crates: crate::NAME in its lib.rt, crate::module::NAME in its module.rt."""
+    crate, *modules, constant = name.split("::")
+    path = f"crates/{crate}/src/{'/'.join(modules) or 'lib'}.rt"
+    found = re.search(CONSTANT.format(re.escape(constant)), bare(sources.get(path, "")), re.MULTILINE)
+    if found is None:
+        raise Fault(f"{TABLE}: [{where}]: {path} has no constant {constant} that is a number")
+    return int(found[2])
+
+
+# What a row must have, by its kind.
+NEEDED = {
+    Record: ("doc", "fields"),
+    Call: ("doc", "refusals"),
+    Refusal: ("c", "go", "words"),
+    Constant: ("of", "rust", "doc"),
+}
+
+
 def row_of(kind, where: str, row: dict, **given):
     """A row of the table, each of whose keys is a field of its kind."""
     for key in row:
-        if key in given or key in ("type", "name") or key not in kind.__dataclass_fields__:
+        if key in given or key in ("type", "name", "number") or key not in kind.__dataclass_fields__:
             raise Fault(f"{TABLE}: [{where}]: {key} is not understood")
-    for key in ("doc", "fields", "refusals"):
-        if key in kind.__dataclass_fields__ and not row.get(key):
+    for key in NEEDED[kind]:
+        if not row.get(key):
             raise Fault(f"{TABLE}: [{where}] has no {key}")
     return kind(**given, **row)
 
@@ -198,9 +267,11 @@ class Boundary:
             table = tomllib.loads(text(TABLE))
         except tomllib.TOMLDecodeError as wrong:
             raise Fault(f"{TABLE}: {wrong}") from wrong
-        for key in set(table) ^ {"names", "groups", "records", "calls"}:
+        for key in sorted(set(table) ^ {"names", "refusals", "constants", "groups", "records", "calls"}):
             raise Fault(f"{TABLE}: {key} is {'not understood' if key in table else 'not there'}")
         self.names, groups = table["names"], table["groups"]
+        self.refusals = self.refusals_of(refusals_in(text(REFUSALS)), table["refusals"])
+        self.constants = {name: self.constant_of(sources, name, row) for name, row in table["constants"].items()}
         for name, words in self.names.items():
             if set(words) != {"c", "rust", "go"}:
                 raise Fault(f"{TABLE}: [names]: {name} is said in c, rust and go")
@@ -216,6 +287,35 @@ class Boundary:
         self.take_counts(counts_in(text(COUNTS)))
         for record in self.records.values():
             record.type = self.type_of(record)
+            where, words = f"records.{record.name}", len(record.fields)
+            if record.of and constant_in(sources, record.of, where) != words:
+                raise Fault(f"{TABLE}: [{where}] has {words} fields, and {record.of} is another number")
+
+    def refusals_of(self, numbers: Dict[str, int], rows: dict) -> Dict[str, Refusal]:
+        """The refusals in the order of their numbers."""
+        for name in rows:
+            if name not in numbers:
+                raise Fault(f"{TABLE}: [refusals.{name}]: {REFUSALS} has no cause {name}")
+        for name in numbers:
+            if name not in rows:
+                raise Fault(f"{TABLE}: {REFUSALS} has the cause {name}, which has no row in [refusals]")
+        found = {}
+        for name, number in numbers.items():
+            found[name] = row_of(Refusal, f"refusals.{name}", rows[name], name=name, number=number)
+            found[name].doc = found[name].doc or found[name].words
+        return found
+
+    def constant_of(self, sources: Dict[str, str], name: str, row: dict) -> Constant:
+        where = f"constants.{name}"
+        constant = row_of(Constant, where, row, name=name, number=0)
+        constant.number = constant_in(sources, constant.of, where)
+        if constant.rust not in BITS:
+            raise Fault(f"{TABLE}: [{where}]: {constant.rust} is no type of a constant")
+        if constant.number >> BITS[constant.rust]:
+            raise Fault(f"{TABLE}: [{where}]: {constant.number} is no {constant.rust}")
+        if constant.c.count("%s") != 1:
+            raise Fault(f"{TABLE}: [{where}]: %s stands for the number in c, once")
+        return constant
 
     def call_of(self, name: str, row: dict) -> Call:
         if name not in self.exported:
@@ -235,8 +335,12 @@ class Boundary:
         whole = isinstance(numbers, list) and all(type(one) is int and one > 0 for one in numbers)
         if not whole or numbers != sorted(set(numbers)):
             raise Fault(f"{TABLE}: [calls.{call.name}]: refusals are numbers above 0, each once, upwards")
-        if any(one.lent == "&mut " for one in call.all) and WRONG_LENGTH not in numbers:
-            raise Fault(f"{TABLE}: [calls.{call.name}]: a call that is lent a buffer refuses with {WRONG_LENGTH}, too")
+        for one in numbers:
+            if one > len(self.refusals):
+                raise Fault(f"{TABLE}: [calls.{call.name}]: {REFUSALS} has no refusal {one}")
+        wrong_length = self.refusals["Buffer"].number
+        if any(one.lent == "&mut " for one in call.all) and wrong_length not in numbers:
+            raise Fault(f"{TABLE}: [calls.{call.name}]: a call that is lent a buffer refuses with {wrong_length}, too")
 
     def take_counts(self, counts: List[str]) -> None:
         """The counts of a marking are fields of its record, in their order."""
@@ -310,9 +414,14 @@ class Boundary:
                 if not own:
                     raise Fault(f"{TABLE}: {{{word}}} has no name in {language}")
                 return own
+            if word in self.refusals:
+                one = self.refusals[word]
+                return {"c": f"KULLNEYRA_{one.c}", "rust": f"[`Refusal::{word}`]", "go": one.go}[language]
+            if word in self.constants:
+                return {"c": f"KULLNEYRA_{word}", "rust": f"[`{word}`]", "go": camel(word)}[language]
             if word in self.names:
                 return self.names[word][language]
-            raise Fault(f"{TABLE}: {{{word}}} is no call, no record and no name")
+            raise Fault(f"{TABLE}: {{{word}}} is no call, no record, no refusal, no constant and no name")
 
         return " ".join(re.sub(r"\{(\w+)\}", name, doc).split())
 

@@ -29,50 +29,101 @@
 extern "C" {
 #endif
 
+/* From here on written by tools/boundary.py from the constants of the crates. */
+
 /* The number that a call answers. */
-#define KULLNEYRA_OK 0       /* no fault */
-#define KULLNEYRA_SHORT 1    /* the bytes end too soon for a record; also empty */
-#define KULLNEYRA_KIND 2     /* unknown kind of record, or a length that its kind does not have */
-#define KULLNEYRA_PLACE 3    /* a record that is not due at its place, or one too many */
-#define KULLNEYRA_COUNT 4    /* number of objects or of references out of range */
-#define KULLNEYRA_OBJECT 5   /* index, from, to, a lease or a start is no object's number */
-#define KULLNEYRA_SIZE 6     /* a size above KULLNEYRA_LARGEST_SIZE */
-#define KULLNEYRA_BUFFER 7   /* a lent buffer is not as long as it must be */
-#define KULLNEYRA_SETTING 8  /* workers, batch or cutoff out of range */
+#define KULLNEYRA_OK 0 /* no fault */
+#define KULLNEYRA_SHORT 1 /* the bytes end too soon for a record; also empty */
+#define KULLNEYRA_KIND 2 /* unknown kind of record, or a length that its kind does not have */
+#define KULLNEYRA_PLACE 3 /* a record that is not due at its place, or one too many */
+#define KULLNEYRA_COUNT 4 /* number of objects or of references out of range */
+#define KULLNEYRA_OBJECT 5 /* index, from, to, a lease or a start is no object's number */
+#define KULLNEYRA_SIZE 6 /* a size above KULLNEYRA_LARGEST_SIZE */
+#define KULLNEYRA_BUFFER 7 /* a lent buffer is not as long as it must be */
+#define KULLNEYRA_SETTING 8 /* workers, batch or cutoff out of range */
 #define KULLNEYRA_SCHEDULE 9 /* half an entry at the schedule's end, or one for a worker that is not there */
-#define KULLNEYRA_GRAPH 10   /* offsets and targets that are no graph */
-#define KULLNEYRA_LARGE 11   /* only printed by the program: a file, or a number in it, too large for it */
-#define KULLNEYRA_FILE 12    /* only printed by the program: a file that cannot be read */
+#define KULLNEYRA_GRAPH 10 /* offsets and targets that are no graph */
+#define KULLNEYRA_LARGE 11 /* only printed by the program: a file, or a number in it, is too large for the program */
+#define KULLNEYRA_FILE 12 /* only printed by the program: a file cannot be read */
 #define KULLNEYRA_NO_STARTS 13 /* no start, or more leases than KULLNEYRA_MOST_LEASES */
 #define KULLNEYRA_UNSOUND 14 /* saved words that hold no sound collection of this graph, these starts and settings */
-#define KULLNEYRA_CARDS 15   /* a card that is not in the deck, or more workers than KULLNEYRA_CARD_WORKERS */
-#define KULLNEYRA_NO_SEED 16 /* a seed whose first word is 0 */
+#define KULLNEYRA_CARDS 15 /* a card that is not in the deck, or more workers than KULLNEYRA_CARD_WORKERS */
+#define KULLNEYRA_NO_SEED 16 /* the first word of a seed is 0 */
 #define KULLNEYRA_NOT_CLOSED 17 /* a marked object has a reference to an unmarked one */
-#define KULLNEYRA_TEXT 18    /* a text that is no Matrix Market file of a graph */
+#define KULLNEYRA_TEXT 18 /* a text that is no Matrix Market file of a graph */
 
-/* Limits. Objects, starts, workers, batch and cutoff are 1 at least; references and sizes may be 0. */
-#define KULLNEYRA_MOST_OBJECTS 65536
-#define KULLNEYRA_MOST_REFERENCES 1048576
-#define KULLNEYRA_LARGEST_SIZE UINT64_C(1099511627776)
-#define KULLNEYRA_MOST_LEASES 256
-#define KULLNEYRA_MOST_WORKERS 16
-#define KULLNEYRA_MOST_SETTING 65535 /* batch and cutoff */
-#define KULLNEYRA_DECK 720       /* cards, numbered from 0 */
+/* What a number says in words, for messages; a number that no call answers has words, too. */
+static inline const char *kullneyra_refusal_text(uint32_t number) {
+    switch (number) {
+    case KULLNEYRA_OK:
+        return "no fault";
+    case KULLNEYRA_SHORT:
+        return "the bytes end too soon for a record";
+    case KULLNEYRA_KIND:
+        return "unknown kind of record, or a length that its kind does not have";
+    case KULLNEYRA_PLACE:
+        return "a record that is not due at its place, or one too many";
+    case KULLNEYRA_COUNT:
+        return "number of objects or of references out of range";
+    case KULLNEYRA_OBJECT:
+        return "an object number that is not below the number of objects";
+    case KULLNEYRA_SIZE:
+        return "the size of an object is too large";
+    case KULLNEYRA_BUFFER:
+        return "a lent buffer is not as long as it must be";
+    case KULLNEYRA_SETTING:
+        return "workers, batch or cutoff out of range";
+    case KULLNEYRA_SCHEDULE:
+        return "half an entry at the schedule's end, or one for a worker that is not there";
+    case KULLNEYRA_GRAPH:
+        return "offsets and targets that are no graph";
+    case KULLNEYRA_LARGE:
+        return "a file, or a number in it, is too large for the program";
+    case KULLNEYRA_FILE:
+        return "a file cannot be read";
+    case KULLNEYRA_NO_STARTS:
+        return "no start, or too many leases";
+    case KULLNEYRA_UNSOUND:
+        return "saved words that hold no sound collection";
+    case KULLNEYRA_CARDS:
+        return "a card that is not in the deck, or more workers than a card has";
+    case KULLNEYRA_NO_SEED:
+        return "the first word of a seed is 0";
+    case KULLNEYRA_NOT_CLOSED:
+        return "a marked object has a reference to an unmarked one";
+    case KULLNEYRA_TEXT:
+        return "a text that is no Matrix Market file of a graph";
+    default:
+        return "a number newer than this header";
+    }
+}
+
+/* Limits, and what the calls write. Objects, starts, workers, batch and cutoff are 1 at least; references and sizes
+ * may be 0. */
+#define KULLNEYRA_MOST_OBJECTS 65536 /* the most objects that a store has */
+#define KULLNEYRA_MOST_REFERENCES 1048576 /* the most references that a store has */
+#define KULLNEYRA_LARGEST_SIZE UINT64_C(1099511627776) /* the largest size of an object */
+#define KULLNEYRA_MOST_LEASES 256 /* the most leases that a store has */
+#define KULLNEYRA_STARTS ((size_t)257) /* the words of the start buffer: the index and the most leases */
+#define KULLNEYRA_MOST_WORKERS 16 /* the most workers of a marking */
+#define KULLNEYRA_MOST_SETTING 65535 /* the largest batch and the largest cutoff of a marking */
+#define KULLNEYRA_DECK 720 /* how many cards the deck has; they are numbered from 0 */
 #define KULLNEYRA_CARD_WORKERS 6 /* the most workers that cards deal turns to */
+#define KULLNEYRA_NO_HOPS 4294967295u /* the hop count of an object to which no chain of references leads */
+#define KULLNEYRA_NEWLY_LIVE 255 /* the mark of an object that a change finds live, where it is no start */
 
-/* Exact lengths of the lent buffers, in elements, for n objects, m references and w workers. */
+/* Up to here. */
+
+/* Exact lengths of the lent buffers, in elements, for n objects, m references and w workers; the starts are
+ * KULLNEYRA_STARTS. */
 #define KULLNEYRA_OFFSETS(n) ((size_t)(n) + 1)
 #define KULLNEYRA_TARGETS(m) ((size_t)(m))
 #define KULLNEYRA_SIZES(n) ((size_t)(n))
-#define KULLNEYRA_STARTS ((size_t)KULLNEYRA_MOST_LEASES + 1)
 #define KULLNEYRA_MARKS(n) ((size_t)(n))
 #define KULLNEYRA_WORK(n, w) ((size_t)(w) * (2 * (size_t)(n) + 4))
 #define KULLNEYRA_TALLIES(w) (4 * (size_t)(w))
 #define KULLNEYRA_LIST(n) ((size_t)(n))
 #define KULLNEYRA_SAVED(n, w) (16 + 12 * (size_t)(w) + (size_t)(n) + KULLNEYRA_WORK(n, w))
-
-/* The hop count of an object to which no chain of references leads. */
-#define KULLNEYRA_NO_HOPS 4294967295u
 
 /* From here on written by tools/boundary.py from the exported functions. */
 
@@ -244,18 +295,18 @@ uint32_t kullneyra_update_words(uint32_t objects, uint64_t *result, size_t resul
 
 /* Adds the references from[i] -> to[i] to a store. new_offsets has as many words as offsets, and new_targets as many
  * as targets and from together: an object's new references stand behind its old ones, in list order. An object that
- * is newly live gets the mark 255, and a mark that is set keeps its value. The marks must be closed under the old
- * references (KULLNEYRA_NOT_CLOSED), as those of a finished collection are. Beside a fault all four are as they
- * were. Beside the number there is no answer. */
+ * is newly live gets the mark KULLNEYRA_NEWLY_LIVE, and a mark that is set keeps its value. The marks must be closed
+ * under the old references (KULLNEYRA_NOT_CLOSED), as those of a finished collection are. Beside a fault all four
+ * are as they were. Beside the number there is no answer. */
 uint32_t kullneyra_add(const uint32_t *offsets, size_t offsets_len, const uint32_t *targets, size_t targets_len,
                        const uint32_t *from, size_t from_len, const uint32_t *to, size_t to_len, uint32_t *new_offsets,
                        size_t new_offsets_len, uint32_t *new_targets, size_t new_targets_len, uint8_t *marks,
                        size_t marks_len, uint32_t *work, size_t work_len);
 
 /* Takes the references with these numbers out of a store; a number that stands in the list twice counts once.
- * new_targets has as many words as references remain. The marks are made afresh: 1 for a start, 255 for what else is
- * reached, 0 for the rest; what they held before does not matter. Beside a fault all four are as they were. Beside
- * the number there is no answer. */
+ * new_targets has as many words as references remain. The marks are made afresh: 1 for a start, KULLNEYRA_NEWLY_LIVE
+ * for what else is reached, 0 for the rest; what they held before does not matter. Beside a fault all four are as
+ * they were. Beside the number there is no answer. */
 uint32_t kullneyra_remove(const uint32_t *offsets, size_t offsets_len, const uint32_t *targets, size_t targets_len,
                           const uint32_t *numbers, size_t numbers_len, const uint32_t *starts, size_t starts_len,
                           uint32_t *new_offsets, size_t new_offsets_len, uint32_t *new_targets, size_t new_targets_len,

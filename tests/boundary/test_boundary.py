@@ -3,6 +3,7 @@
 import contextlib
 import io
 import os
+import re
 import shutil
 import subprocess
 import tempfile
@@ -10,12 +11,18 @@ import unittest
 from pathlib import Path
 
 import boundary
-from boundary import COMPARE, GO, HEADER, RAW, TOP, TYPED
-from boundary_source import COUNTS, TABLE
+from boundary import COMPARE, GO, GO_NUMBERS, HEADER, NUMBERS, RAW, TOP, TYPED
+from boundary_source import COUNTS, REFUSALS, TABLE
 
 EXPORTS = [f"crates/ffi_{name}/src/lib.rt" for name in ("mark", "schedule", "store", "update")]
 MARK, SCHEDULE, STORE, UPDATE = EXPORTS
-WRITTEN = (HEADER, RAW, TYPED, COMPARE, GO)
+WRITTEN = (HEADER, NUMBERS, RAW, TYPED, COMPARE, GO, GO_NUMBERS)
+CALLS = tuple(path for path in WRITTEN if path not in (NUMBERS, GO_NUMBERS))
+# The files whose constants are written.
+GRAPH, DESK, PLACES = "crates/graph/src/lib.rt", "crates/desk/src/lib.rt", "crates/desk/src/places.rt"
+LEASES, CARDS = "crates/catalogue/src/record.rt", "crates/cards/src/table.rt"
+HOPS, MARKING = "crates/hops/src/search.rt", "crates/changes/src/marking.rt"
+SOURCES = (*EXPORTS, COUNTS, REFUSALS, GRAPH, DESK, PLACES, LEASES, CARDS, HOPS, MARKING)
 HOP_WORDS = 'pub extern "C" fn kullneyra_hop_words(objects: u32, result: &mut [u64]) -> u32'
 HOP_BYTES = '[calls.hop_bytes]\nwords = "BYTES"\nrefusals = [4, 7]\nverb = "is"\ndoc = "How many bytes {hops} takes."\n\n'
 
@@ -23,7 +30,7 @@ HOP_BYTES = '[calls.hop_bytes]\nwords = "BYTES"\nrefusals = [4, 7]\nverb = "is"\
 class Boundary(unittest.TestCase):
     def setUp(self):
         self.top = Path(tempfile.mkdtemp())
-        for path in (*EXPORTS, COUNTS, TABLE, *WRITTEN):
+        for path in (*SOURCES, TABLE, *WRITTEN):
             (self.top / path).parent.mkdir(parents=True, exist_ok=True)
             shutil.copy(TOP / path, self.top / path)
 
@@ -86,6 +93,12 @@ class Files(Boundary):
             (HEADER, "uint32_t object, uint64_t *result", "uint64_t object, uint64_t *result"),
             (HEADER, "const uint8_t *marks, size_t marks_len, const uint64_t", "uint8_t *marks, size_t marks_len, const uint64_t"),
             (HEADER, "uint64_t carrying;", "uint32_t carrying;"),
+            (HEADER, "#define KULLNEYRA_CARD_WORKERS 6", "#define KULLNEYRA_CARD_WORKERS 7"),
+            (HEADER, "#define KULLNEYRA_NO_SEED 16", "#define KULLNEYRA_NO_SEED 17"),
+            (NUMBERS, "pub const CARD_WORKERS: u32 = 6;", "pub const CARD_WORKERS: u32 = 7;"),
+            (NUMBERS, "Refusal::Seed => (16,", "Refusal::Seed => (17,"),
+            (GO_NUMBERS, "CardWorkers    = 6 ", "CardWorkers    = 7 "),
+            (GO_NUMBERS, "NoSeed     Refusal = 16", "NoSeed     Refusal = 17"),
             (HEADER, "                                            KULLNEYRA_SWEEP_WORDS);", "                                            KULLNEYRA_MARK_WORDS);"),
             (RAW, "            object: u32,", "            object: u64,"),
             (RAW, "            object,", "            0,"),
@@ -116,14 +129,19 @@ class Files(Boundary):
             self.assertEqual(self.text(path), text)
 
     def test_by_hand_around_the_marks(self):
-        self.edit(HEADER, "#define KULLNEYRA_DECK 720", "#define KULLNEYRA_DECK 721")
+        self.edit(HEADER, "#define KULLNEYRA_TALLIES(w) (4", "#define KULLNEYRA_TALLIES(w) (5")
         self.assertEqual(self.differing(), [])
-        self.edit(HEADER, boundary.MARKS[1], "")
+        kept = self.text(HEADER)
+        for written in (boundary.NUMBERS_WRITTEN, boundary.WRITTEN):
+            self.edit(HEADER, f"/* From here on {written}. */", "")
+            self.assert_fault(HEADER, written)
+            (self.top / HEADER).write_text(kept, encoding="utf-8")
+        (self.top / HEADER).write_text(kept.replace(boundary.END, ""), encoding="utf-8")
         self.assert_fault(HEADER, "/* Up to here. */")
 
     def test_not_there_or_no_text(self):
         """What cannot be read is told in a line, and nothing is written."""
-        for path in (HEADER, *EXPORTS, COUNTS, TABLE):
+        for path in (HEADER, *EXPORTS, COUNTS, REFUSALS, TABLE):
             text = self.text(path)
             (self.top / path).unlink()
             for words in ((), ("--check",)):
@@ -150,14 +168,14 @@ class Signatures(Boundary):
         ):
             self.edit(source, old, new)
             # The crate's function `references` is by hand.
-            self.assertEqual(self.differing(), [path for path in WRITTEN if path != TYPED or "object: u32" not in old])
+            self.assertEqual(self.differing(), [path for path in CALLS if path != TYPED or "object: u32" not in old])
             self.assertEqual(self.run_tool(), (0, ""))
 
     def test_a_new_call(self):
         line = self.add_export(HOP_WORDS.replace("hop_words", "hop_bytes"))
         self.assert_fault(f"{UPDATE}:{line}: kullneyra_hop_bytes has no row")
         self.edit(TABLE, "[calls.hops]", f"{HOP_BYTES}[calls.hops]")
-        self.assertEqual(self.differing(), list(WRITTEN))
+        self.assertEqual(self.differing(), list(CALLS))
         self.assertEqual(self.run_tool(), (0, ""))
         for path, parts in {
             HEADER: ("kullneyra_hop_bytes(uint32_t objects, uint64_t *result, size_t result_len);", "kullneyra_hop_bytes_into(", "KULLNEYRA_BYTES_WORDS 1"),
@@ -274,7 +292,7 @@ class Counts(Boundary):
         self.edit(COUNTS, "    pub carrying: u64,\n", "    pub parked: u64,\n    pub carrying: u64,\n")
         self.assert_fault("does not say what the count parked is")
         self.edit(TABLE, 'live = "marked objects"\n', 'live = "marked objects"\nparked = "workers that wait"\n')
-        self.assertEqual(self.differing(), list(WRITTEN))
+        self.assertEqual(self.differing(), list(CALLS))
         self.assertEqual(self.run_tool(), (0, ""))
         for path, parts in {
             HEADER: ("uint64_t moved;    /* turns that changed something */\n    uint64_t parked;   /* workers that wait */", "X(moved) X(parked) X(carrying)"),
@@ -308,6 +326,121 @@ class Counts(Boundary):
         self.assert_fault(f"{COUNTS}: no struct Counts")
 
 
+class Numbers(Boundary):
+    def test_a_changed_constant(self):
+        """A constant of the crates that is another number is another one in C, Rust and Go."""
+        for path, old, new, c, rust, go in (
+            (GRAPH, "MOST_OBJECTS: usize = 65536", "131072", "KULLNEYRA_MOST_OBJECTS 131072 ", "MOST_OBJECTS: usize = 131_072;", "MostObjects    = 131072 "),
+            (GRAPH, "MOST_REFERENCES: usize = 1048576", "5", "KULLNEYRA_MOST_REFERENCES 5 ", "MOST_REFERENCES: usize = 5;", "MostReferences = 5 "),
+            (GRAPH, "LARGEST_SIZE: u64 = 1099511627776", "7", "KULLNEYRA_LARGEST_SIZE UINT64_C(7) ", "LARGEST_SIZE: u64 = 7;", "LargestSize    = 7 "),
+            (GRAPH, "MOST_STARTS: usize = 257", "258", "KULLNEYRA_STARTS ((size_t)258) ", "STARTS: usize = 258;", "Starts         = 258 "),
+            (LEASES, "MOST_LEASES: u32 = 256", "257", "KULLNEYRA_MOST_LEASES 257 ", "MOST_LEASES: usize = 257;", "MostLeases     = 257 "),
+            (DESK, "MOST_WORKERS: u32 = 16", "32", "KULLNEYRA_MOST_WORKERS 32 ", "MOST_WORKERS: u32 = 32;", "MostWorkers    = 32 "),
+            (DESK, "MOST_SETTING: u32 = 65535", "255", "KULLNEYRA_MOST_SETTING 255 ", "MOST_SETTING: u32 = 255;", "MostSetting    = 255 "),
+            (CARDS, "DECK_SIZE: usize = 720", "5040", "KULLNEYRA_DECK 5040 ", "DECK: u32 = 5_040;", "Deck           = 5040 "),
+            (CARDS, "CARD_WORKERS: u32 = 6", "7", "KULLNEYRA_CARD_WORKERS 7 ", "CARD_WORKERS: u32 = 7;", "CardWorkers    = 7 "),
+            (HOPS, "NONE: u32 = 4294967295", "4294967294", "KULLNEYRA_NO_HOPS 4294967294u ", "NO_HOPS: u32 = 4_294_967_294;", "NoHops         = 4294967294 "),
+            (MARKING, "NEW: u8 = 255", "254", "KULLNEYRA_NEWLY_LIVE 254 ", "NEWLY_LIVE: u8 = 254;", "NewlyLive      = 254 "),
+        ):
+            with self.subTest(old):
+                name = old.split(" = ")[0]
+                self.edit(path, old, f"{name} = {new}")
+                self.assertEqual(self.differing(), [HEADER, NUMBERS, GO_NUMBERS])
+                self.assertEqual(self.run_tool(), (0, ""))
+                self.assertIn(f"#define {c}", self.text(HEADER))
+                self.assertIn(f"pub const {rust}", self.text(NUMBERS))
+                self.assertIn(f"\t{go}", self.text(GO_NUMBERS))
+        self.compiles(TOP / "runtime/c/collect.c")
+
+    def test_every_constant_of_the_header_is_written(self):
+        """By hand there are only the lengths of buffers, which are macros of numbers."""
+        text = self.text(HEADER)
+        numbers, calls = (text.index(f"/* From here on {written}") for written in (boundary.NUMBERS_WRITTEN, boundary.WRITTEN))
+        by_hand = text[:numbers] + text[text.index(boundary.END) : calls]
+        plain = [line for line in by_hand.splitlines() if re.match(r"#define \w+(?!\w|\()", line)]
+        self.assertEqual(plain, ["#define KULLNEYRA_H"])
+
+    def test_constants_that_are_not_there(self):
+        kept = self.text(CARDS)
+        one = "pub const CARD_WORKERS: u32 = 6;"
+        for new in (one.replace("WORKERS", "WORKER"), one.replace("6", "3 + 3"), f"// {one}", one.replace("u32", "bool")):
+            self.edit(CARDS, one, new)
+            self.assert_fault("[constants.CARD_WORKERS]: crates/cards/src/table.rt has no constant CARD_WORKERS that is a number")
+            (self.top / CARDS).write_text(kept, encoding="utf-8")
+        self.edit(MARKING, "NEW: u8 = 255", "NEW: u8 = 256")
+        self.assert_fault("[constants.NEWLY_LIVE]: 256 is no u8")
+
+    def test_rows_of_constants(self):
+        kept = self.text(TABLE)
+        for old, new, told in (
+            ('of = "cards::table::DECK_SIZE"\n', "", "[constants.DECK] has no of"),
+            ('of = "cards::table::DECK_SIZE"', 'of = "cards::tables::DECK_SIZE"', "[constants.DECK]: crates/cards/src/tables.rt has no constant"),
+            ('of = "cards::table::DECK_SIZE"', 'of = "cards::table::DECK_SIZE"\nnumber = 720', "[constants.DECK]: number is not understood"),
+            ('of = "cards::table::DECK_SIZE"\nrust = "u32"', 'of = "cards::table::DECK_SIZE"\nrust = "f32"', "[constants.DECK]: f32 is no type of a constant"),
+            ('c = "((size_t)%s)"', 'c = "((size_t)257)"', "[constants.STARTS]: %s stands for the number in c, once"),
+        ):
+            self.edit(TABLE, old, new)
+            with self.subTest(new):
+                self.assert_fault(told)
+            (self.top / TABLE).write_text(kept, encoding="utf-8")
+
+    def test_a_record_of_so_many_words(self):
+        self.edit(PLACES, "pub const TALLY: usize = 4;", "pub const TALLY: usize = 5;")
+        self.assert_fault("[records.tally] has 4 fields, and desk::places::TALLY is another number")
+
+    def test_a_new_refusal(self):
+        self.edit(REFUSALS, "        Refusal::Text => 18,\n", "        Refusal::Text => 18,\n        Refusal::Late => 19,\n")
+        self.assert_fault("crates/refusal/src/lib.rt has the cause Late, which has no row in [refusals]")
+        self.edit(TABLE, "\n# The constants:", '\n[refusals.Late]\nc = "LATE"\ngo = "TooLate"\nwords = "too late"\n\n# The constants:')
+        self.assertEqual(self.differing(), [HEADER, NUMBERS, GO_NUMBERS])
+        self.assertEqual(self.run_tool(), (0, ""))
+        for path, parts in {
+            HEADER: ("#define KULLNEYRA_LATE 19 /* too late */", 'case KULLNEYRA_LATE:\n        return "too late";'),
+            NUMBERS: ("    /// 19: too late.\n    Late,", "const NAMED: [Refusal; 17]", 'Refusal::Late => (19, "too late"),'),
+            GO_NUMBERS: ("TooLate    Refusal = 19 // too late", 'TooLate:    "too late",'),
+        }.items():
+            for part in parts:
+                self.assertTrue(part in self.text(path), part)
+
+    def test_refusals_that_do_not_fit(self):
+        kept, table = self.text(REFUSALS), self.text(TABLE)
+        for old, new, told in (
+            ("Refusal::Text => 18,", "Refusal::Text => 19,", "the numbers are not 1 to 18"),
+            ("Refusal::Text => 18,", "Refusal::Text => 17,", "the numbers are not 1 to 18"),
+            ("Refusal::Text => 18,", "Refusal::Text => 9 + 9,", "not understood: Refusal::Text => 9 + 9,"),
+            ("        Refusal::Text => 18,\n", "", "[refusals.Text]: crates/refusal/src/lib.rt has no cause Text"),
+            ("pub fn number_of", "pub fn numbers_of", "no function number_of"),
+        ):
+            self.edit(REFUSALS, old, new)
+            with self.subTest(new):
+                self.assert_fault(told)
+            (self.top / REFUSALS).write_text(kept, encoding="utf-8")
+        for old, new, told in (
+            ('c = "TEXT"\n', "", "[refusals.Text] has no c"),
+            ('c = "TEXT"\n', 'c = "TEXT"\nnumber = 18\n', "[refusals.Text]: number is not understood"),
+            ('words = "the first word of a seed is 0"\n', "", "[refusals.Seed] has no words"),
+            ("a size above {LARGEST_SIZE}", "a size above {LARGEST}", "{LARGEST} is no call, no record, no refusal"),
+        ):
+            self.edit(TABLE, old, new)
+            with self.subTest(new):
+                self.assert_fault(told)
+            (self.top / TABLE).write_text(table, encoding="utf-8")
+
+    def test_refusals_that_change_places(self):
+        self.edit(REFUSALS, "Refusal::Seed => 16,", "Refusal::Seed => 17,")
+        self.edit(REFUSALS, "Refusal::Marks => 17,", "Refusal::Marks => 16,")
+        self.assertEqual(self.run_tool(), (0, ""))
+        self.assertIn("#define KULLNEYRA_NOT_CLOSED 16 ", self.text(HEADER))
+        self.assertIn('Refusal::Marks => (16, "a marked object', self.text(NUMBERS))
+        self.assertIn("NotClosed  Refusal = 16 ", self.text(GO_NUMBERS))
+
+    def test_words_are_the_same_everywhere(self):
+        self.edit(TABLE, 'words = "the first word of a seed is 0"', 'words = "a seed of 0"')
+        self.assertEqual(self.run_tool(), (0, ""))
+        for path in (HEADER, NUMBERS, GO_NUMBERS):
+            self.assertIn('"a seed of 0"', self.text(path))
+
+
 class Table(Boundary):
     def test_what_does_not_fit(self):
         kept = self.text(TABLE)
@@ -322,12 +455,13 @@ class Table(Boundary):
             ('verb = "gives"', 'verbs = "gives"', "[calls.hops]: verbs is not understood"),
             ('doc = "Reads only the', 'c = "Reads only the', "[calls.header] has no doc"),
             ("fields = { card = \"\" }", "", "[records.drawn] has no fields"),
-            ("work words {hops} takes", "work words {hopps} takes", "{hopps} is no call, no record and no name"),
+            ("work words {hops} takes", "work words {hopps} takes", "{hopps} is no call, no record, no refusal, no constant and no name"),
             ('gives = "g.Offsets, g.Targets"', 'gives = "g.Offsets"', "g Graph takes 2 and gives 1"),
             ('moved = "turns', 'gone = "turns', "does not say what the count moved is"),
             ("[calls.sweep]", "[calls.mark]", TABLE),
             ("\n[names]\n", "\n[nouns]\n", "is not"),
-            (', go = "NoHops" }', " }", "[names]: NO_HOPS is said in c, rust and go"),
+            ("refusals = [4, 6, 7]", "refusals = [4, 6, 7, 19]", "[calls.sweep]: crates/refusal/src/lib.rt has no refusal 19"),
+            (', go = "refusal" }', " }", "[names]: fault is said in c, rust and go"),
             ("the fields of {tally}", "the fields of {part}", "{part} has no name in rust"),
             ("[[groups.compare]]", "[[groups.compared]]", "[groups]: rust, go and compare"),
             ('as = "g Graph"\n', "", "[groups.go]: a row has takes, as, gives"),

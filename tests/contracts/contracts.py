@@ -1,15 +1,21 @@
 #!/usr/bin/env python3
 """The contracts of the calls that the documents name.
 
+    contracts.py            says what is wrong, one line for each fault, and ends with exit status 1 if there is any
+    contracts.py write      writes contracts.txt
+
 A call that users or the program make must be there, promise something, and ask nothing of its caller: a `requires`
-on it would be proved like any other and would quietly take inputs out of its promise. Prints what is wrong, one
-line for each fault, and ends with exit status 1 if there is any.
+on it would be proved like any other and would quietly take inputs out of its promise. An exported function cites the
+records of CITED. And contracts.txt has each contract and each bound as it is, so that one that is weaker than before is
+seen by whoever reviews the change.
 """
 
 import re
 import sys
 from pathlib import Path
-from typing import Iterator, Optional
+from typing import Iterator, NamedTuple, Optional
+
+from snapshot import HEAD, SNAPSHOT, broken, first_difference, flat, of_definitions
 
 TOP = Path(__file__).resolve().parents[2]
 
@@ -21,9 +27,35 @@ PROMISES = Path("docs/PROMISES.md")
 LIST = re.compile(r"^The calls are .*?(?=\n\n|\Z)", re.MULTILINE | re.DOTALL)
 CALL = re.compile(r"`(\w+(?:::\w+)+)`")
 
+# What the contract of each exported function cites.
+CITED = {
+    "kullneyra_header": ("headerAnswer", "headerWords"),
+    "kullneyra_read": ("Reads",),
+    "kullneyra_references": ("partAnswer", "partWords"),
+    "kullneyra_mark": ("Marks",),
+    "kullneyra_saved_words": ("LengthIn",),
+    "kullneyra_begin": ("Begins",),
+    "kullneyra_resume": ("Resumes",),
+    "kullneyra_sweep": ("sweepAnswer", "sweepList", "sweepWords", "SweepPromise"),
+    "kullneyra_schedule_length": ("LengthIn",),
+    "kullneyra_deal": ("fault", "turnsOf", "Rounds"),
+    "kullneyra_draw": ("DrawsIn",),
+    "kullneyra_deal_seed": ("DealsIn", "DealPromise"),
+    "kullneyra_hop_words": ("LengthIn",),
+    "kullneyra_hops": ("HopsIn",),
+    "kullneyra_update_words": ("LengthIn",),
+    "kullneyra_add": ("AddsIn",),
+    "kullneyra_remove": ("RemovesIn",),
+    "kullneyra_market_header": ("marketAnswer", "headerWords"),
+    "kullneyra_import": ("Imports",),
+    "kullneyra_export_length": ("LengthIn",),
+    "kullneyra_export": ("exportFault", "bytesAfter", "Returns"),
+}
+
 SKIPPED = re.compile(r"""//[^\n]*|b'(?:\\.|[^\\'])'|"(?:\\.|[^\\"])*\"""")
 CLAUSE = re.compile(r"(?:\b(requires|ensures)\s*)?\{")
 EXPORT = re.compile(r'\bextern\s+"C"\s+fn\s+(\w+)')
+IMPORT = re.compile(r"^ghost use [^;]*;", re.MULTILINE)
 PROTOTYPE = re.compile(r"^uint32_t (kullneyra_\w+)\(", re.MULTILINE)
 
 
@@ -43,59 +75,114 @@ def bare(source: str) -> str:
     return SKIPPED.sub(lambda found: found[0] if found[0] == '"C"' else " " * len(found[0]), source)
 
 
-def clauses(source: str, at: int) -> Iterator[str]:
-    """`requires` and `ensures`, as they stand between the name of a function and its body."""
+class Contract(NamedTuple):
+    """A function's signature, and its clauses in their order: `requires` or `ensures`, and the text in its braces."""
+
+    signature: str
+    clauses: list[tuple[str, str]]
+
+    def said(self, kind: str) -> list[str]:
+        return [text for one, text in self.clauses if one == kind]
+
+
+def contract(source: str, declaration: str) -> Optional[Contract]:
+    """The contract of the function that is declared so; the source is bare."""
+    declared = re.search(declaration + r"\b", source)
+    if declared is None:
+        return None
+    at, first, clauses = declared.end(), None, []
     while (found := CLAUSE.search(source, at)) and found[1]:
-        yield found[1]
+        first = found.start() if first is None else first
         depth, at = 1, found.end()
         while depth:
             depth += {"{": 1, "}": -1}.get(source[at], 0)
             at += 1
+        clauses.append((found[1], flat(source[found.end() : at - 1])))
+    end = first if first is not None else found.start() if found else len(source)
+    return Contract(flat(source[declared.start() : end]), clauses)
 
 
-def fault(source: str, declaration: str) -> Optional[str]:
-    """What is wrong with the function that is declared so."""
-    found = re.search(declaration + r"\b", source)
+def fault(found: Optional[Contract]) -> Optional[str]:
+    """What is wrong with a contract."""
     if found is None:
         return "is not there"
-    words = list(clauses(source, found.end()))
-    if "requires" in words:
+    if found.said("requires"):
         return "has a `requires`"
-    if "ensures" not in words:
+    if not found.said("ensures"):
         return "promises nothing"
     return None
 
 
-def faults(top: Path) -> Iterator[str]:
-    def text(path):
-        return (top / path).read_text(encoding="utf-8")
+class Repository:
+    """The calls that PROMISES lists and the exported functions, each with its contract."""
 
-    named = calls(text(PROMISES))
-    for call in named:
-        path, name = source_of(call)
-        wrong = fault(bare(text(path)), rf"\bpub\s+fn\s+{name}") if (top / path).is_file() else "is not there"
-        if wrong:
+    def __init__(self, top: Path):
+        def text(path) -> str:
+            return (top / path).read_text(encoding="utf-8")
+
+        self.calls: dict[str, Optional[Contract]] = {}
+        for call in calls(text(PROMISES)):
+            path, name = source_of(call)
+            source = bare(text(path)) if (top / path).is_file() else ""
+            self.calls[call] = contract(source, rf"\bpub\s+fn\s+{name}")
+        exports = bare("\n".join(map(text, sorted(top.glob(EXPORTS)))))
+        self.imports = sorted({flat(line) for line in IMPORT.findall(exports)})
+        self.declared = set(PROTOTYPE.findall(text(HEADER)))
+        names = sorted(self.declared | set(EXPORT.findall(exports)))
+        self.exports = {name: contract(exports, rf'\bpub\s+extern\s+"C"\s+fn\s+{name}') for name in names}
+
+
+def faults(top: Path) -> Iterator[str]:
+    found = Repository(top)
+    for call, its in found.calls.items():
+        if wrong := fault(its):
             yield f"{call} {wrong}"
-    exports = bare("\n".join(map(text, sorted(top.glob(EXPORTS)))))
-    declared, exported = set(PROTOTYPE.findall(text(HEADER))), set(EXPORT.findall(exports))
-    for name in sorted(declared | exported):
-        wrong = fault(exports, rf'\bpub\s+extern\s+"C"\s+fn\s+{name}')
-        if wrong:
+    for name, its in found.exports.items():
+        if wrong := fault(its):
             yield f"{name} {wrong}"
-        if name not in declared:
+        elif name not in CITED:
+            yield f"{name} has no row in CITED of tests/contracts/contracts.py"
+        else:
+            words = set(re.findall(r"[^\s(){}]+", " ".join(its.said("ensures"))))
+            for record in CITED[name]:
+                if record not in words:
+                    yield f"{name} does not cite {record}"
+        if name not in found.declared:
             yield f"{name} is not in {HEADER}"
-        if name.removeprefix("kullneyra_") not in {source_of(call)[1] for call in named}:
+        if name.removeprefix("kullneyra_") not in {source_of(call)[1] for call in found.calls}:
             yield f"{name} has no call of its name in {PROMISES}"
-    if not declared:
+    if not found.declared:
         yield f"{HEADER} declares no function"
 
 
-def main() -> int:
-    found = list(faults(TOP))
+def snapshot(top: Path) -> str:
+    """contracts.txt as it should be."""
+    found = Repository(top)
+    lines = [*HEAD, "# the exported functions, and the calls behind them", "", *found.imports]
+    for name, its in {**found.exports, **found.calls}.items():
+        lines += ["", name, f"  {its.signature}" if its else "  is not there"]
+        lines += [f"    {kind} {{ {text} }}" for kind, text in (its.clauses if its else [])]
+    lines += of_definitions(top)
+    return "\n".join(part for line in lines for part in broken(line)) + "\n"
+
+
+def difference(top: Path) -> Optional[str]:
+    found = (top / SNAPSHOT).read_text(encoding="utf-8") if (top / SNAPSHOT).is_file() else ""
+    return first_difference(found, snapshot(top))
+
+
+def main(arguments: list[str]) -> int:
+    if arguments == ["write"]:
+        (TOP / SNAPSHOT).write_text(snapshot(TOP), encoding="utf-8")
+        return 0
+    if arguments:
+        print(__doc__)
+        return 2
+    found = [*faults(TOP), *filter(None, [difference(TOP)])]
     for line in found:
         print(f"contracts: {line}")
     return 1 if found else 0
 
 
 if __name__ == "__main__":
-    sys.exit(main())
+    sys.exit(main(sys.argv[1:]))

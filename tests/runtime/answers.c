@@ -48,6 +48,18 @@ static const uint8_t catalogue[] = {
 #define ONE(name) 1 +
 static const size_t count_names = KULLNEYRA_COUNTS(ONE) 0;
 
+/* Each number has its own words, and one that no call answers has some, too. */
+static void refusals_in_words(void) {
+    for (uint32_t number = KULLNEYRA_OK; number <= KULLNEYRA_TEXT; number++) {
+        for (uint32_t other = number + 1; other <= KULLNEYRA_TEXT + 1; other++) {
+            expect("refusal_text, the same words", 1,
+                   strcmp(kullneyra_refusal_text(number), kullneyra_refusal_text(other)) != 0);
+        }
+    }
+    expect("refusal_text of a buffer", 0,
+           (uint64_t)strcmp(kullneyra_refusal_text(KULLNEYRA_BUFFER), "a lent buffer is not as long as it must be"));
+}
+
 int main(void) {
     static const uint8_t turns[6] = {0, 0, 0, 0, 0, 0};
     uint32_t offsets[KULLNEYRA_OFFSETS(2)], targets[KULLNEYRA_TARGETS(1)], list[KULLNEYRA_LIST(2) + 1];
@@ -324,5 +336,6 @@ int main(void) {
     expect("export", KULLNEYRA_OK, kullneyra_export(read_offsets, 3, read_targets, 1, written, text_len));
     expect("export, text", 0, memcmp(written, text, text_len) != 0);
     expect("export, behind it", 0x5a, written[text_len]);
+    refusals_in_words();
     return failed;
 }

@@ -10,8 +10,9 @@ use Rattle.machine.specs.Machine.{State}
 use Rattle.machine.specs.Call.{Call}
 use Rattle.marker.specs.declared.Marked.{Marked}
 use Rattle.marker.specs.Answer.{row}
-use Rattle.begin.specs.Answer.{Answers}
-use Rattle.kullneyra.specs.Calls.{mark-words, markWords, SavesIn}
+use Rattle.begin.specs.Answer.{Answers, Begun}
+use Rattle.resume.specs.Answer.{Continued}
+use Rattle.kullneyra.specs.Calls.{mark-words, markWords, SavesIn, BeginsIn, ResumesIn}
 
 module _ {c : Call} {k : ℕ} {s : State} {marks work tallies w result : List ℕ} where
   pub not-made : eqb (length result) mark-words ≡ false
@@ -19,7 +20,7 @@ module _ {c : Call} {k : ℕ} {s : State} {marks work tallies w result : List �
   not-made f =
       record { answers = rw f; fills-marks = rw f; fills-work = rw f; fills-tallies = rw f; fills-saved = rw f; fills-result = rw f }
 
-  pub made : {r : Marked} {marks′ work′ tallies′ w′ result′ : List ℕ} {answer : ℕ}
+  made : {r : Marked} {marks′ work′ tallies′ w′ result′ : List ℕ} {answer : ℕ}
       → eqb (length result) mark-words ≡ true
       → Answers c k s marks work tallies w r marks′ work′ tallies′ w′
       → answer ≡ row r .number → result′ ≡ unlessRefused (row r .number) (markWords (row r)) result
@@ -34,3 +35,13 @@ module _ {c : Call} {k : ℕ} {s : State} {marks work tallies w result : List �
         fills-saved = rw f (a .saved-is);
         fills-result = rw (f, ← h) words;
       }
+
+-- of the two calls
+module _ {c : Call} {marks work tallies w result marks′ work′ tallies′ w′ result′ : List ℕ} {r : Marked} {answer : ℕ}
+    (f : eqb (length result) mark-words ≡ true) (number : answer ≡ row r .number)
+    (words : result′ ≡ unlessRefused (row r .number) (markWords (row r)) result) where
+  pub begins-in : Begun c marks work tallies w r marks′ work′ tallies′ w′ → BeginsIn c marks work tallies w result marks′ work′ tallies′ w′ result′ answer
+  begins-in a = made f (a .answers) number words
+
+  pub resumes-in : Continued c marks work tallies w r marks′ work′ tallies′ w′ → ResumesIn c marks work tallies w result marks′ work′ tallies′ w′ result′ answer
+  resumes-in a = made f (a .answers) number words

@@ -416,9 +416,9 @@ func UpdateWords(objects uint32) (uint64, error) {
 
 // Add adds the references from[i] -> to[i] to a store. r.Graph.Offsets has as many words as offsets, and
 // r.Graph.Targets as many as targets and from together: an object's new references stand behind its old ones, in list
-// order. An object that is newly live gets the mark 255, and a mark that is set keeps its value. The marks must be
-// closed under the old references (NotClosed), as those of a finished collection are. Beside a refusal all four are as
-// they were.
+// order. An object that is newly live gets the mark NewlyLive, and a mark that is set keeps its value. The marks must
+// be closed under the old references (NotClosed), as those of a finished collection are. Beside a refusal all four are
+// as they were.
 func Add(g Graph, from, to []uint32, r Renewed) error {
 	offsetsAt, offsetsLen := u32s(g.Offsets)
 	targetsAt, targetsLen := u32s(g.Targets)
@@ -434,8 +434,8 @@ func Add(g Graph, from, to []uint32, r Renewed) error {
 }
 
 // Remove takes the references with these numbers out of a store; a number that stands in the list twice counts once.
-// r.Graph.Targets has as many words as references remain. The marks are made afresh: 1 for a start, 255 for what else
-// is reached, 0 for the rest; what they held before does not matter. Beside a refusal all four are as they were.
+// r.Graph.Targets has as many words as references remain. The marks are made afresh: 1 for a start, NewlyLive for what
+// else is reached, 0 for the rest; what they held before does not matter. Beside a refusal all four are as they were.
 func Remove(g Graph, numbers, starts []uint32, r Renewed) error {
 	offsetsAt, offsetsLen := u32s(g.Offsets)
 	targetsAt, targetsLen := u32s(g.Targets)

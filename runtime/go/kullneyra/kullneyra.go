@@ -6,23 +6,8 @@
 // that a call writes is shared with another call.
 package kullneyra
 
-// Limits. Objects, starts, workers, batch and cutoff are 1 at least; references and sizes may be 0.
-const (
-	MostObjects    = 65536
-	MostReferences = 1048576
-	LargestSize    = 1099511627776
-	MostLeases     = 256
-	MostWorkers    = 16
-	MostSetting    = 65535 // batch and cutoff
-	Deck           = 720   // cards, numbered from 0
-	CardWorkers    = 6     // the most workers that cards deal turns to
-	NoHops         = 4294967295
-	NewlyLive      = 255 // the mark of an object that Add or Remove finds live, where it is no start
-)
-
 // Exact lengths of the lent slices, for n objects and w workers: n + 1 offsets, m targets, n sizes, Starts starts, n
 // marks, Work(n, w) work words, Tallies(w) tally words, n list entries.
-const Starts = MostLeases + 1
 
 // Work is the number of work words of a marking.
 func Work(n, workers int) int { return workers * (2*n + 4) }

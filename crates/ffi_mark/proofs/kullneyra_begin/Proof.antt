@@ -1,9 +1,9 @@
--- By the result words' length (`not-made`, `made`): with as many as there are results the call's promise holds and `give_marked` writes its answer.
+-- By the result words' length (`not-made`, `begins-in`): with as many as there are results the call's promise holds and `give_marked` writes its answer.
 use native.Mathlib.Omega.{arith}
 use lib.ListN.{length}
 use Rattle.kullneyra.specs.Calls.{mark-words}
 use Rattle.kullneyra.proofs.Promise.{begin-promise}
-use Rattle.kullneyra.proofs.Saving.{not-made, made}
+use Rattle.kullneyra.proofs.Saving.{not-made, begins-in}
 use borrow.Author.Tests.{eq-eqb, ne-eqb}
 use borrow.Author.Needs.{needs}
 use Rattle.ffi_mark.proofs.kullneyra_begin.Statement.{statement}
@@ -26,7 +26,7 @@ returns-2 c =
     let given = at-give-marked .give-marked .ensures in
     record {
       words =
-          made (eq-eqb (length (start .args .result .now)) mark-words (at-if1 .if1 .left)) (at-call .begin .ensures .answers) (given .0) (given .1);
+          begins-in (eq-eqb (length (start .args .result .now)) mark-words (at-if1 .if1 .left)) (given .0) (given .1) (at-call .begin .ensures);
       promise = begin-promise _ _ (given .0) (given .1) (at-call .begin .ensures);
     }
 

@@ -1,9 +1,9 @@
--- By the result words' length (`not-made`, `made`): with as many as there are results the call's promise holds and `give_marked` writes its answer.
+-- By the result words' length (`not-made`, `resumes-in`): with as many as there are results the call's promise holds and `give_marked` writes its answer.
 use native.Mathlib.Omega.{arith}
 use lib.ListN.{length}
 use Rattle.kullneyra.specs.Calls.{mark-words}
 use Rattle.kullneyra.proofs.Promise.{resume-exactly, resume-promise}
-use Rattle.kullneyra.proofs.Saving.{not-made, made}
+use Rattle.kullneyra.proofs.Saving.{not-made, resumes-in}
 use borrow.Author.Tests.{eq-eqb, ne-eqb}
 use borrow.Author.Needs.{needs}
 use Rattle.ffi_mark.proofs.kullneyra_resume.Statement.{statement}
@@ -27,7 +27,7 @@ returns-2 c =
     let given = at-give-marked .give-marked .ensures in
     record {
       words =
-          made (eq-eqb (length (start .args .result .now)) mark-words (at-if1 .if1 .left)) (at-call .resume .ensures .answers) (given .0) (given .1);
+          resumes-in (eq-eqb (length (start .args .result .now)) mark-words (at-if1 .if1 .left)) (given .0) (given .1) (at-call .resume .ensures);
       exactly = λ l b. resume-exactly _ _ (given .0) (given .1) (at-call .resume .ensures) b;
       promise = resume-promise _ _ (given .0) (given .1) (at-call .resume .ensures);
     }

@@ -357,8 +357,9 @@ pub fn update_words(objects: u32) -> Result<u64, Refusal> {
 
 /// Adds the references `from[i]` -> `to[i]` to a store. `new_offsets` has as many words as offsets, and `new_targets`
 /// as many as targets and from together: an object's new references stand behind its old ones, in list order. An object
-/// that is newly live gets the mark 255, and a mark that is set keeps its value. The marks must be closed under the old
-/// references ([`Refusal::Marks`]), as those of a finished collection are. Beside a refusal all four are as they were.
+/// that is newly live gets the mark [`NEWLY_LIVE`], and a mark that is set keeps its value. The marks must be closed
+/// under the old references ([`Refusal::Marks`]), as those of a finished collection are. Beside a refusal all four are
+/// as they were.
 #[allow(clippy::too_many_arguments)]
 pub fn add(
     offsets: &[u32],
@@ -374,8 +375,9 @@ pub fn add(
 }
 
 /// Takes the references with these numbers out of a store; a number that stands in the list twice counts once.
-/// `new_targets` has as many words as references remain. The marks are made afresh: 1 for a start, 255 for what else is
-/// reached, 0 for the rest; what they held before does not matter. Beside a refusal all four are as they were.
+/// `new_targets` has as many words as references remain. The marks are made afresh: 1 for a start, [`NEWLY_LIVE`] for
+/// what else is reached, 0 for the rest; what they held before does not matter. Beside a refusal all four are as they
+/// were.
 #[allow(clippy::too_many_arguments)]
 pub fn remove(
     offsets: &[u32],
