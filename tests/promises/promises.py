@@ -11,9 +11,9 @@ What stands between two `, behind the first heading, is one of
     a path                a file or a folder of the repository, or of crates/
     requires              the word of the language
 
-A crate and a file hold to the end of their cell or paragraph. Where none is named, the crate is the one that the section gives
-in the words "Names without a crate are those of". Every edit has to be named in some table. Prints what is wrong, one line for
-each fault, and ends with exit status 1 if there is any.
+A crate and a file hold to the end of their item or paragraph. Where none is named, the crate is the one that the section gives
+in the words "Names without a crate are those of". Every edit has to be named in an item "Attacked by". Prints what is wrong, one
+line for each fault, and ends with exit status 1 if there is any.
 """
 
 import re
@@ -29,6 +29,8 @@ QUOTED = re.compile(r"`([^`]+)`")
 SECTION = re.compile(r"^## (.*)$", re.MULTILINE)
 OWN_CRATE = re.compile(r"Names without a crate are those of\s+`(\w+)`")
 LANGUAGE = {"requires"}
+ITEM = re.compile(r"^(?=\s*- )", re.MULTILINE)
+ATTACKED = "- Attacked by:"
 
 # A declaration: at the beginning of a line, and within a module; a field of a record, and constructors of a type.
 DECLARED = re.compile(r"(?:(?:pub|abbrev|unfoldable|axiom) )*(?:(record|data|module) )?([^\s:({]+)")
@@ -89,7 +91,7 @@ class Repository:
 
 @dataclass
 class Reader:
-    """Reads the names of one cell or paragraph, one after the other."""
+    """Reads the names of one item or paragraph, one after the other."""
 
     repository: Repository
     crate: Optional[str]  # of the names to come
@@ -138,13 +140,10 @@ class Reader:
 
 
 def parts(section: str) -> Iterator[tuple[bool, str]]:
-    """The cells of a section's tables and its paragraphs; whether it is a cell."""
+    """The items of a section's lists and its paragraphs; whether it is an item that names edits."""
     for block in re.split(r"\n\s*\n", section):
-        if block.lstrip().startswith("|"):
-            for row in block.strip().splitlines():
-                yield from ((True, cell) for cell in row.strip().strip("|").split("|"))
-        else:
-            yield False, block
+        for part in ITEM.split(block):
+            yield part.lstrip().startswith(ATTACKED), part
 
 
 def faults(top: Path) -> Iterator[str]:
@@ -154,16 +153,16 @@ def faults(top: Path) -> Iterator[str]:
     _, *sections = SECTION.split(text)
     for title, section in zip(sections[::2], sections[1::2]):
         own = OWN_CRATE.search(section)
-        for is_cell, part in parts(section):
+        for attacks, part in parts(section):
             reader = Reader(repository, own[1] if own else None)
             for name in QUOTED.findall(part):
                 wrong = reader.fault(name)
                 if wrong:
                     yield f"{title}: `{name}` {wrong}"
-                elif reader.edits and is_cell:
+                elif reader.edits and attacks:
                     attacked.add(f"{reader.edits}/{name.rpartition('/')[2]}")
     for edit in sorted(repository.edits - attacked):
-        yield f"no table names the edit {edit}"
+        yield f"no item names the edit {edit}"
 
 
 def main() -> int:

@@ -47,7 +47,7 @@ lemma : Sound 1
 }
 
 HEAD = "# Promises\n\n`nothing` is read before the first heading.\n\n## First\n\n"
-EDITS = "\n| All | `one/limit_off`, `kept_lost`, `two/other` |\n"
+EDITS = "\n- All\n  - Attacked by: `one/limit_off`, `kept_lost`,\n    `two/other`\n"
 
 
 class Promises(unittest.TestCase):
@@ -66,10 +66,10 @@ class Promises(unittest.TestCase):
         return list(promises.faults(self.top))
 
     def wrong(self, part):
-        """The faults of one part of a section, a cell or a paragraph."""
-        in_cell, in_paragraph = self.found(f"{HEAD}| x | {part} |{EDITS}"), self.found(f"{HEAD}{part}\n{EDITS}")
-        self.assertEqual(in_cell, in_paragraph)
-        return [line.removeprefix("First: ") for line in in_cell]
+        """The faults of one part of a section, an item or a paragraph."""
+        in_item, in_paragraph = self.found(f"{HEAD}- x\n  - Stated by: {part}{EDITS}"), self.found(f"{HEAD}{part}\n{EDITS}")
+        self.assertEqual(in_item, in_paragraph)
+        return [line.removeprefix("First: ") for line in in_item]
 
     def test_names_that_are_there(self):
         for part in (
@@ -108,20 +108,20 @@ class Promises(unittest.TestCase):
             self.assertEqual(self.wrong(part), [f"`{name}` {why}"], part)
 
     def test_how_far_a_crate_holds(self):
-        cells = f"{HEAD}| `one` `Sound.short` | `Sound.short` |{EDITS}"
-        self.assertEqual(self.found(cells), ["First: `Sound.short` stands behind no crate"])
+        items = f"{HEAD}- x\n  - Stated by: `one` `Sound.short`\n  - Proved by: `Sound.short`{EDITS}"
+        self.assertEqual(self.found(items), ["First: `Sound.short` stands behind no crate"])
         paragraphs = f"{HEAD}`one` `Sound.short`\nand `kept`.\n\n`Sound.short`\n{EDITS}"
         self.assertEqual(self.found(paragraphs), ["First: `Sound.short` stands behind no crate"])
 
     def test_crate_of_a_section(self):
-        own = f"{HEAD}Names without a crate are those of\n`one`, as `Sound.short` is.\n\n| `Laws.Law` | `two` `Other` |{EDITS}"
+        own = f"{HEAD}Names without a crate are those of\n`one`, as `Sound.short` is.\n\n- `Laws.Law`\n  - Proved by: `two` `Other`{EDITS}"
         self.assertEqual(self.found(own), [])
         self.assertEqual(self.found(f"{own}\n## Second\n\n`Sound.short`\n"), ["Second: `Sound.short` stands behind no crate"])
 
-    def test_edits_that_no_table_names(self):
+    def test_edits_that_no_item_names(self):
         self.assertEqual(
-            self.found(f"{HEAD}`one/limit_off` is told of here.\n\n| x | `one/kept_lost` |\n"),
-            ["no table names the edit one/limit_off", "no table names the edit two/other"],
+            self.found(f"{HEAD}`one/limit_off` is told of here.\n\n- x\n  - Proved by: `two/other`\n  - Attacked by: `one/kept_lost`\n"),
+            ["no item names the edit one/limit_off", "no item names the edit two/other"],
         )
 
 

@@ -85,6 +85,13 @@ pub refused-leases :
 unfolding reading word catalogueFault faults leaseFaults recordFault
 refused-leases = (refl, (refl, refl))
 
+-- S with as many leases as there may be
+pub lease-most :
+    reading (bytesOfS ++ flatMap leaseRecord (replicate 256 4))
+    ≡ accepted (record { index = S .index; sizes = S .sizes; links = S .links; leases = replicate 256 4 })
+unfolding reading word catalogueFault faults leaseFaults recordFault storeOf records le flatMap
+lease-most = refl
+
 -- the 257th lease is 13, and not 3 or 5, whatever it names
 pub lease-too-many : reading (bytesOfS ++ flatMap leaseRecord (replicate 256 4) ++ leaseRecord 6) ≡ refused 13
 unfolding reading word catalogueFault faults leaseFaults recordFault le flatMap
