@@ -21,6 +21,7 @@ use Rattle.slices.proofs.Written.{nothing, same-long}
 use Rattle.cards.specs.Deck.{card-workers, deck-size}
 use Rattle.cards.specs.Hand.{roundOf, turnsOf, bytesOf, fault, lengthFault, lengthOf, Deals}
 use Rattle.cards.specs.Rounding.{Roomy, Rounded, Dealing}
+use Rattle.cards.proofs.Deck.{all-orders}
 use Rattle.cards.proofs.Lengths.{known-at}
 use Rattle.cards.proofs.Rows.{laid-next}
 use Rattle.cards.proofs.Stretches.{rounds-of}
@@ -94,12 +95,12 @@ module _ (W : ℕ) (cards : List ℕ) (n : ℕ) where
 -- beside a refusal the schedule is as it was
 pub refused : (W : ℕ) (cards before : List ℕ) (k : ℕ) {v : Verdict} → numberOf v ≡ suc k → fault W cards (length before) ≡ suc k → Deals W cards before v before
 refused W cards before k n e =
-    record { number-is = n ∙ sym e; schedule-is = rw e; brings = λ z. absurd (omega arith) }
+    record { deck-is = all-orders; number-is = n ∙ sym e; schedule-is = rw e; brings = λ z. absurd (omega arith) }
 
 pub dealt-all : (W : ℕ) (cards before : List ℕ) {v : Verdict} {after : List ℕ} → numberOf v ≡ 0 → fault W cards (length before) ≡ 0 → 1 ≤ W
     → W ≤ card-workers → allBelow deck-size cards ≡ true → after ≡ turnsOf W cards → Deals W cards before v after
 dealt-all W cards before n e some few known w =
-    record { number-is = n ∙ sym e; schedule-is = rw e w; brings = λ z. rw w (rounds-of W cards some few known) }
+    record { deck-is = all-orders; number-is = n ∙ sym e; schedule-is = rw e w; brings = λ z. rw w (rounds-of W cards some few known) }
 
 -- ---- the length
 

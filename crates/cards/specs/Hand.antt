@@ -17,7 +17,7 @@ use Rattle.desk.specs.Length.{LengthRow, lengthBy}
 use Rattle.machine.specs.Machine.{entries}
 use Rattle.machine.specs.Demand3.{Cut}
 use Rattle.machine.specs.Finishing.{Finishes}
-use Rattle.cards.specs.Deck.{card-workers, deck-size, card, digits}
+use Rattle.cards.specs.Deck.{card-workers, deck-size, card, digits, AllOrders}
 
 -- ---- the turns of a hand
 
@@ -93,6 +93,8 @@ pub record Rounds (W k : ℕ) (schedule : List ℕ) : Type 0 where
 -- ---- the promise of the call, for all inputs
 
 pub record Deals (W : ℕ) (cards before : List ℕ) (v : Verdict) (after : List ℕ) : Type 0 where
+  -- the deck of which the cards are
+  pub deck-is : AllOrders
   pub number-is : numberOf v ≡ fault W cards (length before)
   pub schedule-is : after ≡ unlessRefused (fault W cards (length before)) (turnsOf W cards) before
   pub brings : fault W cards (length before) ≡ 0 → Rounds W (length cards) after

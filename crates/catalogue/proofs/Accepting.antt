@@ -8,7 +8,7 @@ use native.Mathlib.Omega.{arith}
 use lib.ListN.{length, drop}
 use Rattle.laws.specs.Words.{Bytes}
 use Rattle.refusal.specs.Order.{raise, first}
-use Rattle.records.specs.Store.{Store, most-leases}
+use Rattle.records.specs.Store.{Store, startsOf, most-leases}
 use Rattle.records.specs.Layout.{lease}
 use Rattle.records.specs.Reading.{Kind, kindOf, lengthOf, kind-field, short, misfit, misplaced, overfull, miscounted, misnamed, oversized, nothing}
 use Rattle.records.specs.Reading.{Reading, refused, accepted, reading, judged, storeOf, contentsFault, recordFault, surplusFault, leaseFaults, faults, catalogueFault}
@@ -17,6 +17,7 @@ use Rattle.catalogue.specs.Acceptance.{Faultless, Lays, Returned, Accept
 use Rattle.catalogue.proofs.Accepted.{whole-bytes, whole-range}
 use Rattle.catalogue.proofs.Acceptance.{whole-layout, layout-accepted}
 use Rattle.records.proofs.ReadGraph.{read-graph}
+use Rattle.records.proofs.Subject.{follows}
 
 -- ---- no fault of the catalogue has the number 7
 
@@ -120,6 +121,7 @@ module _ {b o t z w : List ℕ} {r : ReadRow} {o′ t′ z′ w′ : List ℕ} (
           sizes-are = d .sizes-are ∙ ap (λ (y : Reading). sizesAfter y z) e;
           starts-are = d .starts-are ∙ ap (λ (y : Reading). startsAfter y w) e;
           graph-is = rw (eo, et) (read-graph s (l .in-range));
+          follows = follows s (startsOf s);
         }
 
   pub acceptance : Bytes b → Acceptance b r o′ t′ z′ w′

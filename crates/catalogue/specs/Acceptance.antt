@@ -10,6 +10,7 @@ use Rattle.records.specs.Store.{Store, InRange, objects, references, offsetsOf,
 use Rattle.records.specs.Layout.{layout}
 use Rattle.catalogue.specs.Answer.{ReadRow}
 use Rattle.records.specs.ReadGraph.{ReadGraph}
+use Rattle.records.specs.Subject.{Follows}
 
 -- the number of a call that finds no fault in the catalogue: 0, or 7 where only a lent length is wrong
 abbrev pub Faultless : ℕ → Type 0
@@ -31,6 +32,8 @@ pub record Returned (s : Store) (r : ReadRow) (offsets targets sizes starts : Li
   pub sizes-are : sizes ≡ s .sizes
   pub starts-are : starts ≡ padded (startsOf s)
   pub graph-is : ReadGraph s (graph offsets targets)
+  -- an object that names a live subject lives, and one that has only its subjects dies with them
+  pub follows : Follows s (startsOf s)
 
 -- a call on the bytes b that answered the row r and left these buffers
 pub record Acceptance (b : List ℕ) (r : ReadRow) (offsets targets sizes starts : List ℕ) : Type 0 where

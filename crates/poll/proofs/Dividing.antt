@@ -11,14 +11,14 @@ use Rattle.laws.specs.Sum.{sum}
 use Rattle.machine.specs.Run.{Run, run, carried, keep, rest}
 use Rattle.machine.specs.declared.frontier.Held.{Held}
 use Rattle.machine.specs.Split.{held, lastSize}
-use Rattle.machine.proofs.Split.{keep-first}
+use Rattle.machine.proofs.Split.{keep-first, held-tells}
 use Rattle.worker.specs.declared.stretch.Top.{Top}
 use Rattle.worker.specs.Stretch.{Holds, topWith, Told, below, Sharing, InFront, Split, Copyable, Cuttable, CutFound, Cleft, KeptAbove}
 use Rattle.worker.proofs.Pairs.{holds-none, holds-same}
 use Rattle.worker.proofs.Parting.{Topped, topped, told-on, told-used, told-one, front as top-of, total, Lowest, lowest-first, lowest-end, back, back-room, told-back, found-back, kept-back}
 use Rattle.worker.proofs.Cutting.{split-low, split-high, split-first, split-end, split-below}
 use Rattle.step.specs.Held.{stretchAt}
-use Rattle.poll.specs.Dividing.{Dividing, Cutting, InBack, Divided}
+use Rattle.poll.specs.Dividing.{Dividing, Cutting, InBack, Divided, HeldIn}
 use Rattle.step.proofs.Parts.{apart-whole, length-stretch, getD-stretch, length-back, back-here, back-other, length-copied, copied-here, copied-other}
 
 -- a stretch as it is lent
@@ -127,11 +127,12 @@ module _ {L : ℕ} {work : List ℕ} {b a : ℕ} {t : Top} {k : ℕ} where
 
   -- the runs are those that are shared out, so the same part holds the last reference kept
   pub held-same : (x : Dividing L work b a t k) {others : ℕ} (y : Sharing (stretchAt L b work) t k others) {h r : Held}
-      → held k (y .runs) ≡ h → r ≡ h → r ≡ held k (x .runs)
+      → held k (y .runs) ≡ h → r ≡ h → HeldIn k (x .runs) r
   held-same x y q e =
       let one : y .runs ≡ x .runs =
       told-one (stretchAt L b work) t (y .runs) (x .runs) (y .told) (x .told) (omega (arith, y .some, y .number)) (omega (arith, x .enough)) in
-      e ∙ sym q ∙ ap (λ (rs : List Run). held k rs) one
+      let is = e ∙ sym q ∙ ap (λ (rs : List Run). held k rs) one in
+      record { is = is; tells = rw is (held-tells k (x .runs) (x .some) (omega (arith, x .enough))) }
 
   -- ---- the front holds the last reference kept: the asker gets what is left behind it
 

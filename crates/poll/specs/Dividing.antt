@@ -5,7 +5,8 @@ use mathlib.Core.Logic.{_≢_}
 use mathlib.Core.List.{List}
 use lib.ListN.{length}
 use Rattle.machine.specs.Run.{Run, carried, keep, rest}
-use Rattle.machine.specs.Split.{held}
+use Rattle.machine.specs.Split.{held, Tells}
+use Rattle.machine.specs.declared.frontier.Held.{Held}
 use Rattle.machine.specs.declared.frontier.Held.the-variants.{Back}
 use Rattle.worker.specs.declared.stretch.Top.{Top}
 use Rattle.worker.specs.Stretch.{Told, Sharing, CutFound}
@@ -32,6 +33,11 @@ pub record InBack (L : ℕ) (work : List ℕ) (b a : ℕ) (t : Top) (k others : 
   pub dividing : Dividing L work b a t k
   pub sharing : Sharing (stretchAt L b work) t k others
   pub held-is : held k (sharing .runs) ≡ Back
+
+-- the part told held the last of the first k references, and so says which runs are kept
+pub record HeldIn (k : ℕ) (rs : List Run) (part : Held) : Type 0 where
+  pub is : part ≡ held k rs
+  pub tells : Tells part (length (keep k rs)) (length rs)
 
 -- b keeps the first k, a gets the others, and the other stretches stay
 pub record Divided (L : ℕ) (work : List ℕ) (b a : ℕ) (t : Top) (k : ℕ) (work′ : List ℕ) (kept given : Top) : Type 0 where

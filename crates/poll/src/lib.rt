@@ -14,13 +14,12 @@ ghost use mathlib.Core.List.{List};
 ghost use Prim.Native.Nat.{ℕ, min, _-_, _≤_};
 ghost use Rattle.machine.specs.declared.frontier.Held.the-variants.{Front, Back, Middle};
 ghost use Rattle.machine.specs.Machine.{shares as sharing};
-ghost use Rattle.machine.specs.Split.{held as holder};
 ghost use Rattle.worker.specs.Registers.{blockAt};
 ghost use Rattle.worker.specs.Stretch.{Sharing};
 ghost use Rattle.step.specs.Held.{memory, stretchAt};
 ghost use Rattle.step.specs.Turned.{Ready, DoesAny};
 ghost use Rattle.poll.specs.Polling.{IsPolling, IsAsked};
-ghost use Rattle.poll.specs.Dividing.{Dividing, Cutting, InBack, Divided};
+ghost use Rattle.poll.specs.Dividing.{Dividing, Cutting, InBack, Divided, HeldIn};
 ghost use Rattle.poll.specs.Polling.{sharedBlock, givenBlock};
 
 // What a hand-over leaves: which part held the last reference kept, and the runs of the worker that
@@ -115,7 +114,7 @@ fn cut_middle(work: &mut [u32], len: usize, b: u32, asker: u32, top: Top, cut: C
 // (its `r1`), then the back (`r2`); only where the cut is in the middle (`vs`) are runs walked over.
 fn divide(work: &mut [u32], len: usize, b: u32, asker: u32, top: Top, k: u32, rest: u32) -> Parts
     requires { ⌜ Dividing len (now work) b asker top k × Sharing (stretchAt len b (now work)) top k rest ⌝ }
-    ensures { λ r. ⌜ ((x : Dividing len (now (work .entry)) b asker top k) → r .held ≡ holder k (x .runs)) ⌝ }
+    ensures { λ r. ⌜ ((x : Dividing len (now (work .entry)) b asker top k) → HeldIn k (x .runs) (r .held)) ⌝ }
     ensures { λ r. ⌜ Divided len (now (work .entry)) b asker top k (now (work .exit)) (r .kept) (r .given) ⌝ }
 {
     let from = b as usize * len;
