@@ -1,4 +1,5 @@
--- SPECIFICATION 4.3 as rules: what a turn may do. Every turn of a sound state is a `Move` (`proofs/Move`).
+-- SPECIFICATION 4.3 as rules, for the invariants: what a turn may do. Every turn of a sound state is a `Move` (`proofs/Move`). A `Move` need
+-- not be a turn, since it does not look at whom an entry names; what a turn does is `Machine.turn`.
 use mathlib.Core.Path.{_≡_}
 use mathlib.Core.Bool.{true, false}
 use mathlib.Core.List.{List, [], _∷_}

@@ -192,8 +192,8 @@ pub record Sound (G : Graph) (starts : List ℕ) (W : ℕ) (g : Setting) (s : St
   pub batch-carried : (b : ℕ) → batchIn (worker s b) ≤ carriedBy (worker s b)
   -- 19. No worker has ended while references are carried.
   pub stopped-empty : 0 < sum stopped (s .workers) → carriedAll s ≡ 0
-  -- 22. The sinces of all workers together are at most followed. A busy worker has its since beside its batch, and one that is
-  -- owed a hand-over has 0.
+  -- 22. The sinces of all workers together are at most followed. A busy worker has its since beside its batch. One that is owed a
+  -- hand-over has 0, which is 8.1's: words with another hold no collection.
   pub since-followed : sum sinceOf (s .workers) + sum itself (s .rested) ≤ s .counts .followed
   pub rested-carrying : (b : ℕ) → 0 < carriedBy (worker s b) → getD (s .rested) b 0 ≡ 0
   -- 23. refused is at most moved.
