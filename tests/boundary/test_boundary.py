@@ -20,11 +20,11 @@ WRITTEN = (HEADER, NUMBERS, RAW, TYPED, COMPARE, GO, GO_NUMBERS)
 CALLS = tuple(path for path in WRITTEN if path not in (NUMBERS, GO_NUMBERS))
 # The files whose constants are written.
 GRAPH, DESK, PLACES = "crates/graph/src/lib.rt", "crates/desk/src/lib.rt", "crates/desk/src/places.rt"
-LEASES, CARDS = "crates/catalogue/src/record.rt", "crates/cards/src/table.rt"
-HOPS, MARKING = "crates/hops/src/search.rt", "crates/changes/src/marking.rt"
+LEASES, CARDS = "crates/catalogue/src/check.rt", "crates/cards/src/table.rt"
+HOPS, MARKING = "crates/traverse/src/lib.rt", "crates/changes/src/marking.rt"
 SOURCES = (*EXPORTS, COUNTS, REFUSALS, GRAPH, DESK, PLACES, LEASES, CARDS, HOPS, MARKING)
 HOP_WORDS = 'pub extern "C" fn kullneyra_hop_words(objects: u32, result: &mut [u64]) -> u32'
-HOP_BYTES = '[calls.hop_bytes]\nwords = "BYTES"\nrefusals = [4, 7]\nverb = "is"\ndoc = "How many bytes {hops} takes."\n\n'
+HOP_PAGES = '[calls.hop_pages]\nwords = "PAGES"\nrefusals = [4, 7]\nverb = "is"\ndoc = "How many pages {hops} takes."\n\n'
 
 
 class Boundary(unittest.TestCase):
@@ -172,17 +172,17 @@ class Signatures(Boundary):
             self.assertEqual(self.run_tool(), (0, ""))
 
     def test_a_new_call(self):
-        line = self.add_export(HOP_WORDS.replace("hop_words", "hop_bytes"))
-        self.assert_fault(f"{UPDATE}:{line}: kullneyra_hop_bytes has no row")
-        self.edit(TABLE, "[calls.hops]", f"{HOP_BYTES}[calls.hops]")
+        line = self.add_export(HOP_WORDS.replace("hop_words", "hop_pages"))
+        self.assert_fault(f"{UPDATE}:{line}: kullneyra_hop_pages has no row")
+        self.edit(TABLE, "[calls.hops]", f"{HOP_PAGES}[calls.hops]")
         self.assertEqual(self.differing(), list(CALLS))
         self.assertEqual(self.run_tool(), (0, ""))
         for path, parts in {
-            HEADER: ("kullneyra_hop_bytes(uint32_t objects, uint64_t *result, size_t result_len);", "kullneyra_hop_bytes_into(", "KULLNEYRA_BYTES_WORDS 1"),
-            RAW: ("pub fn kullneyra_hop_bytes(objects: u32, result: *mut u64, result_len: usize) -> u32;", "pub fn hop_bytes(objects: u32, result: &mut [u64]) -> u32"),
-            TYPED: ("/// How many bytes [`hops`] takes.\npub fn hop_bytes(objects: u32) -> Result<u64, Refusal>",),
-            COMPARE: ('"hop_bytes",', "        &[0, 4, 7],\n        &[0, 4, 7],\n", "raw::hop_bytes(objects, result)", "kullneyra::hop_bytes(objects)"),
-            GO: ("// HopBytes is how many bytes Hops takes.\nfunc HopBytes(objects uint32) (uint64, error)",),
+            HEADER: ("kullneyra_hop_pages(uint32_t objects, uint64_t *result, size_t result_len);", "kullneyra_hop_pages_into(", "KULLNEYRA_PAGES_WORDS 1"),
+            RAW: ("pub fn kullneyra_hop_pages(objects: u32, result: *mut u64, result_len: usize) -> u32;", "pub fn hop_pages(objects: u32, result: &mut [u64]) -> u32"),
+            TYPED: ("/// How many pages [`hops`] takes.\npub fn hop_pages(objects: u32) -> Result<u64, Refusal>",),
+            COMPARE: ('"hop_pages",', "        &[0, 4, 7],\n        &[0, 4, 7],\n", "raw::hop_pages(objects, result)", "kullneyra::hop_pages(objects)"),
+            GO: ("// HopPages is how many pages Hops takes.\nfunc HopPages(objects uint32) (uint64, error)",),
         }.items():
             for part in parts:
                 self.assertTrue(part in self.text(path), part)
@@ -192,6 +192,7 @@ class Signatures(Boundary):
         row = 'make: |side, given, result| side.hop_words(given[0] as u32, result),'
         kept = self.text(UPDATE)
         self.assertIn(row, self.text(COMPARE))
+        calls = self.text(COMPARE).count("    NumberCall {")
         for new, is_one in (
             ("objects: u64, result: &mut [u64]", "side.hop_words(given[0], result)"),
             ("cards: usize, objects: u32, result: &mut [u64]", "side.hop_words(given[0] as usize, given[1] as u32, result)"),
@@ -208,7 +209,7 @@ class Signatures(Boundary):
                 self.assertEqual("Call::HopWords { .. } => 12," in text, not is_one)
                 self.assertEqual("plain::hop_words(" in text, not is_one)
                 self.assertEqual("reference::hop_words(" in text, bool(is_one))
-                self.assertEqual(text.count("    NumberCall {"), 4 if is_one else 3)
+                self.assertEqual(text.count("    NumberCall {"), calls - (not is_one))
                 self.assertIn(is_one, text)
             (self.top / UPDATE).write_text(kept, encoding="utf-8")
         # Several result words are not one number.
@@ -219,13 +220,13 @@ class Signatures(Boundary):
     def test_a_call_of_numbers_needs_no_other_file(self):
         shutil.copytree(TOP / "runtime/rust", self.top / "runtime/rust", dirs_exist_ok=True)
         (self.top / "libkullneyra.a").touch()
-        self.add_export(HOP_WORDS.replace("hop_words(", "hop_bytes(width: u64, "))
-        self.edit(TABLE, "[calls.hops]", f"{HOP_BYTES}[calls.hops]")
+        self.add_export(HOP_WORDS.replace("hop_words(", "hop_pages(width: u64, "))
+        self.edit(TABLE, "[calls.hops]", f"{HOP_PAGES}[calls.hops]")
         self.assertEqual(self.run_tool(), (0, ""))
         status, told = self.check_compare()
         self.assertNotEqual(status, 0)
-        self.assertEqual([line for line in told.splitlines() if line.startswith("error")][0], "error[E0425]: cannot find function `hop_bytes` in crate `reference`", told)
-        text = "pub fn hop_bytes(width: u64, objects: u32) -> Result<u64, u8> {\n    Ok(width * hop_words(objects)?)\n}\n\n/// How many work"
+        self.assertEqual([line for line in told.splitlines() if line.startswith("error")][0], "error[E0425]: cannot find function `hop_pages` in crate `reference`", told)
+        text = "pub fn hop_pages(width: u64, objects: u32) -> Result<u64, u8> {\n    Ok(width * hop_words(objects)?)\n}\n\n/// How many work"
         self.edit("runtime/rust/reference/src/hops.rs", "/// How many work", text)
         self.assertEqual(self.check_compare(), (0, ""))
 

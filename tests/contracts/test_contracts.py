@@ -8,7 +8,7 @@ import unittest
 from pathlib import Path
 
 import contracts
-from contracts import CITED, EXPORT, EXPORTS, HEADER, PROMISES, TOP, source_of
+from contracts import CITED, LENGTH, EXPORT, EXPORTS, HEADER, PROMISES, TOP, source_of
 from snapshot import DEFINITIONS, SNAPSHOT, definitions
 
 CALLS = contracts.calls((TOP / PROMISES).read_text(encoding="utf-8"))
@@ -87,8 +87,8 @@ class Contracts(unittest.TestCase):
                 self.assertIn(f"{call} is not there", found)
 
     def test_cited(self):
-        self.assertEqual(set(CITED), set(FUNCTIONS))
-        for name, records in CITED.items():
+        self.assertLess(set(CITED), set(FUNCTIONS))
+        for name, records in {name: CITED.get(name, LENGTH) for name in FUNCTIONS}.items():
             path, declaration = self.calls[name]
             for record in records:
                 def change(text, other):
@@ -110,7 +110,7 @@ class Contracts(unittest.TestCase):
                 end = text.index("\n{", text.index(declaration))
                 return text[: text.rindex("\n    ensures", 0, end)] + text[end:]
 
-            self.assertEqual(self.changed(path, change), [f"{name} does not cite {CITED[name][-1]}"])
+            self.assertEqual(self.changed(path, change), [f"{name} does not cite {CITED.get(name, LENGTH)[-1]}"])
             self.assertIn("ensures", self.changed(path, change, contracts.difference))
 
     def test_what_is_no_fault(self):
@@ -125,7 +125,7 @@ class Contracts(unittest.TestCase):
         wanted = ["kullneyra_more has a `requires`", f"kullneyra_more is not in {HEADER}", unnamed]
         self.assertEqual(self.changed(SOURCES[0], lambda text: text + one_more), wanted)
         promising = one_more.replace("requires", "ensures")
-        wanted[0] = "kullneyra_more has no row in CITED of tests/contracts/contracts.py"
+        wanted[0] = "kullneyra_more does not cite LengthIn"
         self.assertEqual(self.changed(SOURCES[0], lambda text: text + promising), wanted)
         lost = self.changed(HEADER, lambda text: text.replace("uint32_t kullneyra_sweep(", "uint64_t kullneyra_sweep(", 1))
         self.assertEqual(lost, [f"kullneyra_sweep is not in {HEADER}"])
@@ -174,7 +174,7 @@ class Contracts(unittest.TestCase):
             ("kullneyra/specs/Promise.antt", "  pub collected : Collected", "  pub collected : W ≡ 1 → Collected"),
             ("kullneyra/specs/Promise.antt", "  pub all-marked :", "  pub some-marked :"),
             ("kullneyra/specs/Calls.antt", "answerIn k result number = pick", "answerIn k result number = const 0 pick"),
-            ("kullneyra/specs/Calls.antt", "Rattle.hops.specs.Hops.{HopsOf}", "Rattle.hops.specs.Hops.{HopsLike as HopsOf}"),
+            ("kullneyra/specs/Calls.antt", "Rattle.layers.specs.Hops.{HopsOf}", "Rattle.layers.specs.Hops.{HopsLike as HopsOf}"),
         ):
             with self.subTest(new):
                 told = self.difference(Path("crates", path), old, new)

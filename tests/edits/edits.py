@@ -23,25 +23,37 @@ PARTS = ("src", "specs", "proofs")
 
 # The crates that need no edit, and why.
 WITHOUT_EDITS = {
+    "add": "its definitions are those of `changes` and `updates`",
+    "checkpoint": "its definitions are those of `saved`",
     "collect": "the program around `report`, which has the edits of its text",
     "deck": "a program that prints the cards of `cards`",
+    "ffi_mark": "passes on to `marker`, `begin`, `resume` and `sweep`",
     "ffi_schedule": "passes on to `cards` and `seed`",
     "ffi_store": "passes on to `catalogue`, `graph` and `market`",
     "ffi_update": "passes on to `hops` and `updates`",
     "laws": "has no word of the product",
     "marker": "its definitions are those of `machine` and `desk`",
-    "resume": "its definitions are those of `saved`",
+    "market": "its definitions are those of `matrix`, its leaves `parse` and `print`",
+    "report": "its definitions are those of `program`, its leaf `lines`",
     "turns": "its definitions are those of `machine`, its leaves `follow`, `idle`, `poll` and `step`",
 }
 
 # An error, with the lines that continue it; the name of the declaration before it is left out.
 ERROR = re.compile(r"^(?P<file>\S+?)(?::(?P<line>\d+):\d+)?: error: (?:`[^`]*`: )?(?P<text>.*(?:\n[^\S\n].*)*)", re.MULTILINE)
 
+# A function without a proof file is proved by a search. Where that finds nothing, the prover says so in a note, and the errors that it
+# tells are of those that cite the function: its `close` is not there.
+SEARCHED = re.compile(
+    r"^note: what antt said of a `search` in the proof that rattle made: (?P<file>\S+?):(?P<line>\d+):\d+: (?:`[^`]*`: )?(?P<text>.*(?:\n[^\S\n].*)*)",
+    re.MULTILINE,
+)
+CITED = re.compile(r"`close` was not admitted")
+
 # A fact that fails, in the prover's own words.
 FACTS = (
     r"the two (?:types|indices|terms) (?:first differ|differ only|differ|are)\b",
     r"expected type ``,? but this has type ``",
-    r"`` ≟ `` does not hold\b",
+    r"`` ≟ ``:? does not hold\b",
     r"^`omega`: the (?:goal|part `` of the goal) does not follow from what it read",
     r"`cc`: the equations do not join ``",
     r"^`search`: no proof of ``",
@@ -130,12 +142,14 @@ def log_fault(edit: Edit, crate: Path, folder: Path) -> Optional[str]:
             return f"has a log of another text of {file}: run rt must-fail {edit.crate}, or rt ci"
     text = log.read_text(encoding="utf-8")
     first = ERROR.search(text)
+    if first is None or CITED.match(first["text"]):
+        first = SEARCHED.search(text) or first
     if not text.strip():
         return "has an empty log"
     if "\nlogic=not-proved" not in text:
         return "was not refused by the prover"
     if first is None:
-        return "is refused without an error"
+        return "is refused without an error, and without a search that finds nothing"
     place = first["file"].removeprefix(f"{folder}/")
     told = " ".join(first["text"].split())[:160]
     if wrong := kind(first["text"]):

@@ -20,6 +20,7 @@ FACTS = (
     "`run`: computed as far as they go, the two types are `Path A old new`\n  (expected) and `Path A old old` (found)",
     "`home`: computed as far as they go, the two indices differ only where one has `s .workers`",
     "`kept`: expected type `old ≡ unlessRefused (suc k) new old`, but this has type `old ≡ old`\n  computed as far as they go",
+    "`returns`: `get 24 locals`\n  ≟ `not (c .is-sound .result)`: does not hold (this comparison, made",
     "`stored`: `startsFault ss` ≟ `raise (outside most-starts (length ss)) 13 0`\n  does not hold (this comparison, made",
     "`halves`: `omega`: the goal does not follow from what it read. All of that holds, and the goal fails, at `g .cutoff` = 1",
     "`halves`: `omega`: the part `.0` of the goal does not follow from what it read. All of that holds, and the part fails",
@@ -121,6 +122,18 @@ class Edits(unittest.TestCase):
         text = (self.place / ".log").read_text(encoding="utf-8")
         self.write("target/must-fail/one/more/.log", note + text)
         self.assertEqual(self.told(), [])
+
+    def test_a_function_without_a_proof_file(self):
+        """Its search tells what fails, in a note; the errors are of those that cite it."""
+        cites = "`other-spec`: `close` was not admitted (it has holes or was rejected), so this cannot be checked"
+        note = f"note: what antt said of a `search` in the proof that rattle made: {self.place}/src/lib.rt:2:8: `returns`: "
+        for errors in ((), (cites,)):
+            self.log(*errors, last=f"{note}`search`: no proof of `Post c`\n  was found. Every way was tried\n{LAST}")
+            self.assertEqual(self.told(), [])
+            self.log(*errors, last=f"{note}`limit` is not in scope\n{LAST}")
+            self.assert_told("one/more fails by an unknown name, at src/lib.rt:2: ")
+        self.log(cites)
+        self.assert_told("one/more fails by something that was not admitted")
 
     def test_an_error_without_a_line(self):
         self.write("target/must-fail/one/more/.log", f"{self.place}/proofs/limit/Proof.antt: error: this file exports no `limit-spec`\n{LAST}")

@@ -117,8 +117,7 @@ pairs-inside n (p ∷ ps) h =
     let t = both-true (isInside n p) (inside n ps) h in
     let q = both-true (within n (p .from)) (within n (p .to)) (t .0) in
     let a = both-true (ltb 0 (p .from)) (leb (p .from) n) (q .0) in
-    let b = both-true (ltb 0 (p .to)) (leb (p .to) n) (q .1) in
-    (
+    let b = both-true (ltb 0 (p .to)) (leb (p .to) n) (q .1) in (
       (
         omega (arith, ltb-true 0 (p .from) (a .0), leb-true (p .from) n (a .1)),
         omega (arith, ltb-true 0 (p .to) (b .0), leb-true (p .to) n (b .1)),

@@ -23,7 +23,6 @@ use Rattle.desk.specs.Checks.{scheduleFits}
 use Rattle.machine.specs.Call.{Call, graphOf, settingOf}
 use Rattle.machine.specs.Checked.{Checked}
 use Rattle.machine.proofs.Start.{sound-turns}
-use Rattle.machine.proofs.Waiting.{waits-all}
 use Rattle.worker.specs.Registers.{block-words, register-words}
 use Rattle.step.specs.declared.Setup.{Setup}
 use Rattle.step.specs.Held.{Memory}
@@ -36,7 +35,7 @@ use Rattle.saved.specs.Layout.{savedWords, stateOf}
 use Rattle.saved.specs.Sound.{SavedRun}
 use Rattle.saved.specs.Test.{saved?}
 use Rattle.saved.specs.Calls.{savingLengths, savedFault, resumeFault, resumed}
-use Rattle.saved.proofs.Kept.{from-saved, to-saved, fresh-run}
+use Rattle.saved.proofs.Kept.{from-saved, to-saved, fresh-run, saved-waits}
 use Rattle.saved.proofs.Joined.{afresh, joined, resumed-afresh, sound-finished}
 use Rattle.validate.specs.Checked as validated
 use Rattle.begin.specs.Answer.{Answers}
@@ -165,7 +164,7 @@ module _ {c : Call} {marks work tallies w : List ℕ} {v : Verdict}
               let ended = sym (ap (λ (t : Row). t .finished) (a .row-is)) ∙ done in
               rw (a .marks-are) (sound-finished c A (run-of f) (entries (c .schedule)) ended reach);
           waits = λ z k.
-              waits-all A (sound-turns A (run-of (sym same-fault ∙ z) .saved .sound) (take k (entries (c .schedule))));
+              saved-waits A (run-of (sym same-fault ∙ z)) (take k (entries (c .schedule)));
           joined = λ z. joined c A (run-of (sym same-fault ∙ z) .saved .sound) (passed found e .schedule-fits);
           afresh = λ xs q z.
               let X = subst (λ (l : List ℕ). SavedRun (graphOf c) (c .starts) (c .workers) (settingOf c) l (so-far xs)) (sym q) (fresh-run A xs) in
