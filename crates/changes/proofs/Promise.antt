@@ -26,7 +26,7 @@ use Rattle.machine.specs.Demand2.{LiveMarks}
 use Rattle.machine.proofs.Demand2.{marked-is}
 use Rattle.changes.specs.Pairs.{Pair, leading}
 use Rattle.changes.specs.Stores.{markBy, added, completed, new-mark, startMarks, marksAfresh}
-use Rattle.changes.specs.Promise.{ClosedUnder, Smallest, singly, Alike, AddPromise, RemovePromise}
+use Rattle.changes.specs.Promise.{ClosedUnder, Smallest, singly, Alike, AddPromise, RemovePromise, TakenSingly}
 use Rattle.changes.proofs.Touching.{marked-below, unmarked-at}
 use Rattle.changes.proofs.Pairing.{none, Inside}
 use Rattle.changes.proofs.Adding.{refers, leading-one, one-leading, closed-by, by-closed, added-objects, added-formed, added-refers}
@@ -220,6 +220,19 @@ singly-smallest (p ∷ ps) G F low ms n cl =
           rest .least q (s .least q f o d₁) (closed-both G F (p ∷ []) one ms n q o d₁) (λ u t x m. d u t (omega (arith, x)) m) v h;
     }
 
+-- each call with one of them is accepted
+singly-taken : (ps : List Pair) (G : Graph) → Formed G → Every (Inside (objects G)) ps → (ms : List ℕ) → length ms ≡ objects G
+    → Closed G (Marked ms) → TakenSingly G ms ps
+singly-taken [] G F low ms n cl = tt
+singly-taken (p ∷ ps) G F low ms n cl =
+    let one : Every (Inside (objects G)) (p ∷ []) = (low .0, tt) in
+    let G₁ = added G (p ∷ []) in
+    let objs = added-objects G F (p ∷ []) one in
+    let F₁ = added-formed G F (p ∷ []) one in
+    let rest = singly-taken ps G₁ F₁ (subst (λ (k : ℕ). Every (Inside k) ps) (sym objs) (low .1)) (completed G₁ ms)
+    (completed-long G₁ ms ∙ n ∙ sym objs) (completed-closed G₁ ms F₁ (n ∙ sym objs)) in
+    (well-formed G F, low .0, cl, rest)
+
 -- a pair as often as before is one of the same objects
 alike-inside : (n : ℕ) (ps qs : List Pair) → Alike ps qs → Every (Inside n) ps → Every (Inside n) qs
 alike-inside n ps qs same h =
@@ -239,7 +252,9 @@ add-promise G F ps low ms n cl =
       passes = well-formed (added G ps) (added-formed G F ps low);
       smallest = s;
       live = still-live G F ps low ms n;
-      any-order = λ qs same. smallest-one s (singly-smallest qs G F (alike-inside (objects G) ps qs same low) ms n cl) same;
+      any-order = λ qs same.
+          let inside = alike-inside (objects G) ps qs same low in
+          (singly-taken qs G F inside ms n cl, smallest-one s (singly-smallest qs G F inside ms n cl) same);
     }
 
 -- ---- taking out

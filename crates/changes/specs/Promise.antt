@@ -6,7 +6,7 @@ use mathlib.Core.Logic.{_↔_}
 use Prim.Native.Nat.{ℕ, _<_}
 use lib.ListN.{length, getD}
 use Rattle.laws.specs.Sum.{sum, hit}
-use Rattle.graph.specs.Graph.{Graph, wellFormed}
+use Rattle.graph.specs.Graph.{Graph, objects, wellFormed}
 use Rattle.graph.specs.Chain.{Closed}
 use Rattle.machine.specs.Demand2.{FinishedMarks, LiveMarks}
 use Rattle.machine.specs.Sound.{Marked}
@@ -35,6 +35,15 @@ unfolding added completed
 singly G ms [] = ms
 singly G ms (p ∷ ps) = singly (added G (p ∷ [])) (completed (added G (p ∷ [])) ms) ps
 
+-- and each such call is accepted: its store passes check 10, its pair names objects, and its marks pass check 17
+abbrev pub TakenSingly : Graph → List ℕ → List Pair → Type 0
+TakenSingly G ms [] = Unit {0}
+TakenSingly G ms (p ∷ ps) =
+    (wellFormed G ≡ true)
+    × ((p .from < objects G) × (p .to < objects G))
+    × Closed G (Marked ms)
+    × TakenSingly (added G (p ∷ [])) (completed (added G (p ∷ [])) ms) ps
+
 -- two lists have the same pairs, each as often
 abbrev pub Alike : List Pair → List Pair → Type 0
 Alike ps qs = (u t : ℕ) → leading u t ps ≡ leading u t qs
@@ -46,8 +55,8 @@ pub record AddPromise (G : Graph) (ps : List Pair) (ms r : List ℕ) : Type 0 wh
   pub smallest : Smallest G ps ms r
   -- the live set, if the marks were that before
   pub live : (starts : List ℕ) → LiveMarks G starts ms → LiveMarks (added G ps) starts r
-  -- the marks of the same pairs given singly, in any order
-  pub any-order : (qs : List Pair) → Alike ps qs → r ≡ singly G ms qs
+  -- the marks of the same pairs given singly, in any order; each of those calls is accepted
+  pub any-order : (qs : List Pair) → Alike ps qs → TakenSingly G ms qs × (r ≡ singly G ms qs)
 
 -- taking references out leaves the store G and the marks r
 pub record RemovePromise (G : Graph) (starts r : List ℕ) : Type 0 where

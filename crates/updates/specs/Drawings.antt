@@ -2,6 +2,7 @@
 use mathlib.Core.Path.{_≡_, refl}
 use mathlib.Core.List.{List, [], _∷_, map}
 use Prim.Native.Nat.{ℕ}
+use native.Mathlib.Omega.{arith}
 use lib.ListN.{replicate}
 use Rattle.laws.specs.Sum.{sum, hit}
 use Rattle.laws.specs.Span.{span, listing}
@@ -12,6 +13,7 @@ use Rattle.graph.specs.Chain.{closure, rounds, spread, spreadRun}
 use Rattle.desk.specs.Length.{lengthWith}
 use Rattle.updates.specs.declared.Lengths.{Lengths}
 use Rattle.changes.specs.Pairs.{pairsBelow, pairsOf, paired}
+use Rattle.changes.specs.Promise.{singly, Alike}
 use Rattle.changes.specs.Stores.{storeOf, added, completed, chosen, removed, startMarks, marksAfresh}
 use Rattle.updates.specs.Call.{addFault, removeFault, lengthFor}
 
@@ -45,6 +47,17 @@ pub completed-holds : completed (graph (0 ∷ 2 ∷ 3 ∷ 4 ∷ 6 ∷ 7 ∷ 8 �
     ≡ 1 ∷ 1 ∷ 2 ∷ 1 ∷ 255 ∷ 255 ∷ []
 unfolding completed listing closure rounds spread spreadRun
 completed-holds = refl
+
+-- the same two pairs given singly, in this order and in the other
+pub either-order :
+    singly S marksS (paired (4 ∷ 3 ∷ []) (1 ∷ 5 ∷ [])) ∷ singly S marksS (paired (3 ∷ 4 ∷ []) (5 ∷ 1 ∷ [])) ∷ []
+    ≡ (1 ∷ 1 ∷ 2 ∷ 1 ∷ 255 ∷ 255 ∷ []) ∷ (1 ∷ 1 ∷ 2 ∷ 1 ∷ 255 ∷ 255 ∷ []) ∷ []
+unfolding singly added completed storeOf pairsOf pairsBelow paired referencesOf starts grouped part below under sum hit listing closure rounds spread spreadRun
+either-order = refl
+
+pub orders-alike : Alike (paired (4 ∷ 3 ∷ []) (1 ∷ 5 ∷ [])) (paired (3 ∷ 4 ∷ []) (5 ∷ 1 ∷ []))
+unfolding paired sum
+orders-alike = λ u t. omega arith
 
 -- without the numbers 3, 1 and 3 again: 0→1, 1→3, 3→0, 5→4
 pub removed-holds : removed S (3 ∷ 1 ∷ 3 ∷ []) ≡ graph (0 ∷ 1 ∷ 2 ∷ 2 ∷ 3 ∷ 3 ∷ 4 ∷ []) (1 ∷ 3 ∷ 0 ∷ 4 ∷ [])
