@@ -23,10 +23,10 @@ HEAD = (
 DEFINITIONS: dict[str, Optional[tuple[str, ...]]] = {
     "kullneyra/specs/Promise.antt": None,
     "kullneyra/specs/Calls.antt": None,
-    "machine/specs/Collected.antt": ("Collected",),
+    "theorems/specs/Collected.antt": ("Collected",),
     "machine/specs/Demand2.antt": ("FinishedMarks", "LiveMarks", "Demand2"),
     "machine/specs/Demand3.antt": ("movedBound", "stretchBound", "fewestStretches", "handedBound", "Cut", "Demand3"),
-    "machine/specs/Waiting.antt": ("replyBound", "refusalBound", "Asked", "Reply", "Waits"),
+    "theorems/specs/Waiting.antt": ("replyBound", "refusalBound", "Asked", "Reply", "Waits"),
     "catalogue/specs/Acceptance.antt": ("Returned", "Acceptance"),
     "sweep/specs/Collection.antt": ("Collection",),
     "saved/specs/Sound.antt": ("SavedRun",),

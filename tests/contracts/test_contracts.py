@@ -167,8 +167,8 @@ class Contracts(unittest.TestCase):
             ("machine/specs/Demand3.antt", "fewestStretches R W = 7 * R + 4 * W - 2", "fewestStretches R W = 7 * R + 4 * W"),
             ("machine/specs/Demand3.antt", "handedBound R = 3 * R", "handedBound R = 4 * R"),
             ("machine/specs/Demand3.antt", "  pub once : (e : ℕ) → sum", "  pub once : (e : ℕ) → W ≡ 1 → sum"),
-            ("machine/specs/Waiting.antt", "replyBound g = 2 * g .batch + 1", "replyBound g = 2 * g .batch + 2"),
-            ("machine/specs/Waiting.antt", "refusalBound g = g .cutoff", "refusalBound g = 2 * g .cutoff"),
+            ("theorems/specs/Waiting.antt", "replyBound g = 2 * g .batch + 1", "replyBound g = 2 * g .batch + 2"),
+            ("theorems/specs/Waiting.antt", "refusalBound g = g .cutoff", "refusalBound g = 2 * g .cutoff"),
             ("graph/specs/Limits.antt", "most-objects = 65536", "most-objects = 65535"),
             ("desk/specs/Limits.antt", "most-workers = 16", "most-workers = 8"),
             ("kullneyra/specs/Promise.antt", "  pub collected : Collected", "  pub collected : W ≡ 1 → Collected"),
@@ -181,7 +181,7 @@ class Contracts(unittest.TestCase):
                 self.assertTrue(told and told.startswith(f"{SNAPSHOT}:"), told)
 
     def test_a_definition_that_is_gone(self):
-        told = self.difference(Path("crates/machine/specs/Waiting.antt"), "replyBound", "answerBound")
+        told = self.difference(Path("crates/theorems/specs/Waiting.antt"), "replyBound", "answerBound")
         self.assertIn("replyBound is not there", told)
 
     def test_every_definition_is_there(self):

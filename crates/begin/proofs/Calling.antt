@@ -16,7 +16,7 @@ use Rattle.machine.specs.Row.{refusedRow}
 use Rattle.machine.specs.Machine.{State, entries}
 use Rattle.machine.specs.Call.{Call, graphOf, final}
 use Rattle.machine.specs.Checked.{Checked}
-use Rattle.machine.proofs.Start.{sound, sound-start}
+use Rattle.theorems.proofs.Start.{sound, sound-start}
 use Rattle.step.specs.declared.Setup.{Setup}
 use Rattle.step.specs.declared.Progress.{Progress}
 use Rattle.step.specs.Counting.{Countable}

@@ -18,7 +18,7 @@ use Rattle.graph.proofs.Formed.{both-true}
 use Rattle.machine.specs.Machine.{Entry, entries}
 use Rattle.desk.specs.Checks.{scheduleFits}
 use Rattle.machine.specs.Demand3.{entriesOf, AllHave, joined, Cut}
-use Rattle.machine.proofs.Finishing.{cut-finishes}
+use Rattle.theorems.proofs.Finishing.{cut-finishes}
 use Rattle.cards.specs.Deck.{card-workers, deck-size, card, digits}
 use Rattle.cards.specs.Hand.{dealt, asking, circle, roundOf, turnsOf, Rounds}
 use Rattle.cards.proofs.Circle.{turned-long}

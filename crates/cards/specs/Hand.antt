@@ -16,7 +16,7 @@ use Rattle.desk.specs.Kept.{unlessRefused}
 use Rattle.desk.specs.Length.{LengthRow, lengthBy}
 use Rattle.machine.specs.Machine.{entries}
 use Rattle.machine.specs.Demand3.{Cut}
-use Rattle.machine.specs.Finishing.{Finishes}
+use Rattle.theorems.specs.Finishing.{Finishes}
 use Rattle.cards.specs.Deck.{card-workers, deck-size, card, digits, AllOrders}
 
 -- ---- the turns of a hand

@@ -23,7 +23,7 @@ use Rattle.graph.proofs.Reached.{closure-length, closure-holds, closure-least, 
 use Rattle.graph.proofs.View.{view-has, view-only}
 use Rattle.machine.specs.Sound.{Marked}
 use Rattle.machine.specs.Demand2.{LiveMarks}
-use Rattle.machine.proofs.Demand2.{marked-is}
+use Rattle.theorems.proofs.Demand2.{marked-is}
 use Rattle.changes.specs.Pairs.{Pair, leading}
 use Rattle.changes.specs.Stores.{markBy, added, completed, new-mark, startMarks, marksAfresh}
 use Rattle.changes.specs.Promise.{ClosedUnder, Smallest, singly, Alike, AddPromise, RemovePromise, TakenSingly}

@@ -18,7 +18,7 @@ use Rattle.machine.specs.Row.{countWords}
 use Rattle.machine.specs.Tally.{Tally, talliesWords}
 use Rattle.machine.specs.Machine.{State, Worker, idle, asking, denied, ended, given, busy, poll, look, claim, worker, stretch, memory as laidMemory}
 use Rattle.machine.specs.Sound.{sinceOf, Sound}
-use Rattle.machine.proofs.Facts.{runs-room, runs-limit, carried-limit, followed-limit, live-below}
+use Rattle.theorems.proofs.Facts.{runs-room, runs-limit, carried-limit, followed-limit, live-below}
 use Rattle.step.specs.declared.Setup.{Setup}
 use Rattle.step.specs.declared.Progress.{Progress}
 use Rattle.step.specs.declared.ring.Ring.{Ring}

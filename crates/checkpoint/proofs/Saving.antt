@@ -13,7 +13,7 @@ use Rattle.machine.specs.Tally.{talliesWords}
 use Rattle.machine.specs.Machine.{State, Worker, memory}
 use Rattle.saved.specs.Layout.{twoWords, workersWords, savedWords}
 use Rattle.saved.proofs.RoundTrip.{saved-length, workers-long, tallies-count, tallies-long, stretches-long}
-use Rattle.machine.proofs.Colours.{shade-limit, set-limit}
+use Rattle.theorems.proofs.Colours.{shade-limit, set-limit}
 use Rattle.step.specs.declared.ring.Ring.{Ring}
 use Rattle.step.specs.Ringing.{ringOf}
 use Rattle.step.specs.Counting.{Countable, countsOf}

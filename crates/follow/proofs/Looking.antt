@@ -15,7 +15,7 @@ use Rattle.machine.specs.Run.{Run, run, runFrom, leaving}
 use Rattle.machine.specs.Tally.{Tally, tally, tallied, talliesWords}
 use Rattle.machine.specs.Machine.{busy, look, claim, worker, markOf, claimMark, lookTurn, Claimed, claims, notClaimed, onwardRuns, follows}
 use Rattle.machine.specs.Owners.{claimTells}
-use Rattle.machine.proofs.Facts.{busy-below, busy-some, first-target}
+use Rattle.theorems.proofs.Facts.{busy-below, busy-some, first-target}
 use Rattle.worker.specs.Registers.{blockAt, putAt}
 use Rattle.worker.proofs.Blocks.{put-stored}
 use Rattle.step.specs.declared.Setup.{Setup}

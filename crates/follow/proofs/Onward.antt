@@ -20,9 +20,9 @@ use Rattle.machine.specs.Run.{Run, run, runFrom, carried}
 use Rattle.machine.specs.Tally.{tally, tallied}
 use Rattle.machine.specs.Machine.{Worker, idle, denied, busy, Cell, empty, from, phase, worker, onward, dismiss, dismissed, emptied, resting, onwardRuns, follows}
 use Rattle.machine.specs.Sound.{InTargets}
-use Rattle.machine.proofs.Facts.{busy-below, busy-sound, busy-carried, busy-carried-limit, busy-room, busy-runs-limit, first-run-limit, asker-asking, asker-below, asker-other, carrying-at}
-use Rattle.machine.proofs.Runs.{carried-append, carried-from}
-use Rattle.machine.proofs.Step.{phase-batch}
+use Rattle.theorems.proofs.Facts.{busy-below, busy-sound, busy-carried, busy-carried-limit, busy-room, busy-runs-limit, first-run-limit, asker-asking, asker-below, asker-other, carrying-at}
+use Rattle.theorems.proofs.Runs.{carried-append, carried-from}
+use Rattle.theorems.proofs.Step.{phase-batch}
 use Rattle.worker.specs.declared.registers.Block.{Block}
 use Rattle.worker.specs.declared.stretch.Top.{Top}
 use Rattle.worker.specs.Registers.{Room, blockAt, putAt, Stored}

@@ -9,7 +9,7 @@ use Rattle.graph.specs.Graph.{Graph, references, target}
 use Rattle.machine.specs.Run.{Run, run}
 use Rattle.machine.specs.Machine.{State, given, busy, empty, poll, worker}
 use Rattle.machine.specs.Sound.{InTargets}
-use Rattle.machine.proofs.Facts.{given-below, given-sound, given-runs-limit}
+use Rattle.theorems.proofs.Facts.{given-below, given-sound, given-runs-limit}
 use Rattle.worker.specs.declared.stretch.Top.{Top}
 use Rattle.worker.specs.Stretch.{TopIs}
 use Rattle.worker.specs.Registers.{blockAt, storeAt}

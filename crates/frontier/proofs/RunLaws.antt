@@ -19,7 +19,7 @@ use Rattle.slices.specs.Bits.{bit, Inserts}
 use Rattle.graph.specs.Graph.{Graph, Leaves, references}
 use Rattle.graph.proofs.OverMarked.{after-limit}
 use Rattle.machine.specs.Sound.{Marked, Within, Whole}
-use Rattle.machine.proofs.Room.{leaves-one}
+use Rattle.theorems.proofs.Room.{leaves-one}
 use Rattle.frontier.specs.Runs.{HasOwner, Owns, Carried, Roomy, runOf, RunFound, StretchesThere}
 
 -- ---- `object_of`

@@ -15,7 +15,7 @@ use Rattle.slices.proofs.BitWords.{bit-low}
 use Rattle.graph.specs.Graph.{Graph}
 use Rattle.machine.specs.Run.{Run, carried, pairs}
 use Rattle.machine.specs.Sound.{Within, Whole, WholeButLast, WholeInside, runsSum}
-use Rattle.machine.proofs.Runs.{runs-append, whole-tail}
+use Rattle.theorems.proofs.Runs.{runs-append, whole-tail}
 use Rattle.worker.proofs.Pairs.{length-pairs}
 use Rattle.worker.specs.Registers.{status-given}
 use Rattle.saved.specs.Layout.{runsIn}

@@ -12,8 +12,8 @@ use Rattle.graph.specs.Graph.{Graph}
 use Rattle.machine.specs.Ring.{Colour, white, black, shade, colourOf, passedOn}
 use Rattle.machine.specs.Run.{Run}
 use Rattle.machine.specs.Machine.{State, Worker, idle, asking, denied, ended, given, busy, empty, from, Phase, poll, look, claim, worker, runsOf, stopped, becomes, passes, asks, homeTurn, holderTurn, idleTurn}
-use Rattle.machine.proofs.Facts.{below-workers, busy-below, busy-some}
-use Rattle.machine.proofs.Colours.{shade-limit}
+use Rattle.theorems.proofs.Facts.{below-workers, busy-below, busy-some}
+use Rattle.theorems.proofs.Colours.{shade-limit}
 use Rattle.worker.specs.declared.registers.Block.{Block}
 use Rattle.worker.specs.Registers.{blockAt, putAt}
 use Rattle.worker.proofs.Blocks.{put-stored}

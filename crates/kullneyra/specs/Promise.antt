@@ -15,8 +15,8 @@ use Rattle.machine.specs.Tally.{Tally, talliesWords}
 use Rattle.machine.specs.Machine.{State, Entry, entries}
 use Rattle.machine.specs.Sound.{Marked}
 use Rattle.machine.specs.Demand2.{outcome}
-use Rattle.machine.specs.Collected.{Collected}
-use Rattle.machine.specs.Waiting.{Waits}
+use Rattle.theorems.specs.Collected.{Collected}
+use Rattle.theorems.specs.Waiting.{Waits}
 use Rattle.machine.specs.Call.{Call, scheduledBy, graphOf, settingOf, final}
 use Rattle.sweep.specs.Sweep.{Row as SweepRow}
 use Rattle.sweep.specs.Collection.{Collection}

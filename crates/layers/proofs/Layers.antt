@@ -19,7 +19,7 @@ use Rattle.graph.specs.Chain as graph
 use Rattle.graph.specs.Formed.{Formed}
 use Rattle.graph.specs.Limits.{most-objects}
 use Rattle.graph.proofs.Formed.{below-all}
-use Rattle.machine.proofs.Demand2.{marked-is}
+use Rattle.theorems.proofs.Demand2.{marked-is}
 use Rattle.bag.specs.Bag.{sizeOf, Bag, times, contents, empty}
 use Rattle.layers.specs.Hops.{none, Chain, here, on, hopOf, HopsOf}
 use Rattle.layers.specs.Search.{leadsTo, unknown, Growable, Grown, Walkable, Apart, Searchable, Layer}

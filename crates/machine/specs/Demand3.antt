@@ -4,6 +4,7 @@ use mathlib.Core.Bool.{true}
 use mathlib.Core.List.{List, [], _∷_, _++_}
 use mathlib.Core.Logic.{_↔_}
 use Prim.Native.Nat.{ℕ, zero, suc, _+_, _-_, _*_, _≤_, _<_}
+use native.Mathlib.Omega.{arith}
 use lib.ListN.{length}
 use Rattle.laws.specs.Blocks.{laid}
 use Rattle.laws.specs.Sum.{sum, hit}
@@ -37,6 +38,11 @@ entriesOf b xs = sum (λ (x : Entry). hit b (x .worker)) xs
 abbrev pub AllHave : ℕ → List (List Entry) → Type 0
 AllHave W [] = Unit {0}
 AllHave W (xs ∷ xss) = ((b : ℕ) → b < W → 0 < entriesOf b xs) × AllHave W xss
+
+-- a stretch with a turn of worker 0 alone is none for two workers
+pub last-worker-lacks : AllHave 2 ((record { worker = 0; named = 0 } ∷ []) ∷ []) → ⊥
+unfolding sum hit
+last-worker-lacks (each, _) = omega (arith, each 1 (omega arith))
 
 -- the stretches laid end to end
 unfoldable pub joined : List (List Entry) → List Entry

@@ -1,12 +1,10 @@
 pub mod Accepted
 pub mod Call
 pub mod Checked
-pub mod Collected
 pub mod Demand2
 pub mod Demand3
 pub mod Drawings
 pub mod Events
-pub mod Finishing
 pub mod Lamp
 pub mod Machine
 pub mod Move
@@ -21,4 +19,3 @@ pub mod Tally
 pub mod Run
 pub mod Sound
 pub mod Split
-pub mod Waiting

@@ -1,4 +1,5 @@
 -- SPECIFICATION 4, rule by rule: state, start, turns, sharing, work memory and result. A worker is the drawing's box.
+use mathlib.Core.Path.{_≡_, refl}
 use Prim.Native.Nat.{ℕ, zero, suc, _+_, _-_, min}
 use mathlib.Core.Bool.{Bool, true, false}
 use mathlib.Core.List.{List, [], _∷_, _++_}
@@ -100,6 +101,11 @@ markOf s v = getD (s .marks) v 1
 unfoldable pub live : List ℕ → ℕ
 unfolding sum
 live ms = sum set? ms
+
+-- a mark above 1 counts once
+pub live-counts : live (0 ∷ 2 ∷ 1 ∷ []) ≡ 2
+unfolding live
+live-counts = refl
 
 -- ---- The start: only the starts are marked, worker 0 carries their runs; every cell empty, every since and batch 0.
 

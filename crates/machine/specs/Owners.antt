@@ -1,5 +1,5 @@
 -- SPECIFICATION 4.3 and 4.6: who claimed what. What a claim tells, which claims the turns win, and what the marks then say.
-use mathlib.Core.Path.{_≡_}
+use mathlib.Core.Path.{_≡_, refl}
 use mathlib.Core.Bool.{Bool, true, false}
 use mathlib.Core.List.{List, [], _∷_, _++_}
 use mathlib.Core.Logic.{_↔_}
@@ -23,6 +23,10 @@ pub record ClaimRow : Type 0 where
 abbrev pub claimTells : ℕ → ℕ → ClaimRow
 claimTells zero b = record { won = true; owner = claimMark b }
 claimTells (suc x) b = record { won = false; owner = suc x }
+
+-- worker 1 claims an object that nobody has, and one that worker 2 has
+pub claims-tell : claimTells 0 1 ∷ claimTells 3 1 ∷ [] ≡ record { won = true; owner = 2 } ∷ record { won = false; owner = 3 } ∷ []
+claims-tell = refl
 
 -- ---- the claims that turns win
 

@@ -1,4 +1,5 @@
-// The turn machine: definitions in specs/, what is proved of them in proofs/. Here stands only what a result is made of.
+// The turn machine: definitions in specs/; what is proved of them stands in the crate `theorems`. Here stands only what a
+// result is made of.
 pub mod frontier;
 
 // The counts of a collection: marks set, references followed, polls that shared, asks refused, turns

@@ -13,9 +13,9 @@ use Rattle.machine.specs.Row.{freshCounts}
 use Rattle.machine.specs.Run.{Run, run, carried}
 use Rattle.machine.specs.Machine.{State, Worker, idle, ended, busy, empty, poll, carries?, live, withRuns, start}
 use Rattle.machine.specs.Sound.{InTargets}
-use Rattle.machine.proofs.Marks.{set-some}
-use Rattle.machine.proofs.Runs.{length-carried, carried-length}
-use Rattle.machine.proofs.Start.{none-marked, start-inside}
+use Rattle.theorems.proofs.Marks.{set-some}
+use Rattle.theorems.proofs.Runs.{length-carried, carried-length}
+use Rattle.theorems.proofs.Start.{none-marked, start-inside}
 use Rattle.worker.specs.declared.registers.Block.{Block}
 use Rattle.worker.specs.declared.stretch.Top.{Top}
 use Rattle.worker.specs.Registers.{Room, storeAt, Stored}

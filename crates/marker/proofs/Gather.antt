@@ -13,10 +13,10 @@ use Rattle.graph.specs.Graph.{Graph, objects, references, first, after, degree}
 use Rattle.graph.specs.Chain.{marksAt}
 use Rattle.machine.specs.Run.{Run, run, runFrom, carried, leaving}
 use Rattle.machine.specs.Machine.{live, newRun, startRuns, unmarked}
-use Rattle.machine.proofs.Facts.{live-limit}
-use Rattle.machine.proofs.Marks.{live-more, live-again}
-use Rattle.machine.proofs.Runs.{carried-append}
-use Rattle.machine.proofs.Start.{marks-at-more, start-runs-more, start-room, start-carried, accepted-front}
+use Rattle.theorems.proofs.Facts.{live-limit}
+use Rattle.theorems.proofs.Marks.{live-more, live-again}
+use Rattle.theorems.proofs.Runs.{carried-append}
+use Rattle.theorems.proofs.Start.{marks-at-more, start-runs-more, start-room, start-carried, accepted-front}
 use Rattle.worker.specs.Stretch.{EndsWith}
 use Rattle.worker.proofs.Ends.{ends-none, ends-more}
 use Rattle.marker.specs.declared.start.Gathered.{Gathered}

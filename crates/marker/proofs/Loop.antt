@@ -19,9 +19,9 @@ use Rattle.machine.specs.Accepted.{Accepted}
 use Rattle.machine.specs.Sound.{Sound}
 use Rattle.desk.specs.Checks.{scheduleFits}
 use Rattle.desk.proofs.Schedule.{pair-is}
-use Rattle.machine.proofs.Kept.{sound-turn}
-use Rattle.machine.proofs.Progress.{counts-grow}
-use Rattle.machine.proofs.Ended.{ended-turns}
+use Rattle.theorems.proofs.Kept.{sound-turn}
+use Rattle.theorems.proofs.Progress.{counts-grow}
+use Rattle.theorems.proofs.Ended.{ended-turns}
 use Rattle.step.specs.declared.Setup.{Setup}
 use Rattle.step.specs.Counting.{running?}
 use Rattle.step.specs.declared.Progress.{Progress}

@@ -25,10 +25,10 @@ use Rattle.machine.specs.Row.{refusedRow}
 use Rattle.machine.specs.Sound.{Sound}
 use Rattle.machine.specs.Call.{Call, graphOf, fault, final, lengths, answerFor}
 use Rattle.machine.specs.Checked.{Checked}
-use Rattle.machine.proofs.Accept.{checked}
-use Rattle.machine.proofs.Facts.{runs-room}
-use Rattle.machine.proofs.Start.{sound-start, sound-turns}
-use Rattle.machine.proofs.Collected.{collected}
+use Rattle.theorems.proofs.Accept.{checked}
+use Rattle.theorems.proofs.Facts.{runs-room}
+use Rattle.theorems.proofs.Start.{sound-start, sound-turns}
+use Rattle.theorems.proofs.Collected.{collected}
 use Rattle.worker.specs.Registers.{block-words, register-words}
 use Rattle.step.specs.declared.Setup.{Setup}
 use Rattle.step.specs.declared.Progress.{Progress}

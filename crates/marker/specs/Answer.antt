@@ -10,7 +10,7 @@ use Rattle.desk.specs.declared.Lengths.{Lengths}
 use Rattle.desk.specs.declared.Settings.{Settings}
 use Rattle.machine.specs.Machine.{entries}
 use Rattle.machine.specs.Row.{Row, refusedRow}
-use Rattle.machine.specs.Collected.{Collected}
+use Rattle.theorems.specs.Collected.{Collected}
 use Rattle.machine.specs.Call.{Call, graphOf, settingOf, firstFault, fault, final, marking, marksAfter, workAfter, talliesAfter}
 use Rattle.marker.specs.declared.Marked.{Marked}
 use Rattle.marker.specs.declared.Marked.the-variants.{Finished, Unfinished, Refused}

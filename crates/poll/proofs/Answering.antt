@@ -14,10 +14,10 @@ use Rattle.graph.specs.Graph.{Graph, target}
 use Rattle.machine.specs.Run.{Run, run, runFrom, carried, keep, half}
 use Rattle.machine.specs.Tally.{tally}
 use Rattle.machine.specs.Machine.{State, asking, denied, busy, Cell, empty, from, poll, phase, worker, giver, receiver, answer, shares}
-use Rattle.machine.proofs.Facts.{busy-below, busy-carried, busy-carried-limit, since-limit, followed-limit, asker-asking, asker-below, asker-other}
-use Rattle.machine.proofs.Rested.{written-there}
-use Rattle.machine.proofs.Runs.{halves}
-use Rattle.machine.proofs.Step.{phase-batch, share-pays}
+use Rattle.theorems.proofs.Facts.{busy-below, busy-carried, busy-carried-limit, since-limit, followed-limit, asker-asking, asker-below, asker-other}
+use Rattle.theorems.proofs.Rested.{written-there}
+use Rattle.theorems.proofs.Runs.{halves}
+use Rattle.theorems.proofs.Step.{phase-batch, share-pays}
 use Rattle.worker.specs.declared.stretch.Top.{Top}
 use Rattle.worker.specs.Registers.{blockAt, putAt, storeAt, Word, word, beginWords, putsAt, Stored}
 use Rattle.worker.specs.declared.registers.Block.{Block}

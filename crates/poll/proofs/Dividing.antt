@@ -11,7 +11,7 @@ use Rattle.laws.specs.Sum.{sum}
 use Rattle.machine.specs.Run.{Run, run, carried, keep, rest}
 use Rattle.machine.specs.declared.frontier.Held.{Held}
 use Rattle.machine.specs.Split.{held, lastSize}
-use Rattle.machine.proofs.Split.{keep-first, held-tells}
+use Rattle.theorems.proofs.Split.{keep-first, held-tells}
 use Rattle.worker.specs.declared.stretch.Top.{Top}
 use Rattle.worker.specs.Stretch.{Holds, topWith, Told, below, Sharing, InFront, Split, Copyable, Cuttable, CutFound, Cleft, KeptAbove}
 use Rattle.worker.proofs.Pairs.{holds-none, holds-same}

@@ -22,9 +22,9 @@ use Rattle.machine.specs.Call.{Call, settingOf, final}
 use Rattle.machine.specs.Machine.{result, entries}
 use Rattle.machine.specs.Demand2.{FinishedMarks}
 use Rattle.machine.specs.Accepted.{Accepted}
-use Rattle.machine.proofs.Accept.{checked}
-use Rattle.machine.proofs.Demand2.{finished-live}
-use Rattle.machine.proofs.Tallies.{tallies}
+use Rattle.theorems.proofs.Accept.{checked}
+use Rattle.theorems.proofs.Demand2.{finished-live}
+use Rattle.theorems.proofs.Tallies.{tallies}
 use Rattle.sweep.specs.Sweep.{dead}
 use Rattle.sweep.proofs.Collection.{dead-upwards, dead-exactly}
 use Rattle.lines.specs.Lines.{countLines, tallyLines}

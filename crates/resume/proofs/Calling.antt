@@ -22,7 +22,7 @@ use Rattle.machine.specs.Demand2.{outcome}
 use Rattle.desk.specs.Checks.{scheduleFits}
 use Rattle.machine.specs.Call.{Call, graphOf, settingOf}
 use Rattle.machine.specs.Checked.{Checked}
-use Rattle.machine.proofs.Start.{sound-turns}
+use Rattle.theorems.proofs.Start.{sound-turns}
 use Rattle.worker.specs.Registers.{block-words, register-words}
 use Rattle.step.specs.declared.Setup.{Setup}
 use Rattle.step.specs.Held.{Memory}

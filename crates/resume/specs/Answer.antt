@@ -11,7 +11,7 @@ use Rattle.machine.specs.Machine.{State, Entry, entries}
 use Rattle.machine.specs.Sound as state
 use Rattle.machine.specs.Demand2.{outcome}
 use Rattle.machine.specs.Call.{Call, scheduledBy, graphOf, settingOf}
-use Rattle.machine.specs.Waiting.{Waits}
+use Rattle.theorems.specs.Waiting.{Waits}
 use Rattle.marker.specs.declared.Marked.{Marked}
 use Rattle.marker.specs.Answer.{row}
 use Rattle.saved.specs.Layout.{savedWords}

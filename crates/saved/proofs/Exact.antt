@@ -26,7 +26,7 @@ use Rattle.machine.specs.Tally.{noTally}
 use Rattle.machine.specs.Machine.{Setting, State, Worker, idle, asking, denied, ended, given, busy, empty, from, worker, runsOf, carriedBy, carries?, carriedAll, live, stopped}
 use Rattle.machine.specs.Sound.{Marked, Within, Whole, WholeButLast, WholeInside, batchIn, Supplied, holds, waits, sinceOf, heldSum, carriedTimes, followedSum, handedSum, wonSum, distinctStarts, Sized}
 use Rattle.machine.specs.Demand3.{movedBound, handedBound}
-use Rattle.machine.proofs.Runs.{within-source}
+use Rattle.theorems.proofs.Runs.{within-source}
 use Rattle.saved.specs.Sound.{SavedSound}
 use Rattle.saved.specs.Test.{marked?, withinAt?, wholeAt?, within?, whole?, wholeButLast?, wholeInside?, leaves?, targetMarked?, supplied?, cellKnown?, claims?, clear?, conditions, sound?}
 

@@ -15,10 +15,10 @@ use Rattle.machine.specs.Sound.{Marked, Sound}
 use Rattle.desk.specs.Checks.{scheduleFits}
 use Rattle.machine.specs.Call.{Call, graphOf, settingOf}
 use Rattle.machine.specs.Demand2.{outcome}
-use Rattle.machine.proofs.Collected.{collected}
-use Rattle.machine.proofs.Demand2.{all-marked}
-use Rattle.machine.proofs.Progress.{turns-append}
-use Rattle.machine.proofs.Start.{sound, sound-turns}
+use Rattle.theorems.proofs.Collected.{collected}
+use Rattle.theorems.proofs.Demand2.{all-marked}
+use Rattle.theorems.proofs.Progress.{turns-append}
+use Rattle.theorems.proofs.Start.{sound, sound-turns}
 use Rattle.saved.specs.Layout.{savedWords}
 use Rattle.saved.specs.Sound.{SavedRun}
 use Rattle.saved.specs.Calls.{resumed, Afresh, whole, reachedBy, allFit, Joined}

@@ -16,11 +16,11 @@ use Rattle.machine.specs.Machine.{Setting, State, Entry, turns}
 use Rattle.machine.specs.Accepted.{Accepted}
 use Rattle.machine.specs.Sound.{Sound}
 use Rattle.machine.specs.Demand2.{outcome}
-use Rattle.machine.specs.Waiting.{Waits}
-use Rattle.machine.proofs.Facts.{runs-room}
-use Rattle.machine.proofs.Demand3.{demand3}
-use Rattle.machine.proofs.Start.{sound, sound-turns}
-use Rattle.machine.proofs.Waiting.{waits-all}
+use Rattle.theorems.specs.Waiting.{Waits}
+use Rattle.theorems.proofs.Facts.{runs-room}
+use Rattle.theorems.proofs.Demand3.{demand3}
+use Rattle.theorems.proofs.Start.{sound, sound-turns}
+use Rattle.theorems.proofs.Waiting.{waits-all}
 use Rattle.saved.specs.Layout.{savedWords, stateOf, Shaped}
 use Rattle.saved.specs.Sound.{SavedRun}
 use Rattle.saved.specs.Test.{sound?, held?, saved?}

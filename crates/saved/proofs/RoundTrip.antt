@@ -16,8 +16,8 @@ use Rattle.machine.specs.Ring.{Colour, white, black, shade, blackSet}
 use Rattle.machine.specs.Run.{Run, run, pairs}
 use Rattle.machine.specs.Tally.{noTally, tallyWords, talliesWords}
 use Rattle.machine.specs.Machine.{State, Worker, idle, asking, denied, ended, given, busy, empty, from, poll, look, claim, worker, runsOf, carriedBy, stretch, memory}
-use Rattle.machine.proofs.Colours.{set-at}
-use Rattle.machine.proofs.Runs.{length-carried}
+use Rattle.theorems.proofs.Colours.{set-at}
+use Rattle.theorems.proofs.Runs.{length-carried}
 use Rattle.worker.proofs.Pairs.{length-pairs}
 use Rattle.saved.specs.Layout.{twoWords, ringWords, workerWords, workersWords, savedWords, numberAt, runsIn, workerFrom, restedFrom, workerWord, stretchIn, workerIn, restedIn, tallyNumber, tallyIn, countsIn, colourFrom, ringIn, stateOf, Shaped, colourIn}
 use Rattle.machine.specs.Sound.{Supplied, Sized}

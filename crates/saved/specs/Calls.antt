@@ -16,7 +16,7 @@ use Rattle.machine.specs.Machine.{State, Entry, turns, entries, result, memory}
 use Rattle.desk.specs.Checks.{scheduleFits}
 use Rattle.machine.specs.Call.{Call, scheduledBy, graphOf, settingOf, firstFault}
 use Rattle.machine.specs.Demand2.{outcome}
-use Rattle.machine.specs.Collected.{Collected}
+use Rattle.theorems.specs.Collected.{Collected}
 use Rattle.saved.specs.Layout.{savedWords, stateOf}
 use Rattle.saved.specs.Test.{saved?}
 

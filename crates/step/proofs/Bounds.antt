@@ -8,7 +8,7 @@ use Rattle.laws.proofs.Sum.{sum-share}
 use Rattle.graph.specs.Graph.{Graph}
 use Rattle.machine.specs.Machine.{State, ended, worker}
 use Rattle.machine.specs.declared.Counts.{Counts}
-use Rattle.machine.proofs.Facts.{carrying-limit}
+use Rattle.theorems.proofs.Facts.{carrying-limit}
 use Rattle.worker.specs.Registers.{Room}
 use Rattle.step.specs.declared.Setup.{Setup}
 use Rattle.step.specs.Counting.{running?, Roomy}

@@ -17,8 +17,8 @@ use Rattle.machine.specs.Tally.{Tally, tally, noTally, tallied}
 use Rattle.machine.specs.Machine.{State}
 use Rattle.machine.specs.Accepted.{Accepted}
 use Rattle.machine.specs.Sound.{Sound}
-use Rattle.machine.proofs.Facts.{live-below, followed-limit}
-use Rattle.machine.proofs.Tallied.{more, raised-sum}
+use Rattle.theorems.proofs.Facts.{live-below, followed-limit}
+use Rattle.theorems.proofs.Tallied.{more, raised-sum}
 use Rattle.step.specs.declared.Setup.{Setup}
 use Rattle.step.specs.declared.Progress.{Progress}
 use Rattle.step.specs.Counting.{countsOf, tallyWord, Summable, Countable, movedOn, endedOne, followedOn}

@@ -9,7 +9,7 @@ use Rattle.laws.proofs.Sum.{sum-share}
 use Rattle.graph.specs.Graph.{Graph}
 use Rattle.machine.specs.Tally.{Tally, noTally, addTally, tallied, tallyWords, talliesWords}
 use Rattle.machine.specs.Machine.{State}
-use Rattle.machine.proofs.Facts.{followed-limit}
+use Rattle.theorems.proofs.Facts.{followed-limit}
 use Rattle.step.specs.declared.Setup.{Setup}
 use Rattle.step.specs.Held.{Memory, Holds, Scene}
 use Rattle.step.specs.Raising.{tallyAt, Raisable, raisedWords}

@@ -7,7 +7,7 @@ use native.Mathlib.Omega.{arith}
 use lib.ListN.{length, getD, set, length-set}
 use lib.Pow.{shl-exact, pow-mono}
 use Rattle.machine.specs.Ring.{Colour, white, black, shade, colourOf, darkened, freshRing, blackened, passedOn, blackSet}
-use Rattle.machine.proofs.Colours.{shade-limit, set-at, set-limit, set-none, set-changed}
+use Rattle.theorems.proofs.Colours.{shade-limit, set-at, set-limit, set-none, set-changed}
 use Rattle.step.specs.declared.ring.Ring.{Ring as Words}
 use Rattle.step.specs.Ringing.{ringWith, ringOf, RingAt}
 

@@ -5,7 +5,7 @@ use Prim.Native.Nat.{ℕ}
 use native.Mathlib.Omega.{arith}
 use Rattle.graph.specs.Graph.{Graph}
 use Rattle.machine.specs.Machine.{State, idle, denied, worker}
-use Rattle.machine.proofs.Facts.{below-workers}
+use Rattle.theorems.proofs.Facts.{below-workers}
 use Rattle.worker.specs.Registers.{putAt}
 use Rattle.worker.proofs.Blocks.{put-stored}
 use Rattle.step.specs.declared.Setup.{Setup}

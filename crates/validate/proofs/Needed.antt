@@ -15,7 +15,7 @@ use Rattle.machine.specs.Tally.{Tally}
 use Rattle.machine.specs.Machine.{Setting, Worker, ended, worker, runsOf, carriedBy, stretch}
 use Rattle.machine.specs.Sound.{Within, WholeInside, batchIn, Supplied, waits, holds, Sound}
 use Rattle.machine.specs.Ring.{shade, blackSet}
-use Rattle.machine.proofs.Colours.{shade-limit, set-limit}
+use Rattle.theorems.proofs.Colours.{shade-limit, set-limit}
 use Rattle.laws.specs.Blocks.{laid}
 use Rattle.saved.specs.Layout.{savedWords, Shaped, workerWord, stretchIn, workerIn, restedIn, ringIn, stateOf, runsIn}
 use Rattle.saved.proofs.Kept.{shaped}

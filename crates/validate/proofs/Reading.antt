@@ -15,7 +15,7 @@ use Rattle.laws.proofs.Sum.{hit-same, hit-swap}
 use Rattle.machine.specs.Run.{Run, carried}
 use Rattle.machine.specs.Machine.{Worker, idle, asking, denied, ended, given, busy, Phase, poll, look, claim, runsOf, carriedBy, stopped}
 use Rattle.machine.specs.Sound.{batchOf, batchIn, Supplied, holds, cellHolds, waits, sinceOf}
-use Rattle.machine.proofs.Runs.{length-carried}
+use Rattle.theorems.proofs.Runs.{length-carried}
 use Rattle.worker.specs.Status.{cellWord, phaseWord}
 use Rattle.saved.specs.Layout.{workerWords, workerFrom, restedFrom, cellFrom}
 use Rattle.protocol.specs.Heads.{Head}

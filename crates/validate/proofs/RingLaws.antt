@@ -18,7 +18,7 @@ use Rattle.machine.specs.Ring.{white, shade, blackSet, blackBelow}
 use Rattle.machine.specs.Run.{carried}
 use Rattle.machine.specs.Machine.{worker, carriedBy, stopped}
 use Rattle.machine.specs.Sound.{Supplied}
-use Rattle.machine.proofs.Runs.{length-carried}
+use Rattle.theorems.proofs.Runs.{length-carried}
 use Rattle.saved.specs.Layout.{ringWords, colourFrom, colourIn, ringIn, workerWord, stretchIn, workerIn, stateOf, runsIn}
 use Rattle.protocol.specs.Heads.{HeadsSound, endedWords}
 use Rattle.protocol.specs.Ring.{ringWord, blackBits, ClearAbove, RingSound}

@@ -18,7 +18,7 @@ use Rattle.machine.specs.declared.frontier.Held.{Held}
 use Rattle.machine.specs.declared.frontier.Held.the-variants.{Front, Back, Middle}
 use Rattle.machine.specs.Run.{Run, run, carried, keep, rest}
 use Rattle.machine.specs.Split.{held, lastSize}
-use Rattle.machine.proofs.Split.{last-within}
+use Rattle.theorems.proofs.Split.{last-within}
 use Rattle.worker.specs.declared.stretch.Top.{Top}
 use Rattle.worker.specs.Stretch.{Holds, topWith, Told, below, Sharing, InFront, Split, CutFound, KeptAbove}
 use Rattle.worker.proofs.Pairs.{holds-pop, pop-first, pop-end}

@@ -4,7 +4,7 @@ use native.Mathlib.Omega.{arith}
 use mathlib.Core.Path.{refl, ap}
 use Rattle.worker.specs.declared.registers.Block.{Block}
 use Rattle.step.proofs.Raising.{raisable}
-use Rattle.machine.proofs.Facts.{busy-carried-limit}
+use Rattle.theorems.proofs.Facts.{busy-carried-limit}
 use Rattle.step.proofs.Bounds.{block-room, roomy, ring-at}
 use borrow.Author.Needs.{needs}
 use Rattle.poll.proofs.share.Statement.{statement}
