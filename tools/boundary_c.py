@@ -129,12 +129,68 @@ def prototype(boundary: Boundary, call: Call) -> str:
     return "\n".join([comment(doc), filled(f"uint32_t kullneyra_{call.name}(", declared(call.all), ");"), ""])
 
 
+RANGES = """\
+/* Bytes of memory that a call is given, from the first to behind the last; none has neither. */
+struct kullneyra_range {
+    uintptr_t from;
+    uintptr_t to;
+};
+
+static inline struct kullneyra_range kullneyra_range(const void *at, size_t len, size_t size) {
+    struct kullneyra_range range = {0, 0};
+    if (len != 0) {
+        range.from = (uintptr_t)at;
+        range.to = len <= (UINTPTR_MAX - range.from) / size ? range.from + len * size : UINTPTR_MAX;
+    }
+    return range;
+}
+
+/* Whether a call must not be made: one of the ranges that it writes, which stand in front of those that it only reads,
+ * or its answer, has a byte in common with another. An answer that overlaps none is zeros then. */
+static inline int kullneyra_shared(const struct kullneyra_range *ranges, size_t written, size_t all, void *answer,
+                                   size_t size) {
+    const struct kullneyra_range own = kullneyra_range(answer, answer != NULL, size);
+    for (size_t k = 0; k < all; k++)
+        if (own.from < ranges[k].to && ranges[k].from < own.to)
+            return 1;
+    for (size_t i = 0; i < written; i++)
+        for (size_t k = i + 1; k < all; k++)
+            if (ranges[i].from < ranges[k].to && ranges[k].from < ranges[i].to) {
+                if (answer != NULL)
+                    memset(answer, 0, size);
+                return 1;
+            }
+    return 0;
+}
+"""
+
+
+def apart(call: Call, moved: Optional[Record]) -> List[str]:
+    """Ends the call where a range that it writes overlaps another."""
+    lent = [one for one in call.parameters if one.lent]
+    if not lent:
+        return []
+    written = [one for one in lent if one.lent != "&"]
+    rows = []
+    for one in written + [one for one in lent if one.lent == "&"]:
+        number = 1 if moved and one.name == moved.moved else f"{one.name}_len"
+        rows.append(f"        kullneyra_range({one.name}, {number}, sizeof *{one.name}),")
+    answer = "answer, sizeof *answer" if call.result else "NULL, 0"
+    return [
+        "    const struct kullneyra_range ranges[] = {",
+        *rows,
+        "    };",
+        f"    if (kullneyra_shared(ranges, {len(written)}, {len(lent)}, {answer}))",
+        "        return KULLNEYRA_BUFFER;",
+    ]
+
+
 def into(boundary: Boundary, call: Call) -> str:
-    """The form that gives its answer in a struct, and takes a record that it moves as one."""
+    """The form that looks at what overlaps, gives its answer in a struct, and takes a record that it moves as one."""
     moved, record = boundary.moved(call), boundary.answer(call)
     takes = declared(call.parameters, moved)
     gives = passed(call.parameters, moved, "state", length(moved.words) if moved else "")
-    before, after = [], []
+    before, after = apart(call, moved), []
     if record:
         takes.append(f"struct kullneyra_{record.name} *answer")
         gives += ["words", length(record.words)]
@@ -174,9 +230,11 @@ def header(boundary: Boundary) -> str:
     parts.append(
         comment(
             "The same calls with a struct for the answer, which is written in every case: what the call answers where the"
-            " number is 0, and zeros beside a fault."
+            " number is 0, and zeros beside a fault. Where a range that a call writes overlaps another one, the number is"
+            " KULLNEYRA_BUFFER, and nothing is touched but an answer that overlaps nothing: it is zeros."
         )
         + "\n"
     )
-    parts += [into(boundary, call) for call in boundary.calls if call.result or boundary.moved(call)]
+    parts.append(RANGES)
+    parts += [into(boundary, call) for call in boundary.calls]
     return "\n".join(parts) + "\n"

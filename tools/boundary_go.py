@@ -96,7 +96,7 @@ def function(boundary: Boundary, call: Call) -> str:
     if call.result or moved:
         lines.append(filled(f"\ta := C.{call.name}_of(", gives, ")", "\t\t"))
     else:
-        lines.append(filled(f"\tnumber := C.kullneyra_{call.name}(", gives, ")", "\t\t"))
+        lines.append(filled(f"\tnumber := C.kullneyra_{call.name}_into(", gives, ")", "\t\t"))
     if moved:
         own = ", ".join(f"s.{camel(name)}" for name in moved.fields)
         lines.append(f"\t{own} = " + ", ".join(f"{TYPES[moved.type]}(a.{moved.moved}.{name})" for name in moved.fields))

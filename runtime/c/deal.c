@@ -57,8 +57,9 @@ static void *lend(void *memory, size_t count, size_t size) {
 
 /* Room for the turns of so many cards. Where there is no length, dealing is refused for the same reason. */
 static uint8_t *schedule_for(size_t cards, uint32_t boxes, uint64_t *length) {
-    *length = 0;
-    (void)kullneyra_schedule_length(cards, boxes, length, 1);
+    struct kullneyra_length answer;
+    (void)kullneyra_schedule_length_into(cards, boxes, &answer);
+    *length = answer.bytes;
     return lend(NULL, *length, 1);
 }
 
@@ -84,14 +85,14 @@ static void deal_cards(uint32_t boxes) {
     }
     uint64_t length;
     uint8_t *schedule = schedule_for(count, boxes, &length);
-    show(kullneyra_deal(cards, count, boxes, schedule, length), schedule, length);
+    show(kullneyra_deal_into(cards, count, boxes, schedule, length), schedule, length);
 }
 
 static void deal_seed(uint32_t boxes, uint32_t first, uint32_t second, uint32_t rounds) {
-    uint32_t seed[] = {first, second};
+    struct kullneyra_seed seed = {first, second};
     uint64_t length;
     uint8_t *schedule = schedule_for(rounds, boxes, &length);
-    show(kullneyra_deal_seed(seed, 2, rounds, boxes, schedule, length), schedule, length);
+    show(kullneyra_deal_seed_into(&seed, rounds, boxes, schedule, length), schedule, length);
 }
 
 int main(int count, char **word) {

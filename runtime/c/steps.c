@@ -105,8 +105,8 @@ int main(int count, char **word) {
     uint64_t hop_words;
     check(kullneyra_hop_words_into(store.n, &hop_words), "hop_words");
     uint32_t *hops = lend(store.n, 4), *links = lend(hop_words, 4);
-    check(kullneyra_hops(offsets, KULLNEYRA_OFFSETS(store.n), targets, KULLNEYRA_TARGETS(store.m), starts, store.starts,
-                         hops, store.n, links, hop_words),
+    check(kullneyra_hops_into(offsets, KULLNEYRA_OFFSETS(store.n), targets, KULLNEYRA_TARGETS(store.m), starts,
+                              store.starts, hops, store.n, links, hop_words),
           "hops");
     words("hops", hops, store.n);
     words("saved", saved, saved_words);

@@ -5,15 +5,16 @@
  * keeps nothing, allocates nothing and returns in every case. docs/SPECIFICATION.md says what each
  * call does.
  *
- * A buffer is a pointer and the number of its elements. The pointer may be null where that number is
- * 0, as an empty C++ vector has it. It is aligned for its element, and no buffer that a call writes
- * overlaps another buffer of the same call.
+ * A buffer is a pointer and the number of its elements, which can be read, and written where the call
+ * writes. The pointer is aligned for its element, and may be null where that number is 0, as an empty
+ * C++ vector has it. No call can find out by itself whether that is so.
  *
- * Each call has two forms. kullneyra_NAME_into gives what it answers in a struct, all of it 0 beside a
- * fault; this is the form to use. kullneyra_NAME is the proved function below it, for those who bind
- * it from another language: its result words are a buffer like the others. They are written only where
- * the call answers 0, and another length than theirs is KULLNEYRA_BUFFER, before anything else is
- * looked at.
+ * Each call has two forms. kullneyra_NAME_into is the one to use. It gives what it answers in a struct,
+ * all of it 0 beside a fault. Where a buffer that it writes overlaps another one, it answers
+ * KULLNEYRA_BUFFER before anything else is looked at. kullneyra_NAME is the proved function below it,
+ * for those who bind it from another language. What it does where buffers overlap is not defined. Its
+ * result words are a buffer like the others: they are written only where the call answers 0, and
+ * another length than theirs is KULLNEYRA_BUFFER, before anything else is looked at.
  *
  * `make install` puts header, library and kullneyra.pc in place: pkg-config --cflags --libs kullneyra.
  * Within the repository, link with target/staticlib/libkullneyra.a (make library).
@@ -39,7 +40,7 @@ extern "C" {
 #define KULLNEYRA_COUNT 4 /* number of objects or of references out of range */
 #define KULLNEYRA_OBJECT 5 /* index, from, to, a lease or a start is no object's number */
 #define KULLNEYRA_SIZE 6 /* a size above KULLNEYRA_LARGEST_SIZE */
-#define KULLNEYRA_BUFFER 7 /* a lent buffer is not as long as it must be */
+#define KULLNEYRA_BUFFER 7 /* a lent buffer is not as long as it must be, or overlaps another */
 #define KULLNEYRA_SETTING 8 /* workers, batch or cutoff out of range */
 #define KULLNEYRA_SCHEDULE 9 /* half an entry at the schedule's end, or one for a worker that is not there */
 #define KULLNEYRA_GRAPH 10 /* offsets and targets that are no graph */
@@ -70,7 +71,7 @@ static inline const char *kullneyra_refusal_text(uint32_t number) {
     case KULLNEYRA_SIZE:
         return "the size of an object is too large";
     case KULLNEYRA_BUFFER:
-        return "a lent buffer is not as long as it must be";
+        return "a lent buffer is not as long as it must be, or overlaps another";
     case KULLNEYRA_SETTING:
         return "workers, batch or cutoff out of range";
     case KULLNEYRA_SCHEDULE:
@@ -124,6 +125,22 @@ static inline const char *kullneyra_refusal_text(uint32_t number) {
 #define KULLNEYRA_TALLIES(w) (4 * (size_t)(w))
 #define KULLNEYRA_LIST(n) ((size_t)(n))
 #define KULLNEYRA_SAVED(n, w) (16 + 12 * (size_t)(w) + (size_t)(n) + KULLNEYRA_WORK(n, w))
+
+/* Who claimed an object, by its mark: the worker's number, or one of these. A start is told by the caller, since its
+ * mark is 1, as that of what worker 0 claimed. */
+enum kullneyra_owner {
+    KULLNEYRA_BY_NOBODY = -1, /* the object is not marked */
+    KULLNEYRA_BY_START = -2,  /* a collection starts there */
+    KULLNEYRA_BY_CHANGE = -3  /* an added or a removed reference found it live: no worker claimed it */
+};
+
+static inline int kullneyra_owner(uint8_t mark, int is_start) {
+    if (mark == 0)
+        return KULLNEYRA_BY_NOBODY;
+    if (mark == 1 && is_start)
+        return KULLNEYRA_BY_START;
+    return mark == KULLNEYRA_NEWLY_LIVE ? KULLNEYRA_BY_CHANGE : mark - 1;
+}
 
 /* From here on written by tools/boundary.py from the exported functions. */
 
@@ -332,9 +349,48 @@ uint32_t kullneyra_export(const uint32_t *offsets, size_t offsets_len, const uin
                           uint8_t *out, size_t out_len);
 
 /* The same calls with a struct for the answer, which is written in every case: what the call answers where the
- * number is 0, and zeros beside a fault. */
+ * number is 0, and zeros beside a fault. Where a range that a call writes overlaps another one, the number is
+ * KULLNEYRA_BUFFER, and nothing is touched but an answer that overlaps nothing: it is zeros. */
+
+/* Bytes of memory that a call is given, from the first to behind the last; none has neither. */
+struct kullneyra_range {
+    uintptr_t from;
+    uintptr_t to;
+};
+
+static inline struct kullneyra_range kullneyra_range(const void *at, size_t len, size_t size) {
+    struct kullneyra_range range = {0, 0};
+    if (len != 0) {
+        range.from = (uintptr_t)at;
+        range.to = len <= (UINTPTR_MAX - range.from) / size ? range.from + len * size : UINTPTR_MAX;
+    }
+    return range;
+}
+
+/* Whether a call must not be made: one of the ranges that it writes, which stand in front of those that it only reads,
+ * or its answer, has a byte in common with another. An answer that overlaps none is zeros then. */
+static inline int kullneyra_shared(const struct kullneyra_range *ranges, size_t written, size_t all, void *answer,
+                                   size_t size) {
+    const struct kullneyra_range own = kullneyra_range(answer, answer != NULL, size);
+    for (size_t k = 0; k < all; k++)
+        if (own.from < ranges[k].to && ranges[k].from < own.to)
+            return 1;
+    for (size_t i = 0; i < written; i++)
+        for (size_t k = i + 1; k < all; k++)
+            if (ranges[i].from < ranges[k].to && ranges[k].from < ranges[i].to) {
+                if (answer != NULL)
+                    memset(answer, 0, size);
+                return 1;
+            }
+    return 0;
+}
 
 static inline uint32_t kullneyra_header_into(const uint8_t *bytes, size_t bytes_len, struct kullneyra_head *answer) {
+    const struct kullneyra_range ranges[] = {
+        kullneyra_range(bytes, bytes_len, sizeof *bytes),
+    };
+    if (kullneyra_shared(ranges, 0, 1, answer, sizeof *answer))
+        return KULLNEYRA_BUFFER;
     uint32_t words[KULLNEYRA_HEADER_WORDS] = {0};
     const uint32_t number = kullneyra_header(bytes, bytes_len, words, KULLNEYRA_HEADER_WORDS);
     memcpy(answer, words, sizeof *answer);
@@ -345,6 +401,15 @@ static inline uint32_t kullneyra_read_into(const uint8_t *bytes, size_t bytes_le
                                            size_t offsets_len, uint32_t *targets, size_t targets_len, uint64_t *sizes,
                                            size_t sizes_len, uint32_t *starts, size_t starts_len,
                                            struct kullneyra_store *answer) {
+    const struct kullneyra_range ranges[] = {
+        kullneyra_range(offsets, offsets_len, sizeof *offsets),
+        kullneyra_range(targets, targets_len, sizeof *targets),
+        kullneyra_range(sizes, sizes_len, sizeof *sizes),
+        kullneyra_range(starts, starts_len, sizeof *starts),
+        kullneyra_range(bytes, bytes_len, sizeof *bytes),
+    };
+    if (kullneyra_shared(ranges, 4, 5, answer, sizeof *answer))
+        return KULLNEYRA_BUFFER;
     uint32_t words[KULLNEYRA_READ_WORDS] = {0};
     const uint32_t number = kullneyra_read(bytes, bytes_len, offsets, offsets_len, targets, targets_len, sizes,
                                            sizes_len, starts, starts_len, words, KULLNEYRA_READ_WORDS);
@@ -354,6 +419,12 @@ static inline uint32_t kullneyra_read_into(const uint8_t *bytes, size_t bytes_le
 
 static inline uint32_t kullneyra_references_into(const uint32_t *offsets, size_t offsets_len, const uint32_t *targets,
                                                  size_t targets_len, uint32_t object, struct kullneyra_part *answer) {
+    const struct kullneyra_range ranges[] = {
+        kullneyra_range(offsets, offsets_len, sizeof *offsets),
+        kullneyra_range(targets, targets_len, sizeof *targets),
+    };
+    if (kullneyra_shared(ranges, 0, 2, answer, sizeof *answer))
+        return KULLNEYRA_BUFFER;
     uint64_t words[KULLNEYRA_PART_WORDS] = {0};
     const uint32_t number = kullneyra_references(offsets, offsets_len, targets, targets_len, object, words,
                                                  KULLNEYRA_PART_WORDS);
@@ -367,6 +438,17 @@ static inline uint32_t kullneyra_mark_into(const uint32_t *offsets, size_t offse
                                            size_t schedule_len, uint8_t *marks, size_t marks_len, uint32_t *work,
                                            size_t work_len, uint64_t *tallies, size_t tallies_len,
                                            struct kullneyra_marked *answer) {
+    const struct kullneyra_range ranges[] = {
+        kullneyra_range(marks, marks_len, sizeof *marks),
+        kullneyra_range(work, work_len, sizeof *work),
+        kullneyra_range(tallies, tallies_len, sizeof *tallies),
+        kullneyra_range(offsets, offsets_len, sizeof *offsets),
+        kullneyra_range(targets, targets_len, sizeof *targets),
+        kullneyra_range(starts, starts_len, sizeof *starts),
+        kullneyra_range(schedule, schedule_len, sizeof *schedule),
+    };
+    if (kullneyra_shared(ranges, 3, 7, answer, sizeof *answer))
+        return KULLNEYRA_BUFFER;
     uint64_t words[KULLNEYRA_MARK_WORDS] = {0};
     const uint32_t number = kullneyra_mark(offsets, offsets_len, targets, targets_len, starts, starts_len, workers,
                                            batch, cutoff, schedule, schedule_len, marks, marks_len, work, work_len,
@@ -386,6 +468,18 @@ static inline uint32_t kullneyra_begin_into(const uint32_t *offsets, size_t offs
                                             size_t schedule_len, uint8_t *marks, size_t marks_len, uint32_t *work,
                                             size_t work_len, uint64_t *tallies, size_t tallies_len, uint32_t *saved,
                                             size_t saved_len, struct kullneyra_marked *answer) {
+    const struct kullneyra_range ranges[] = {
+        kullneyra_range(marks, marks_len, sizeof *marks),
+        kullneyra_range(work, work_len, sizeof *work),
+        kullneyra_range(tallies, tallies_len, sizeof *tallies),
+        kullneyra_range(saved, saved_len, sizeof *saved),
+        kullneyra_range(offsets, offsets_len, sizeof *offsets),
+        kullneyra_range(targets, targets_len, sizeof *targets),
+        kullneyra_range(starts, starts_len, sizeof *starts),
+        kullneyra_range(schedule, schedule_len, sizeof *schedule),
+    };
+    if (kullneyra_shared(ranges, 4, 8, answer, sizeof *answer))
+        return KULLNEYRA_BUFFER;
     uint64_t words[KULLNEYRA_MARK_WORDS] = {0};
     const uint32_t number = kullneyra_begin(offsets, offsets_len, targets, targets_len, starts, starts_len, workers,
                                             batch, cutoff, schedule, schedule_len, marks, marks_len, work, work_len,
@@ -400,6 +494,18 @@ static inline uint32_t kullneyra_resume_into(const uint32_t *offsets, size_t off
                                              size_t schedule_len, uint8_t *marks, size_t marks_len, uint32_t *work,
                                              size_t work_len, uint64_t *tallies, size_t tallies_len, uint32_t *saved,
                                              size_t saved_len, struct kullneyra_marked *answer) {
+    const struct kullneyra_range ranges[] = {
+        kullneyra_range(marks, marks_len, sizeof *marks),
+        kullneyra_range(work, work_len, sizeof *work),
+        kullneyra_range(tallies, tallies_len, sizeof *tallies),
+        kullneyra_range(saved, saved_len, sizeof *saved),
+        kullneyra_range(offsets, offsets_len, sizeof *offsets),
+        kullneyra_range(targets, targets_len, sizeof *targets),
+        kullneyra_range(starts, starts_len, sizeof *starts),
+        kullneyra_range(schedule, schedule_len, sizeof *schedule),
+    };
+    if (kullneyra_shared(ranges, 4, 8, answer, sizeof *answer))
+        return KULLNEYRA_BUFFER;
     uint64_t words[KULLNEYRA_MARK_WORDS] = {0};
     const uint32_t number = kullneyra_resume(offsets, offsets_len, targets, targets_len, starts, starts_len, workers,
                                              batch, cutoff, schedule, schedule_len, marks, marks_len, work, work_len,
@@ -411,6 +517,13 @@ static inline uint32_t kullneyra_resume_into(const uint32_t *offsets, size_t off
 static inline uint32_t kullneyra_sweep_into(const uint8_t *marks, size_t marks_len, const uint64_t *sizes,
                                             size_t sizes_len, uint32_t *list, size_t list_len,
                                             struct kullneyra_swept *answer) {
+    const struct kullneyra_range ranges[] = {
+        kullneyra_range(list, list_len, sizeof *list),
+        kullneyra_range(marks, marks_len, sizeof *marks),
+        kullneyra_range(sizes, sizes_len, sizeof *sizes),
+    };
+    if (kullneyra_shared(ranges, 1, 3, answer, sizeof *answer))
+        return KULLNEYRA_BUFFER;
     uint64_t words[KULLNEYRA_SWEEP_WORDS] = {0};
     const uint32_t number = kullneyra_sweep(marks, marks_len, sizes, sizes_len, list, list_len, words,
                                             KULLNEYRA_SWEEP_WORDS);
@@ -425,7 +538,23 @@ static inline uint32_t kullneyra_schedule_length_into(size_t cards, uint32_t wor
     return number;
 }
 
+static inline uint32_t kullneyra_deal_into(const uint32_t *cards, size_t cards_len, uint32_t workers, uint8_t *schedule,
+                                           size_t schedule_len) {
+    const struct kullneyra_range ranges[] = {
+        kullneyra_range(schedule, schedule_len, sizeof *schedule),
+        kullneyra_range(cards, cards_len, sizeof *cards),
+    };
+    if (kullneyra_shared(ranges, 1, 2, NULL, 0))
+        return KULLNEYRA_BUFFER;
+    return kullneyra_deal(cards, cards_len, workers, schedule, schedule_len);
+}
+
 static inline uint32_t kullneyra_draw_into(struct kullneyra_seed *seed, struct kullneyra_drawn *answer) {
+    const struct kullneyra_range ranges[] = {
+        kullneyra_range(seed, 1, sizeof *seed),
+    };
+    if (kullneyra_shared(ranges, 1, 1, answer, sizeof *answer))
+        return KULLNEYRA_BUFFER;
     uint32_t words[KULLNEYRA_DRAW_WORDS] = {0};
     uint32_t state[KULLNEYRA_SEED_WORDS];
     memcpy(state, seed, sizeof *seed);
@@ -437,6 +566,12 @@ static inline uint32_t kullneyra_draw_into(struct kullneyra_seed *seed, struct k
 
 static inline uint32_t kullneyra_deal_seed_into(struct kullneyra_seed *seed, size_t rounds, uint32_t workers,
                                                 uint8_t *schedule, size_t schedule_len) {
+    const struct kullneyra_range ranges[] = {
+        kullneyra_range(seed, 1, sizeof *seed),
+        kullneyra_range(schedule, schedule_len, sizeof *schedule),
+    };
+    if (kullneyra_shared(ranges, 2, 2, NULL, 0))
+        return KULLNEYRA_BUFFER;
     uint32_t state[KULLNEYRA_SEED_WORDS];
     memcpy(state, seed, sizeof *seed);
     const uint32_t number = kullneyra_deal_seed(state, KULLNEYRA_SEED_WORDS, rounds, workers, schedule, schedule_len);
@@ -449,13 +584,77 @@ static inline uint32_t kullneyra_hop_words_into(uint32_t objects, uint64_t *answ
     return kullneyra_hop_words(objects, answer, KULLNEYRA_HOP_WORDS);
 }
 
+static inline uint32_t kullneyra_hops_into(const uint32_t *offsets, size_t offsets_len, const uint32_t *targets,
+                                           size_t targets_len, const uint32_t *starts, size_t starts_len,
+                                           uint32_t *hops, size_t hops_len, uint32_t *work, size_t work_len) {
+    const struct kullneyra_range ranges[] = {
+        kullneyra_range(hops, hops_len, sizeof *hops),
+        kullneyra_range(work, work_len, sizeof *work),
+        kullneyra_range(offsets, offsets_len, sizeof *offsets),
+        kullneyra_range(targets, targets_len, sizeof *targets),
+        kullneyra_range(starts, starts_len, sizeof *starts),
+    };
+    if (kullneyra_shared(ranges, 2, 5, NULL, 0))
+        return KULLNEYRA_BUFFER;
+    return kullneyra_hops(offsets, offsets_len, targets, targets_len, starts, starts_len, hops, hops_len, work,
+                          work_len);
+}
+
 static inline uint32_t kullneyra_update_words_into(uint32_t objects, uint64_t *answer) {
     *answer = 0;
     return kullneyra_update_words(objects, answer, KULLNEYRA_UPDATE_WORDS);
 }
 
+static inline uint32_t kullneyra_add_into(const uint32_t *offsets, size_t offsets_len, const uint32_t *targets,
+                                          size_t targets_len, const uint32_t *from, size_t from_len, const uint32_t *to,
+                                          size_t to_len, uint32_t *new_offsets, size_t new_offsets_len,
+                                          uint32_t *new_targets, size_t new_targets_len, uint8_t *marks,
+                                          size_t marks_len, uint32_t *work, size_t work_len) {
+    const struct kullneyra_range ranges[] = {
+        kullneyra_range(new_offsets, new_offsets_len, sizeof *new_offsets),
+        kullneyra_range(new_targets, new_targets_len, sizeof *new_targets),
+        kullneyra_range(marks, marks_len, sizeof *marks),
+        kullneyra_range(work, work_len, sizeof *work),
+        kullneyra_range(offsets, offsets_len, sizeof *offsets),
+        kullneyra_range(targets, targets_len, sizeof *targets),
+        kullneyra_range(from, from_len, sizeof *from),
+        kullneyra_range(to, to_len, sizeof *to),
+    };
+    if (kullneyra_shared(ranges, 4, 8, NULL, 0))
+        return KULLNEYRA_BUFFER;
+    return kullneyra_add(offsets, offsets_len, targets, targets_len, from, from_len, to, to_len, new_offsets,
+                         new_offsets_len, new_targets, new_targets_len, marks, marks_len, work, work_len);
+}
+
+static inline uint32_t kullneyra_remove_into(const uint32_t *offsets, size_t offsets_len, const uint32_t *targets,
+                                             size_t targets_len, const uint32_t *numbers, size_t numbers_len,
+                                             const uint32_t *starts, size_t starts_len, uint32_t *new_offsets,
+                                             size_t new_offsets_len, uint32_t *new_targets, size_t new_targets_len,
+                                             uint8_t *marks, size_t marks_len, uint32_t *work, size_t work_len) {
+    const struct kullneyra_range ranges[] = {
+        kullneyra_range(new_offsets, new_offsets_len, sizeof *new_offsets),
+        kullneyra_range(new_targets, new_targets_len, sizeof *new_targets),
+        kullneyra_range(marks, marks_len, sizeof *marks),
+        kullneyra_range(work, work_len, sizeof *work),
+        kullneyra_range(offsets, offsets_len, sizeof *offsets),
+        kullneyra_range(targets, targets_len, sizeof *targets),
+        kullneyra_range(numbers, numbers_len, sizeof *numbers),
+        kullneyra_range(starts, starts_len, sizeof *starts),
+    };
+    if (kullneyra_shared(ranges, 4, 8, NULL, 0))
+        return KULLNEYRA_BUFFER;
+    return kullneyra_remove(offsets, offsets_len, targets, targets_len, numbers, numbers_len, starts, starts_len,
+                            new_offsets, new_offsets_len, new_targets, new_targets_len, marks, marks_len, work,
+                            work_len);
+}
+
 static inline uint32_t kullneyra_market_header_into(const uint8_t *text, size_t text_len,
                                                     struct kullneyra_head *answer) {
+    const struct kullneyra_range ranges[] = {
+        kullneyra_range(text, text_len, sizeof *text),
+    };
+    if (kullneyra_shared(ranges, 0, 1, answer, sizeof *answer))
+        return KULLNEYRA_BUFFER;
     uint32_t words[KULLNEYRA_HEADER_WORDS] = {0};
     const uint32_t number = kullneyra_market_header(text, text_len, words, KULLNEYRA_HEADER_WORDS);
     memcpy(answer, words, sizeof *answer);
@@ -465,6 +664,14 @@ static inline uint32_t kullneyra_market_header_into(const uint8_t *text, size_t 
 static inline uint32_t kullneyra_import_into(const uint8_t *text, size_t text_len, uint32_t *offsets,
                                              size_t offsets_len, uint32_t *targets, size_t targets_len, uint64_t *sizes,
                                              size_t sizes_len, struct kullneyra_head *answer) {
+    const struct kullneyra_range ranges[] = {
+        kullneyra_range(offsets, offsets_len, sizeof *offsets),
+        kullneyra_range(targets, targets_len, sizeof *targets),
+        kullneyra_range(sizes, sizes_len, sizeof *sizes),
+        kullneyra_range(text, text_len, sizeof *text),
+    };
+    if (kullneyra_shared(ranges, 3, 4, answer, sizeof *answer))
+        return KULLNEYRA_BUFFER;
     uint32_t words[KULLNEYRA_HEADER_WORDS] = {0};
     const uint32_t number = kullneyra_import(text, text_len, offsets, offsets_len, targets, targets_len, sizes,
                                              sizes_len, words, KULLNEYRA_HEADER_WORDS);
@@ -474,8 +681,26 @@ static inline uint32_t kullneyra_import_into(const uint8_t *text, size_t text_le
 
 static inline uint32_t kullneyra_export_length_into(const uint32_t *offsets, size_t offsets_len,
                                                     const uint32_t *targets, size_t targets_len, uint64_t *answer) {
+    const struct kullneyra_range ranges[] = {
+        kullneyra_range(offsets, offsets_len, sizeof *offsets),
+        kullneyra_range(targets, targets_len, sizeof *targets),
+    };
+    if (kullneyra_shared(ranges, 0, 2, answer, sizeof *answer))
+        return KULLNEYRA_BUFFER;
     *answer = 0;
     return kullneyra_export_length(offsets, offsets_len, targets, targets_len, answer, KULLNEYRA_EXPORT_WORDS);
+}
+
+static inline uint32_t kullneyra_export_into(const uint32_t *offsets, size_t offsets_len, const uint32_t *targets,
+                                             size_t targets_len, uint8_t *out, size_t out_len) {
+    const struct kullneyra_range ranges[] = {
+        kullneyra_range(out, out_len, sizeof *out),
+        kullneyra_range(offsets, offsets_len, sizeof *offsets),
+        kullneyra_range(targets, targets_len, sizeof *targets),
+    };
+    if (kullneyra_shared(ranges, 1, 3, NULL, 0))
+        return KULLNEYRA_BUFFER;
+    return kullneyra_export(offsets, offsets_len, targets, targets_len, out, out_len);
 }
 
 /* Up to here. */

@@ -57,7 +57,7 @@ static void refusals_in_words(void) {
         }
     }
     expect("refusal_text of a buffer", 0,
-           (uint64_t)strcmp(kullneyra_refusal_text(KULLNEYRA_BUFFER), "a lent buffer is not as long as it must be"));
+           (uint64_t)strcmp(kullneyra_refusal_text(KULLNEYRA_BUFFER), "a lent buffer is not as long as it must be, or overlaps another"));
 }
 
 int main(void) {
@@ -226,11 +226,11 @@ int main(void) {
     ACCEPTED("schedule_length", kullneyra_schedule_length_into(2, 2, &length), length);
     expect("schedule_length, bytes", 8, length.bytes);
     memset(dealt, 0x5a, sizeof dealt);
-    expect("deal, no workers", KULLNEYRA_SETTING, kullneyra_deal(hand, 2, 0, dealt, 8));
-    expect("deal, card 720", KULLNEYRA_CARDS, kullneyra_deal(hand, 3, 1, dealt, 6));
-    expect("deal, long schedule", KULLNEYRA_BUFFER, kullneyra_deal(hand, 2, 2, dealt, 9));
+    expect("deal, no workers", KULLNEYRA_SETTING, kullneyra_deal_into(hand, 2, 0, dealt, 8));
+    expect("deal, card 720", KULLNEYRA_CARDS, kullneyra_deal_into(hand, 3, 1, dealt, 6));
+    expect("deal, long schedule", KULLNEYRA_BUFFER, kullneyra_deal_into(hand, 2, 2, dealt, 9));
     expect("deal, unchanged", 0x5a, dealt[0]);
-    expect("deal", KULLNEYRA_OK, kullneyra_deal(hand, 2, 2, dealt, 8));
+    expect("deal", KULLNEYRA_OK, kullneyra_deal_into(hand, 2, 2, dealt, 8));
     expect("deal, first card", 0x01 << 16 | 0x01 << 8, (uint64_t)dealt[1] << 16 | (uint64_t)dealt[2] << 8 | dealt[3]);
     expect("deal, last card", 0x01 << 24 | 0x01, (uint64_t)dealt[4] << 24 | (uint64_t)dealt[5] << 16 | dealt[7]);
     expect("deal, behind it", 0x5a, dealt[8]);
@@ -263,14 +263,14 @@ int main(void) {
     expect("hop_words", KULLNEYRA_OK, kullneyra_hop_words_into(2, &hop_words));
     expect("hop_words of two objects", 4, (uint32_t)hop_words);
     expect("hops, short work", KULLNEYRA_BUFFER,
-           kullneyra_hops(offsets, 3, targets, 1, &head.index, 1, hops, 2, links, 3));
-    expect("hops, no start", KULLNEYRA_NO_STARTS, kullneyra_hops(offsets, 3, targets, 1, NULL, 0, hops, 2, links, 4));
+           kullneyra_hops_into(offsets, 3, targets, 1, &head.index, 1, hops, 2, links, 3));
+    expect("hops, no start", KULLNEYRA_NO_STARTS, kullneyra_hops_into(offsets, 3, targets, 1, NULL, 0, hops, 2, links, 4));
     expect("hops, unchanged", 7, hops[0]);
-    expect("hops", KULLNEYRA_OK, kullneyra_hops(offsets, 3, targets, 1, &head.index, 1, hops, 2, links, 4));
+    expect("hops", KULLNEYRA_OK, kullneyra_hops_into(offsets, 3, targets, 1, &head.index, 1, hops, 2, links, 4));
     expect("hops of the index", 0, hops[0]);
     expect("no hops", KULLNEYRA_NO_HOPS, hops[1]);
     const uint32_t from_0[3] = {0, 1, 1}, to_1 = 1;
-    expect("hops along a reference", KULLNEYRA_OK, kullneyra_hops(from_0, 3, &to_1, 1, &head.index, 1, hops, 2, links, 4));
+    expect("hops along a reference", KULLNEYRA_OK, kullneyra_hops_into(from_0, 3, &to_1, 1, &head.index, 1, hops, 2, links, 4));
     expect("hops of what it leads to", 1, hops[1]);
 
     uint64_t update_words;
@@ -282,25 +282,25 @@ int main(void) {
     expect("update_words", KULLNEYRA_OK, kullneyra_update_words_into(2, &update_words));
     expect("update_words of two objects", 2, (uint32_t)update_words);
     expect("add, marks not closed", KULLNEYRA_NOT_CLOSED,
-           kullneyra_add(from_0, 3, &to_1, 1, &zero, 1, &to_1, 1, new_offsets, 3, new_targets, 2, live, 2, todo, 2));
+           kullneyra_add_into(from_0, 3, &to_1, 1, &zero, 1, &to_1, 1, new_offsets, 3, new_targets, 2, live, 2, todo, 2));
     expect("add, no such object", KULLNEYRA_OBJECT,
-           kullneyra_add(from_0, 3, &to_1, 1, &zero, 1, &two, 1, new_offsets, 3, new_targets, 2, live, 2, todo, 2));
+           kullneyra_add_into(from_0, 3, &to_1, 1, &zero, 1, &two, 1, new_offsets, 3, new_targets, 2, live, 2, todo, 2));
     expect("add, unchanged", 7, new_offsets[0]);
     expect("add, marks unchanged", 0, live[1]);
     const uint32_t bare[3] = {0, 0, 0};
     expect("add", KULLNEYRA_OK,
-           kullneyra_add(bare, 3, NULL, 0, &zero, 1, &to_1, 1, new_offsets, 3, new_targets, 1, live, 2, todo, 2));
+           kullneyra_add_into(bare, 3, NULL, 0, &zero, 1, &to_1, 1, new_offsets, 3, new_targets, 1, live, 2, todo, 2));
     expect("add, where the references of 0 end", 1, new_offsets[1]);
     expect("add, where it leads", 1, new_targets[0]);
     expect("add, the mark that was set", 1, live[0]);
     expect("add, newly live", 255, live[1]);
     const uint32_t twice[2] = {0, 0};
     expect("remove, no such reference", KULLNEYRA_OBJECT,
-           kullneyra_remove(from_0, 3, &to_1, 1, &to_1, 1, &zero, 1, new_offsets, 3, new_targets, 2, live, 2, todo, 2));
+           kullneyra_remove_into(from_0, 3, &to_1, 1, &to_1, 1, &zero, 1, new_offsets, 3, new_targets, 2, live, 2, todo, 2));
     expect("remove, one target long", KULLNEYRA_BUFFER,
-           kullneyra_remove(from_0, 3, &to_1, 1, twice, 2, &zero, 1, new_offsets, 3, new_targets, 1, live, 2, todo, 2));
+           kullneyra_remove_into(from_0, 3, &to_1, 1, twice, 2, &zero, 1, new_offsets, 3, new_targets, 1, live, 2, todo, 2));
     expect("remove", KULLNEYRA_OK,
-           kullneyra_remove(from_0, 3, &to_1, 1, twice, 2, &zero, 1, new_offsets, 3, NULL, 0, live, 2, todo, 2));
+           kullneyra_remove_into(from_0, 3, &to_1, 1, twice, 2, &zero, 1, new_offsets, 3, NULL, 0, live, 2, todo, 2));
     expect("remove, nothing left", 0, new_offsets[2]);
     expect("remove, the start", 1, live[0]);
     expect("remove, no longer live", 0, live[1]);
@@ -331,11 +331,16 @@ int main(void) {
     expect("export_length, bytes", text_len, export_length);
     uint8_t written[sizeof text];
     memset(written, 0x5a, sizeof written);
-    expect("export, long buffer", KULLNEYRA_BUFFER, kullneyra_export(read_offsets, 3, read_targets, 1, written, sizeof text));
+    expect("export, long buffer", KULLNEYRA_BUFFER, kullneyra_export_into(read_offsets, 3, read_targets, 1, written, sizeof text));
     expect("export, unchanged", 0x5a, written[0]);
-    expect("export", KULLNEYRA_OK, kullneyra_export(read_offsets, 3, read_targets, 1, written, text_len));
+    expect("export", KULLNEYRA_OK, kullneyra_export_into(read_offsets, 3, read_targets, 1, written, text_len));
     expect("export, text", 0, memcmp(written, text, text_len) != 0);
     expect("export, behind it", 0x5a, written[text_len]);
+    expect("owner, nobody", (uint64_t)KULLNEYRA_BY_NOBODY, (uint64_t)kullneyra_owner(0, 1));
+    expect("owner, a start", (uint64_t)KULLNEYRA_BY_START, (uint64_t)kullneyra_owner(1, 1));
+    expect("owner, worker 0", 0, (uint64_t)kullneyra_owner(1, 0));
+    expect("owner, worker 15", 15, (uint64_t)kullneyra_owner(16, 0));
+    expect("owner, a change", (uint64_t)KULLNEYRA_BY_CHANGE, (uint64_t)kullneyra_owner(KULLNEYRA_NEWLY_LIVE, 0));
     refusals_in_words();
     return failed;
 }

@@ -366,7 +366,7 @@ func ScheduleLength(cards int, workers uint32) (uint64, error) {
 func Deal(cards []uint32, workers uint32, schedule []byte) error {
 	cardsAt, cardsLen := u32s(cards)
 	scheduleAt, scheduleLen := u8s(schedule)
-	number := C.kullneyra_deal(cardsAt, cardsLen, C.uint32_t(workers), scheduleAt, scheduleLen)
+	number := C.kullneyra_deal_into(cardsAt, cardsLen, C.uint32_t(workers), scheduleAt, scheduleLen)
 	return refused(uint32(number))
 }
 
@@ -403,7 +403,7 @@ func Hops(g Graph, starts, hops, work []uint32) error {
 	startsAt, startsLen := u32s(starts)
 	hopsAt, hopsLen := u32s(hops)
 	workAt, workLen := u32s(work)
-	number := C.kullneyra_hops(offsetsAt, offsetsLen, targetsAt, targetsLen, startsAt, startsLen, hopsAt, hopsLen,
+	number := C.kullneyra_hops_into(offsetsAt, offsetsLen, targetsAt, targetsLen, startsAt, startsLen, hopsAt, hopsLen,
 		workAt, workLen)
 	return refused(uint32(number))
 }
@@ -428,8 +428,8 @@ func Add(g Graph, from, to []uint32, r Renewed) error {
 	newTargetsAt, newTargetsLen := u32s(r.Graph.Targets)
 	marksAt, marksLen := u8s(r.Marks)
 	workAt, workLen := u32s(r.Work)
-	number := C.kullneyra_add(offsetsAt, offsetsLen, targetsAt, targetsLen, fromAt, fromLen, toAt, toLen, newOffsetsAt,
-		newOffsetsLen, newTargetsAt, newTargetsLen, marksAt, marksLen, workAt, workLen)
+	number := C.kullneyra_add_into(offsetsAt, offsetsLen, targetsAt, targetsLen, fromAt, fromLen, toAt, toLen,
+		newOffsetsAt, newOffsetsLen, newTargetsAt, newTargetsLen, marksAt, marksLen, workAt, workLen)
 	return refused(uint32(number))
 }
 
@@ -445,7 +445,7 @@ func Remove(g Graph, numbers, starts []uint32, r Renewed) error {
 	newTargetsAt, newTargetsLen := u32s(r.Graph.Targets)
 	marksAt, marksLen := u8s(r.Marks)
 	workAt, workLen := u32s(r.Work)
-	number := C.kullneyra_remove(offsetsAt, offsetsLen, targetsAt, targetsLen, numbersAt, numbersLen, startsAt,
+	number := C.kullneyra_remove_into(offsetsAt, offsetsLen, targetsAt, targetsLen, numbersAt, numbersLen, startsAt,
 		startsLen, newOffsetsAt, newOffsetsLen, newTargetsAt, newTargetsLen, marksAt, marksLen, workAt, workLen)
 	return refused(uint32(number))
 }
@@ -482,6 +482,6 @@ func Export(g Graph, out []byte) error {
 	offsetsAt, offsetsLen := u32s(g.Offsets)
 	targetsAt, targetsLen := u32s(g.Targets)
 	outAt, outLen := u8s(out)
-	number := C.kullneyra_export(offsetsAt, offsetsLen, targetsAt, targetsLen, outAt, outLen)
+	number := C.kullneyra_export_into(offsetsAt, offsetsLen, targetsAt, targetsLen, outAt, outLen)
 	return refused(uint32(number))
 }

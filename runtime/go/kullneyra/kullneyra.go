@@ -1,10 +1,13 @@
 // Package kullneyra has the proved calls of the box marker as Go functions on slices: the reader, the marker, the
 // sweep, and what stands around them. docs/SPECIFICATION.md says what each does.
 //
-// A call takes any values and any slices. It answers nil or a Refusal, and beside a refusal every lent slice is as it
-// was. No call allocates, keeps anything, or waits for another, so callers may run side by side as long as no slice
-// that a call writes is shared with another call.
+// A call takes any values and any slices; one that it writes and that overlaps another of its slices is refused as
+// Buffer. It answers nil or a Refusal, and beside a refusal every lent slice is as it was. No call allocates, keeps
+// anything, or waits for another, so callers may run side by side as long as no slice that a call writes is shared
+// with another call.
 package kullneyra
+
+import "strconv"
 
 // Exact lengths of the lent slices, for n objects and w workers: n + 1 offsets, m targets, n sizes, Starts starts, n
 // marks, Work(n, w) work words, Tallies(w) tally words, n list entries.
@@ -55,4 +58,40 @@ func References(g Graph, object uint32) []uint32 {
 func TallyOf(tallies []uint64, worker int) Tally {
 	t := tallies[4*worker : 4*worker+4]
 	return Tally{t[0], t[1], t[2], t[3]}
+}
+
+// Owner is who claimed an object: a worker's number, or one of Nobody, Start and Reached.
+type Owner int
+
+const (
+	Nobody  Owner = -1 // the object is not marked
+	Start   Owner = -2 // a collection starts there
+	Reached Owner = -3 // Add or Remove found it live: no worker claimed it
+)
+
+// String is what the drawings say.
+func (o Owner) String() string {
+	switch o {
+	case Nobody:
+		return "nobody"
+	case Start:
+		return "start"
+	case Reached:
+		return "reached"
+	}
+	return "box " + strconv.Itoa(int(o))
+}
+
+// OwnerOf is who claimed an object, by its mark. A start is told by the caller, since its mark is 1, as that of what
+// worker 0 claimed.
+func OwnerOf(mark byte, isStart bool) Owner {
+	switch {
+	case mark == 0:
+		return Nobody
+	case mark == 1 && isStart:
+		return Start
+	case mark == NewlyLive:
+		return Reached
+	}
+	return Owner(mark - 1)
 }

@@ -41,6 +41,56 @@ func ExampleRefusal() {
 	// Output: true true refusal 1: the bytes end too soon for a record
 }
 
+func ExampleOwnerOf() {
+	for _, mark := range []byte{0, 1, 2, kullneyra.NewlyLive} {
+		fmt.Println(kullneyra.OwnerOf(mark, false))
+	}
+	fmt.Println(kullneyra.OwnerOf(1, true))
+	// Output:
+	// nobody
+	// box 0
+	// box 1
+	// reached
+	// start
+}
+
+// A slice that a call writes and that overlaps another one: refused, and every slice is as it was.
+func TestOverlap(t *testing.T) {
+	settings := kullneyra.Settings{Workers: 1, Batch: 1, Cutoff: 1}
+	for name, call := range map[string]func(words []uint32) error{
+		"Add in place": func(words []uint32) error {
+			g := kullneyra.Graph{Offsets: words[:2], Targets: words[2:3]}
+			renewed := kullneyra.Renewed{
+				Graph: kullneyra.Graph{Offsets: words[:2], Targets: words[2:4]}, Marks: []byte{1}, Work: make([]uint32, 1),
+			}
+			return kullneyra.Add(g, []uint32{0}, []uint32{0}, renewed)
+		},
+		"Remove, new targets over the numbers": func(words []uint32) error {
+			g := kullneyra.Graph{Offsets: []uint32{0, 2}, Targets: []uint32{0, 0}}
+			renewed := kullneyra.Renewed{
+				Graph: kullneyra.Graph{Offsets: make([]uint32, 2), Targets: words[:1]}, Marks: []byte{1}, Work: make([]uint32, 1),
+			}
+			return kullneyra.Remove(g, words[:1], []uint32{0}, renewed)
+		},
+		"Mark, work over the starts": func(words []uint32) error {
+			g := kullneyra.Graph{Offsets: []uint32{0, 0}}
+			b := kullneyra.Buffers{Marks: make([]byte, 1), Work: words[1:7], Tallies: make([]uint64, 4)}
+			_, err := kullneyra.Mark(g, words[6:7], settings, nil, b)
+			return err
+		},
+		"Hops, work over the hops": func(words []uint32) error {
+			g := kullneyra.Graph{Offsets: []uint32{0, 0}}
+			return kullneyra.Hops(g, []uint32{0}, words[:1], words[:2])
+		},
+	} {
+		words := []uint32{0, 1, 0, 3, 4, 5, 0, 7}
+		err := call(words)
+		if err != kullneyra.Buffer || fmt.Sprint(words) != "[0 1 0 3 4 5 0 7]" {
+			t.Errorf("%s: %v, %v", name, err, words)
+		}
+	}
+}
+
 func ExampleReferences() {
 	fmt.Println(kullneyra.References(storeS, 0), kullneyra.References(storeS, 6))
 	// Output: [1 2] []

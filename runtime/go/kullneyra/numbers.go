@@ -26,7 +26,7 @@ const (
 	Count      Refusal = 4  // number of objects or of references out of range
 	Object     Refusal = 5  // index, from, to, a lease or a start is no object's number
 	Size       Refusal = 6  // a size above LargestSize
-	Buffer     Refusal = 7  // a lent buffer is not as long as it must be
+	Buffer     Refusal = 7  // a lent buffer is not as long as it must be, or overlaps another
 	Setting    Refusal = 8  // workers, batch or cutoff out of range
 	Schedule   Refusal = 9  // half an entry at the schedule's end, or one for a worker that is not there
 	NoGraph    Refusal = 10 // offsets and targets that are no graph
@@ -47,7 +47,7 @@ var reasons = [...]string{
 	Count:      "number of objects or of references out of range",
 	Object:     "an object number that is not below the number of objects",
 	Size:       "the size of an object is too large",
-	Buffer:     "a lent buffer is not as long as it must be",
+	Buffer:     "a lent buffer is not as long as it must be, or overlaps another",
 	Setting:    "workers, batch or cutoff out of range",
 	Schedule:   "half an entry at the schedule's end, or one for a worker that is not there",
 	NoGraph:    "offsets and targets that are no graph",

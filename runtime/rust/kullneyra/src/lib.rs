@@ -237,7 +237,7 @@ pub fn tallies(words: &[u64]) -> impl Iterator<Item = Tally> + '_ {
     words.chunks_exact(Tally::WORDS).map(|four| Tally::from_words([four[0], four[1], four[2], four[3]]))
 }
 
-/// Who claimed an object. Its text is what the drawings say: `start`, `box 0`, `nobody`.
+/// Who claimed an object. Its text is what the drawings say: `start`, `box 0`, `reached`, `nobody`.
 #[derive(Clone, Copy, Debug, PartialEq, Eq, Hash)]
 #[non_exhaustive]
 pub enum Owner {
@@ -247,6 +247,8 @@ pub enum Owner {
     Start,
     /// This worker claimed it.
     Worker(u8),
+    /// [`add`] or [`remove`] found it live: no worker claimed it.
+    Reached,
 }
 
 impl core::fmt::Display for Owner {
@@ -255,25 +257,27 @@ impl core::fmt::Display for Owner {
             Owner::Nobody => f.write_str("nobody"),
             Owner::Start => f.write_str("start"),
             Owner::Worker(b) => write!(f, "box {b}"),
+            Owner::Reached => f.write_str("reached"),
         }
     }
 }
 
-/// The owner of each object in turn, by the marks that [`mark`] left and the objects where it started
-/// (the index).
+/// The owner of each object in turn, by the marks that a call left and the objects where the collection
+/// started (the index and the leases).
 ///
 /// The starts are asked for since a start and an object that worker 0 claimed both have mark 1.
 ///
 /// ```
 /// use kullneyra::{owners, Owner};
 ///
-/// let names: Vec<String> = owners(&[0], &[1, 1, 2, 0]).map(|owner| owner.to_string()).collect();
-/// assert_eq!(names, ["start", "box 0", "box 1", "nobody"]);
+/// let names: Vec<String> = owners(&[0], &[1, 1, 2, 0, 255]).map(|owner| owner.to_string()).collect();
+/// assert_eq!(names, ["start", "box 0", "box 1", "nobody", "reached"]);
 /// ```
 pub fn owners<'a>(starts: &'a [u32], marks: &'a [u8]) -> impl Iterator<Item = Owner> + 'a {
     (0u32..).zip(marks).map(move |(object, &mark)| match mark {
         0 => Owner::Nobody,
         1 if starts.contains(&object) => Owner::Start,
+        NEWLY_LIVE => Owner::Reached,
         _ => Owner::Worker(mark - 1),
     })
 }
@@ -365,7 +369,7 @@ mod tests {
 
     #[test]
     fn display_is_in_words() {
-        assert_eq!(Refusal::Buffer.to_string(), "refusal 7: a lent buffer is not as long as it must be");
+        assert_eq!(Refusal::Buffer.to_string(), "refusal 7: a lent buffer is not as long as it must be, or overlaps another");
         assert_eq!(Refusal::Other(99).to_string(), "refusal 99: a number newer than this crate");
     }
 

@@ -39,7 +39,7 @@ pub enum Refusal {
     Object,
     /// 6: a size above [`LARGEST_SIZE`].
     Size,
-    /// 7: a lent buffer is not as long as it must be.
+    /// 7: a lent buffer is not as long as it must be, or overlaps another.
     Buffer,
     /// 8: workers, batch or cutoff out of range.
     Setting,
@@ -97,7 +97,7 @@ impl Refusal {
             Refusal::Count => (4, "number of objects or of references out of range"),
             Refusal::Object => (5, "an object number that is not below the number of objects"),
             Refusal::Size => (6, "the size of an object is too large"),
-            Refusal::Buffer => (7, "a lent buffer is not as long as it must be"),
+            Refusal::Buffer => (7, "a lent buffer is not as long as it must be, or overlaps another"),
             Refusal::Setting => (8, "workers, batch or cutoff out of range"),
             Refusal::Schedule => (9, "half an entry at the schedule's end, or one for a worker that is not there"),
             Refusal::Graph => (10, "offsets and targets that are no graph"),
