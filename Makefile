@@ -4,8 +4,9 @@
 # `make oci` builds target/bin/kullneyra-oci, the command over an OCI image layout.
 # `make course` opens the page that draws a run, turn by turn.
 # `make deal` builds what deals the cards and seeds of a case, for tools/case.py.
+# `make pause` builds target/bin/pause, the program that stops a collection and goes on.
 # `make bench` measures; its table and plots go to target/bench/.
-.PHONY: test run library oci steps deal course install compare bench
+.PHONY: test run library oci steps deal course pause install compare bench
 
 CASES ?= 5000000
 SEED ?= 2
@@ -53,6 +54,12 @@ target/course/%: runtime/c/%.c runtime/include/kullneyra.h target/staticlib/libk
 # The page of the course: a run turn by turn, on 127.0.0.1.
 course: steps deal
 	@tools/course.py serve
+
+# The program that stops a collection and goes on; needs Debian's librust-sha2-dev (tests/runtime/packages).
+pause: library
+	@bash -c '. tools/need-packages && need_packages pause tests/runtime/packages'
+	@$(CARGO) build --offline --quiet --release --manifest-path runtime/rust/pause/Cargo.toml --config runtime/rust/pause/debian.toml
+	@mkdir -p target/bin && cp target/cargo/release/pause target/bin/pause
 
 install: library
 	@rt check collect >target/install.log 2>&1 || { cat target/install.log; exit 1; }

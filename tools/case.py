@@ -60,6 +60,7 @@ purpose, to see which number the program refuses it with.
 """
 
 import argparse
+import hashlib
 import re
 import struct
 import subprocess
@@ -443,13 +444,24 @@ def stretch_pairs(case: Case) -> int:
     return len(case.sizes) + 2
 
 
-def saved_bytes(case: Case) -> bytes:
-    """collection.saved"""
+# collection.saved: this, a version, the number of turns, the digests of store.cat and order.run, the saved words, and a
+# digest of all that stands before it.
+SAVED_HEAD = struct.Struct("<16sIQ32s32s")
+SAVED_BEGINS = (b"kullneyra pause\n", 1)
+DIGEST = 32
+
+
+def digest(data: bytes) -> bytes:
+    return hashlib.sha256(data).digest()
+
+
+def saved_bytes(case: Case, store: bytes, order: bytes) -> bytes:
+    """collection.saved, of these files"""
     saved, boxes, objects = case.saved, case.settings["boxes"], len(case.sizes)
     for told, most in ((saved.boxes, boxes), (saved.tallies, boxes), (saved.runs, boxes), (saved.marks, objects)):
         if any(at >= most for at in told):
             raise Fault(f"the stopped collection tells of {max(told)}, where there are {most}")
-    parts = [struct.pack("<II", saved.made, saved.form)]
+    parts = [SAVED_HEAD.pack(*SAVED_BEGINS, saved.made, digest(store), digest(order)), struct.pack("<I", saved.form)]
     parts.append(struct.pack("<6Q", *(saved.counts.get(name, 0) for name in COUNTS)))
     parts.append(struct.pack("<3I", *(saved.token or (0, 0)), saved.black or 0))
     parts += [struct.pack("<4I", *saved.boxes.get(box, [0] * 4)) for box in range(boxes)]
@@ -461,22 +473,29 @@ def saved_bytes(case: Case) -> bytes:
             raise Fault(f"box {box} has room for {stretch_pairs(case)} runs, not for {len(runs)}")
         parts += [struct.pack("<II", *run) for run in runs]
         parts.append(bytes(8 * (stretch_pairs(case) - len(runs))))
+    parts.append(digest(b"".join(parts)))
     return b"".join(parts)
 
 
-def read_saved(case: Case, data: bytes) -> Saved:
-    """The stopped collection of this case that the file holds; zeros are not told."""
+def read_saved(case: Case, data: bytes, store: bytes, order: bytes) -> Saved:
+    """The stopped collection of this case, of these files, that the file holds; zeros are not told."""
     boxes, objects, pairs = case.settings["boxes"], len(case.sizes), stretch_pairs(case)
     # A pair of words for each place of a run; no native sizes, so nothing is padded.
-    layout = struct.Struct(f"<2I6Q3I{4 * boxes}I{4 * boxes}Q{objects}I{2 * pairs * boxes}I")
-    if len(data) != layout.size:
-        raise Fault(f"collection.saved: {len(data)} bytes, where this store and these boxes have {layout.size}")
-    words = iter(layout.unpack(data))
+    layout = struct.Struct(f"<I6Q3I{4 * boxes}I{4 * boxes}Q{objects}I{2 * pairs * boxes}I")
+    size = SAVED_HEAD.size + layout.size + DIGEST
+    if len(data) != size:
+        raise Fault(f"collection.saved: {len(data)} bytes, where this store and these boxes have {size}")
+    name, version, made, *digests = SAVED_HEAD.unpack_from(data)
+    if (name, version) != SAVED_BEGINS or digest(data[:-DIGEST]) != data[-DIGEST:]:
+        raise Fault("collection.saved: damaged, or of another version")
+    if digests != [digest(store), digest(order)]:
+        raise Fault("collection.saved belongs to another store.cat or order.run")
+    words = iter(layout.unpack_from(data, SAVED_HEAD.size))
 
     def take(count: int) -> list[int]:
         return [next(words) for _ in range(count)]
 
-    saved = Saved(*take(2))
+    saved = Saved(made, *take(1))
     saved.counts = {name: count for name, count in zip(COUNTS, take(6)) if count}
     holder, colour, black = take(3)
     saved.token = (holder, colour) if holder or colour else None
@@ -598,11 +617,12 @@ def load_text(path: Path) -> Case:
 def save(case: Case, folder: Path) -> None:
     """Writes the files; the folder is made if it is not there. An update of an earlier case does not stay. What cannot be
     written whole leaves the files of before."""
-    files = {"store.cat": store_bytes(case), "order.run": order_bytes(case)}
+    store, order = store_bytes(case), order_bytes(case)
+    files = {"store.cat": store, "order.run": order}
     if case.added or case.removed:
         files[UPDATE_NAME] = update_bytes(case)
     if case.saved:
-        files[SAVED_NAME] = saved_bytes(case)
+        files[SAVED_NAME] = saved_bytes(case, store, order)
     folder.mkdir(parents=True, exist_ok=True)
     beside = {name: folder / f"{name}.new" for name in files}
     try:
@@ -618,11 +638,12 @@ def save(case: Case, folder: Path) -> None:
 
 def load(folder: Path) -> Case:
     """The case in the files of a folder."""
-    case = read((folder / "store.cat").read_bytes(), (folder / "order.run").read_bytes())
+    store, order = (folder / "store.cat").read_bytes(), (folder / "order.run").read_bytes()
+    case = read(store, order)
     if (folder / UPDATE_NAME).exists():
         case.added, case.removed = read_update((folder / UPDATE_NAME).read_bytes())
     if (folder / SAVED_NAME).exists():
-        case.saved = read_saved(case, (folder / SAVED_NAME).read_bytes())
+        case.saved = read_saved(case, (folder / SAVED_NAME).read_bytes(), store, order)
     return case
 
 

@@ -1,6 +1,11 @@
 """The program that stops and goes on: parts of turns, kills at random moments, and files that are damaged."""
 
+import fcntl
+import hashlib
+import os
 import random
+import resource
+import signal
 import struct
 import subprocess
 import sys
@@ -13,9 +18,10 @@ TOP = Path(__file__).resolve().parents[2]
 sys.path.insert(0, str(TOP / "tools"))
 import case  # noqa: E402
 
-PROGRAMS = {"pause": TOP / "target/cargo/release/pause", "collect": TOP / "target/bin/collect"}
-SAVED = "collection.saved"
+PROGRAMS = {"pause": TOP / "target/bin/pause", "collect": TOP / "target/bin/collect"}
+SAVED, BESIDE = "collection.saved", "collection.new"
 SEED = 6
+KILLS = 1000  # of a single call, and of two at once
 
 
 def catalogue(rng, objects, references):
@@ -45,18 +51,23 @@ class Pause(unittest.TestCase):
         (self.folder / "store.cat").write_bytes(catalogue(self.rng, objects, references))
         (self.folder / "order.run").write_bytes(order(self.rng, self.rng.randint(1, 4), 3, 2, turns))
 
-    def run_program(self, name, *arguments):
+    def run_program(self, name, *arguments, told=""):
+        """What the program prints; on the other side it says just this sentence."""
         done = subprocess.run([PROGRAMS[name], *arguments], cwd=self.folder, capture_output=True, check=True)
-        self.assertEqual(done.stderr, b"")
+        self.assertEqual(done.stderr.decode(), f"pause: {told}\n" if told else "")
         return done.stdout.decode()
 
     def saved(self):
         return (self.folder / SAVED).read_bytes()
 
     def made(self):
-        """How many turns the kept collection has made."""
+        """How many turns the kept collection has made; that it is whole."""
         path = self.folder / SAVED
-        return struct.unpack("<I", path.read_bytes()[:4])[0] if path.exists() else 0
+        if not path.exists():
+            return 0
+        data = path.read_bytes()
+        self.assertEqual(hashlib.sha256(data[:-32]).digest(), data[-32:])
+        return struct.unpack_from("<Q", data, 20)[0]
 
     def whole(self):
         """What one run prints, and what it keeps."""
@@ -66,6 +77,11 @@ class Pause(unittest.TestCase):
         self.assertEqual(printed, self.run_program("collect"))
         return printed, kept
 
+    def begin_to_end(self, printed, kept):
+        """The rest of the turns brings what one run brings; then everything begins anew."""
+        self.assertEqual((self.run_program("pause"), self.saved()), (printed, kept))
+        (self.folder / SAVED).unlink()
+
     def test_parts_end_as_one_run(self):
         for _ in range(6):
             self.draw(self.rng.randint(1, 90), self.rng.randint(0, 200), turns=400)
@@ -74,30 +90,102 @@ class Pause(unittest.TestCase):
                 self.run_program("pause", str(self.rng.choice([0, 1, 2, 60, 150])))
             self.assertEqual((self.run_program("pause", "0"), self.saved()), (printed, kept))
 
+    def start(self, turns):
+        return subprocess.Popen(
+            [PROGRAMS["pause"], str(turns)], cwd=self.folder, stdout=subprocess.DEVNULL, stderr=subprocess.DEVNULL
+        )
+
     def test_killed_at_random_moments(self):
         printed, kept = self.whole()
         killed = 0
-        while self.made() < 3000:
+        while killed < KILLS // 2:
             at = self.made()
-            going = subprocess.Popen([PROGRAMS["pause"], "40"], cwd=self.folder, stdout=subprocess.DEVNULL)
+            if at == 3000:
+                self.begin_to_end(printed, kept)
+                continue
+            going = self.start(40)
             time.sleep(self.rng.uniform(0, 0.004))
             going.kill()
             killed += going.wait() != 0
             self.assertIn(self.made(), (at, at + 40))
-        self.assertGreater(killed, 0)
-        self.assertEqual((self.run_program("pause", "0"), self.saved()), (printed, kept))
+        self.begin_to_end(printed, kept)
+        self.assertFalse((self.folder / BESIDE).exists())
 
-    def test_damaged_and_foreign_files(self):
+    def test_two_at_once_and_killed(self):
+        """One of the two is killed, or both; what the other one makes is kept, and each turn is made once."""
+        printed, kept = self.whole()
+        killed = 0
+        while killed < KILLS // 2:
+            at = self.made()
+            if at >= 2900:
+                self.begin_to_end(printed, kept)
+                continue
+            going = [self.start(40), self.start(41)]
+            time.sleep(self.rng.uniform(0, 0.006))
+            for one in going[: self.rng.choice([1, 2])]:
+                one.kill()
+            ended = [one.wait() for one in going]
+            killed += sum(status != 0 for status in ended)
+            least = sum(turns for turns, status in zip((40, 41), ended) if status == 0)
+            self.assertIn(self.made() - at, [made for made in (0, 40, 41, 81) if made >= least])
+        self.begin_to_end(printed, kept)
+
+    def test_waits_for_another(self):
+        """While somebody has the folder, it waits, and says so."""
+        folder = os.open(self.folder, os.O_RDONLY)
+        self.addCleanup(os.close, folder)
+        fcntl.flock(folder, fcntl.LOCK_EX)
+        going = subprocess.Popen([PROGRAMS["pause"], "40"], cwd=self.folder, stdout=subprocess.DEVNULL, stderr=subprocess.PIPE)
+        self.assertEqual(going.stderr.readline(), b"pause: another one is at work in this folder; waiting for it\n")
+        self.assertIsNone(going.poll())
+        fcntl.flock(folder, fcntl.LOCK_UN)
+        self.assertEqual((going.wait(), going.stderr.read(), self.made()), (0, b"", 40))
+        going.stderr.close()
+
+    def refused(self, why):
+        self.assertEqual(self.run_program("pause", told=f"{SAVED} is not taken up: {why}"), "refusal 14\n")
+
+    def test_damaged_files(self):
         self.run_program("pause", "500")
         kept = self.saved()
-        for damaged in (b"", kept[:-1], kept + b"\0", bytes(len(kept)), kept[:4] + bytes([1]) + kept[5:], b"\xff" * len(kept)):
+        old_form = kept[20:24] + kept[92:-32]
+        newer = kept[:16] + struct.pack("<I", 2) + kept[20:]
+        more = kept[:20] + struct.pack("<Q", 501) + kept[28:]
+        beyond = kept[:20] + struct.pack("<Q", 1 << 63) + kept[28:-32]
+        foreign = "it is no file of this program, or one of an earlier form"
+        damage = "it is damaged or cut off: its check does not fit its contents"
+        for damaged, why in (
+            (b"", foreign),
+            (bytes(len(kept)), foreign),
+            (b"\xff" * len(kept), foreign),
+            (old_form, foreign),
+            (newer, "it has version 2, and this program reads version 1"),
+            (kept[:16], damage),
+            (kept[:100], damage),
+            (kept[:-1], damage),
+            (kept + b"\0", damage),
+            (more, damage),
+            (beyond + hashlib.sha256(beyond).digest(), "it says more turns than the order has"),
+        ):
             (self.folder / SAVED).write_bytes(damaged)
-            self.assertEqual(self.run_program("pause"), "refusal 14\n")
+            self.refused(why)
             self.assertEqual(self.saved(), damaged)
-        (self.folder / SAVED).write_bytes(kept)
-        (self.folder / "store.cat").write_bytes(catalogue(self.rng, 60, 150))
-        self.assertEqual(self.run_program("pause"), "refusal 14\n")
-        self.assertEqual(self.saved(), kept)
+
+    def test_other_store_or_order(self):
+        """Another D or K, a turn more, or a reference that leads elsewhere is told."""
+        self.run_program("pause", "500")
+        kept = self.saved()
+        for name, at in (("order.run", 1), ("order.run", 3), ("order.run", 700), ("store.cat", -4)):
+            path = self.folder / name
+            own = path.read_bytes()
+            other = bytearray(own)
+            other[at] ^= 1
+            for changed in (bytes(other), own + own[-2:] if name == "order.run" else bytes(other)):
+                path.write_bytes(changed)
+                self.refused(f"it belongs to another {name}")
+            path.write_bytes(own)
+            self.assertEqual(self.saved(), kept)
+        self.assertNotEqual(self.run_program("pause"), "refusal 14\n")
 
     def test_as_text(self):
         """A stopped collection told as text is the same file, and can be written by hand."""
@@ -108,25 +196,58 @@ class Pause(unittest.TestCase):
         self.assertEqual(self.saved(), kept)
         told.saved.counts["live"] += 1
         case.save(told, self.folder)
-        self.assertEqual(self.run_program("pause"), "refusal 14\n")
+        self.refused("its words hold no sound collection")
 
     def test_file_that_cannot_be_read(self):
         (self.folder / SAVED).mkdir()
-        self.assertEqual(self.run_program("pause"), "refusal 12\n")
+        self.assertEqual(self.run_program("pause", told=f"{SAVED}: it is no file"), "refusal 12\n")
+        (self.folder / SAVED).rmdir()
+        os.mkfifo(self.folder / SAVED)
+        self.assertEqual(self.run_program("pause", told=f"{SAVED}: it is no file"), "refusal 12\n")
+        (self.folder / SAVED).unlink()
+        (self.folder / SAVED).symlink_to("nowhere")
+        told = f"{SAVED}: No such file or directory (os error 2)"
+        self.assertEqual(self.run_program("pause", told=told), "refusal 12\n")
 
     def test_half_written_file_beside(self):
         printed, kept = self.whole()
         self.run_program("pause", "1000")
-        (self.folder / "collection.new").write_bytes(self.saved()[:777])
-        self.assertEqual((self.run_program("pause"), self.saved()), (printed, kept))
+        (self.folder / BESIDE).write_bytes(self.saved()[:777])
+        self.begin_to_end(printed, kept)
 
-    def test_refused_call_keeps_the_file(self):
+    def test_link_beside_is_not_followed(self):
+        own = self.folder / "own"
+        own.write_bytes(b"of somebody else")
+        (self.folder / BESIDE).symlink_to("own")
+        self.run_program("pause", "500")
+        self.assertEqual((own.read_bytes(), self.made()), (b"of somebody else", 500))
+        self.assertFalse((self.folder / SAVED).is_symlink())
+
+    def test_what_cannot_be_written_whole(self):
+        """The file of before stays, nothing beside it, and it is told."""
         self.run_program("pause", "500")
         kept = self.saved()
+
+        def little_room():
+            signal.signal(signal.SIGXFSZ, signal.SIG_IGN)
+            resource.setrlimit(resource.RLIMIT_FSIZE, (100, 100))
+
+        done = subprocess.run([PROGRAMS["pause"], "40"], cwd=self.folder, capture_output=True, preexec_fn=little_room)
+        self.assertEqual((done.returncode, done.stdout), (1, b""))
+        self.assertEqual(done.stderr, b"pause: the collection was not kept: File too large (os error 27)\n")
+        self.assertEqual((self.saved(), (self.folder / BESIDE).exists()), (kept, False))
+        (self.folder / BESIDE).mkdir()
+        done = subprocess.run([PROGRAMS["pause"], "40"], cwd=self.folder, capture_output=True)
+        self.assertEqual((done.returncode, self.saved()), (1, kept))
+
+    def test_refused_call_keeps_the_file(self):
         path = self.folder / "order.run"
         path.write_bytes(path.read_bytes()[: 5 + 2 * 900] + b"\4\0")
+        self.run_program("pause", "500")
+        kept = self.saved()
         self.assertEqual(self.run_program("pause"), "refusal 9\n")
         self.assertEqual(self.saved(), kept)
+        self.assertFalse((self.folder / BESIDE).exists())
 
 
 if __name__ == "__main__":

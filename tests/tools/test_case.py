@@ -107,12 +107,17 @@ class Cases(unittest.TestCase):
             made = some_case(rng)
             made.settings["boxes"] = rng.randrange(5)
             made.saved = some_saved(rng, made.settings["boxes"], len(made.sizes))
-            data = case.saved_bytes(made)
-            self.assertEqual(case.read_saved(made, data), made.saved)
+            data = case.saved_bytes(made, b"store", b"order")
+            self.assertEqual(case.read_saved(made, data, b"store", b"order"), made.saved)
             self.assertEqual(case.parse(case.show(made)), made)
-            for damaged in (data[:-1], data + b"\0", b""):
+            at = rng.randrange(len(data))
+            changed = data[:at] + bytes([data[at] ^ 1]) + data[at + 1 :]
+            for damaged in (data[:-1], data + b"\0", b"", changed):
                 with self.assertRaises(case.Fault):
-                    case.read_saved(made, damaged)
+                    case.read_saved(made, damaged, b"store", b"order")
+            for files in ((b"another", b"order"), (b"store", b"another")):
+                with self.assertRaises(case.Fault):
+                    case.read_saved(made, data, *files)
 
     def test_saved_words(self):
         """Case B: what the first five turns of the sample leave, word by word."""
@@ -133,9 +138,11 @@ class Cases(unittest.TestCase):
             run 1 2 3
         """
         sample = case.parse(SAMPLE.read_text() + lines)
-        words = [5, 2, 2, 0, 1, 0, 1, 0, 0, 0, 5, 0, 2, 0, 0, 0, 1, 6, 0, 0, 1, 4, 0, 0, 0, 1, 0, 1, 0, 0, 0, 1, 0] + [0] * 8
+        words = [2, 2, 0, 1, 0, 1, 0, 0, 0, 5, 0, 2, 0, 0, 0, 1, 6, 0, 0, 1, 4, 0, 0, 0, 1, 0, 1, 0, 0, 0, 1, 0] + [0] * 8
         words += [1, 1, 0, 0, 0, 0, 1, 2] + [0] * 14 + [2, 3] + [0] * 14
-        self.assertEqual(case.saved_bytes(sample), struct.pack(f"<{len(words)}I", *words))
+        head = struct.pack("<16sIQ", b"kullneyra pause\n", 1, 5) + case.digest(b"store") + case.digest(b"order")
+        data = head + struct.pack(f"<{len(words)}I", *words)
+        self.assertEqual(case.saved_bytes(sample, b"store", b"order"), data + case.digest(data))
         self.assertEqual(case.show_saved(sample.saved), [line.strip() for line in lines.strip().splitlines()])
 
     def test_saved_refused(self):
@@ -164,7 +171,7 @@ class Cases(unittest.TestCase):
         beyond = ("box 2 idle cell - since 0 batch 0", "tally 2 followed 0 won 0 lost 0 handed 0", "run 2 0 1", "mark 6 1")
         for line in (*beyond, "run 0 0 1\n" * 9):
             with self.assertRaises(case.Fault, msg=line):
-                case.saved_bytes(case.parse(head + line + "\n"))
+                case.saved_bytes(case.parse(head + line + "\n"), b"", b"")
 
     def test_update_there_and_back(self):
         rng = random.Random(12)

@@ -1,63 +1,90 @@
 //! A collection that is stopped and goes on: `pause TURNS` makes so many further turns of the order in the current
 //! folder, all that are left where no number is given, and keeps the collection in `collection.saved`.
 //!
-//! It reads `store.cat` and `order.run` and prints what `collect` prints. `collection.saved` holds 32-bit words, the lowest
-//! byte first: how many turns of the order were made, and the saved words. It is written beside and renamed, so a crash
-//! leaves the old one or the new one; whichever it is, the next call goes on from there.
+//! It reads `store.cat` and `order.run` and prints what `collect` prints. The kept file is written beside, brought to the
+//! disk and renamed, so a crash leaves the old one or the new one; whichever it is, the next call goes on from there. Only
+//! one `pause` works in a folder at a time.
 
+mod kept;
+
+use kept::{Files, Kept};
 use kullneyra::{begin, header, lengths, read, resume, sweep, tallies};
 use kullneyra::{Marked, Refusal, Schedule, Settings, Tally, MOST_SETTING, MOST_WORKERS, STARTS};
 use std::fmt::Write as _;
-use std::fs::{self, File};
+use std::fs::{self, File, OpenOptions, TryLockError};
 use std::io::{self, ErrorKind, Write as _};
 use std::process::ExitCode;
 
 const SAVED: &str = "collection.saved";
 const BESIDE: &str = "collection.new";
 
-/// Refusals that only a program has.
-const UNREADABLE: u32 = 12;
-
-/// Why nothing was done: a refusal's number, or a file that could not be written.
+/// Why nothing was done: a refusal's number, with a sentence where the number alone does not tell; or what the system said.
 enum Stop {
-    Refused(u32),
-    NotKept(io::Error),
+    Refused(u32, Option<String>),
+    Failed(&'static str, io::Error),
 }
 
 impl From<Refusal> for Stop {
     fn from(refusal: Refusal) -> Self {
-        Stop::Refused(refusal.number())
+        Stop::Refused(refusal.number(), None)
     }
 }
 
+/// A file that cannot be read.
+fn unreadable(path: &str, why: impl std::fmt::Display) -> Stop {
+    Stop::Refused(12, Some(format!("{path}: {why}")))
+}
+
+/// A kept collection that cannot be taken up.
+fn unsound(why: impl std::fmt::Display) -> Stop {
+    Stop::Refused(Refusal::Saved.number(), Some(format!("{SAVED} is not taken up: {why}")))
+}
+
+/// The bytes of a file. What is no file, a pipe for example, is not waited for.
 fn load(path: &str) -> Result<Vec<u8>, Stop> {
-    fs::read(path).map_err(|_| Stop::Refused(UNREADABLE))
-}
-
-/// The kept collection, if there is one: the turns made, and the saved words.
-fn kept(words: usize) -> Result<Option<(usize, Vec<u32>)>, Stop> {
-    let unsound = Stop::Refused(Refusal::Saved.number());
-    let bytes = match fs::read(SAVED) {
-        Ok(bytes) => bytes,
-        Err(error) if error.kind() == ErrorKind::NotFound => return Ok(None),
-        Err(_) => return Err(Stop::Refused(UNREADABLE)),
+    let read = || match fs::metadata(path)?.is_file() {
+        true => fs::read(path),
+        false => Err(io::Error::other("it is no file")),
     };
-    if bytes.len() != 4 * (1 + words) {
-        return Err(unsound);
-    }
-    let mut all = bytes.chunks_exact(4).map(|word| u32::from_le_bytes([word[0], word[1], word[2], word[3]]));
-    let made = all.next().ok_or(unsound)?;
-    Ok(Some((made as usize, all.collect())))
+    read().map_err(|error: io::Error| unreadable(path, error))
 }
 
-/// Writes the collection beside, has it on the disk, renames, and has the new name on the disk.
-fn keep(made: usize, saved: &[u32]) -> io::Result<()> {
-    let bytes: Vec<u8> = [made as u32].iter().chain(saved).flat_map(|word| word.to_le_bytes()).collect();
-    let mut file = File::create(BESIDE)?;
-    file.write_all(&bytes)?;
-    file.sync_all()?;
-    fs::rename(BESIDE, SAVED)?;
-    File::open(".")?.sync_all()
+/// Keeps every other `pause` out of this folder, until this process ends, however it ends.
+fn lock() -> io::Result<File> {
+    let folder = File::open(".")?;
+    match folder.try_lock() {
+        Ok(()) => {}
+        Err(TryLockError::WouldBlock) => {
+            eprintln!("pause: another one is at work in this folder; waiting for it");
+            folder.lock()?;
+        }
+        Err(TryLockError::Error(error)) => return Err(error),
+    }
+    Ok(folder)
+}
+
+/// The kept collection, if there is one.
+fn kept(files: &Files, words: usize) -> Result<Option<Kept>, Stop> {
+    if matches!(fs::symlink_metadata(SAVED), Err(error) if error.kind() == ErrorKind::NotFound) {
+        return Ok(None);
+    }
+    files.kept(&load(SAVED)?, words).map(Some).map_err(unsound)
+}
+
+/// Writes the file beside, has it on the disk, renames, and has the new name on the disk. The file beside is always a new
+/// one, so no link is followed, and it does not stay where something fails. What an earlier call left of it is removed.
+fn keep(folder: &File, bytes: &[u8]) -> io::Result<()> {
+    match fs::remove_file(BESIDE) {
+        Err(error) if error.kind() != ErrorKind::NotFound => return Err(error),
+        _ => {}
+    }
+    let mut file = OpenOptions::new().write(true).create_new(true).open(BESIDE)?;
+    let written = file.write_all(bytes).and_then(|()| file.sync_all()).and_then(|()| fs::rename(BESIDE, SAVED));
+    if written.is_err() {
+        let _ = fs::remove_file(BESIDE);
+    }
+    written?;
+    folder.sync_all()
 }
 
 fn lines(marked: Marked, words: &[u64]) -> String {
@@ -77,9 +104,10 @@ fn lines(marked: Marked, words: &[u64]) -> String {
 
 /// Makes so many turns, keeps the collection, and returns what is printed.
 fn collect(turns: usize) -> Result<String, Stop> {
+    let folder = lock().map_err(|error| Stop::Failed("this folder cannot be locked", error))?;
     let (catalogue, order) = (load("store.cat")?, load("order.run")?);
     let &[workers, d0, d1, k0, k1, ref schedule @ ..] = &order[..] else {
-        return Err(Stop::Refused(UNREADABLE));
+        return Err(unreadable("order.run", "it has no settings"));
     };
     let head = header(&catalogue)?;
     let (n, m) = (head.objects as usize, head.references as usize);
@@ -101,20 +129,30 @@ fn collect(turns: usize) -> Result<String, Stop> {
 
     let w = usize::from(workers);
     let (mut marks, mut work, mut words) = (vec![0; n], vec![0; lengths::work(n, w)], vec![0; lengths::tallies(w)]);
-    let found = kept(lengths::saved(n, w))?;
-    let made = found.as_ref().map_or(0, |&(made, _)| made);
+    let files = Files::of(&catalogue, &order);
+    let found = kept(&files, lengths::saved(n, w))?;
+    let made = found.as_ref().map_or(0, |found| found.made);
     // The last part has the whole rest, half an entry too.
-    let from = 2 * made;
-    if from > schedule.len() {
-        return Err(Refusal::Saved.into());
-    }
+    let Some(from) =
+        usize::try_from(made).ok().and_then(|made| made.checked_mul(2)).filter(|&from| from <= schedule.len())
+    else {
+        return Err(unsound("it says more turns than the order has"));
+    };
     let end = if turns < (schedule.len() - from) / 2 { from + 2 * turns } else { schedule.len() };
     let part = Schedule::from_bytes(&schedule[from..end]);
     let fresh = found.is_none();
-    let mut saved = found.map_or_else(|| vec![0; lengths::saved(n, w)], |(_, saved)| saved);
+    let mut saved = found.map_or_else(|| vec![0; lengths::saved(n, w)], |found| found.saved);
     let call = if fresh { begin } else { resume };
-    let marked = call(&offsets, &targets, starts, settings, part, &mut marks, &mut work, &mut words, &mut saved)?;
-    keep(end / 2, &saved).map_err(Stop::NotKept)?;
+    let marked = call(&offsets, &targets, starts, settings, part, &mut marks, &mut work, &mut words, &mut saved)
+        .map_err(|refusal| {
+            if refusal == Refusal::Saved {
+                unsound("its words hold no sound collection")
+            } else {
+                refusal.into()
+            }
+        })?;
+    let kept = Kept { made: (end / 2) as u64, saved };
+    keep(&folder, &files.bytes(&kept)).map_err(|error| Stop::Failed("the collection was not kept", error))?;
 
     let mut text = lines(marked, &words);
     if marked.finished {
@@ -139,9 +177,14 @@ fn main() -> ExitCode {
     };
     let text = match collect(turns) {
         Ok(text) => text,
-        Err(Stop::Refused(number)) => format!("refusal {number}\n"),
-        Err(Stop::NotKept(error)) => {
-            eprintln!("pause: the collection was not kept: {error}");
+        Err(Stop::Refused(number, sentence)) => {
+            if let Some(sentence) = sentence {
+                eprintln!("pause: {sentence}");
+            }
+            format!("refusal {number}\n")
+        }
+        Err(Stop::Failed(what, error)) => {
+            eprintln!("pause: {what}: {error}");
             return ExitCode::FAILURE;
         }
     };
