@@ -174,7 +174,7 @@ class Contracts(unittest.TestCase):
             ("kullneyra/specs/Promise.antt", "  pub collected : Collected", "  pub collected : W ≡ 1 → Collected"),
             ("kullneyra/specs/Promise.antt", "  pub all-marked :", "  pub some-marked :"),
             ("kullneyra/specs/Calls.antt", "answerIn k result number = pick", "answerIn k result number = const 0 pick"),
-            ("kullneyra/specs/Calls.antt", "Rattle.layers.specs.Hops.{HopsOf}", "Rattle.layers.specs.Hops.{HopsLike as HopsOf}"),
+            ("kullneyra/specs/Calls.antt", "Rattle.layers.specs.Hops.{HopsOf,", "Rattle.layers.specs.Hops.{HopsLike as HopsOf,"),
         ):
             with self.subTest(new):
                 told = self.difference(Path("crates", path), old, new)

@@ -63,7 +63,7 @@ cardsFault cards = raise (not (allBelow deck-size cards)) 15 0
 
 -- 7: the schedule is not exactly as long as the turns
 abbrev pub scheduleFault : ℕ → ℕ → ℕ → ℕ
-scheduleFault W k length = raise (not (eqb length (bytesOf W k))) 7 0
+scheduleFault W k long = raise (not (eqb long (bytesOf W k))) 7 0
 
 -- the number of the first fault of a hand, which has no D and no K, for W workers and a schedule of so many bytes, or 0
 unfoldable pub fault : ℕ → List ℕ → ℕ → ℕ

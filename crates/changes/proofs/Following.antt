@@ -4,7 +4,7 @@ use mathlib.Core.Path.{_≡_, refl, sym, ap, subst, _∙_}
 use mathlib.Core.Bool.{true}
 use mathlib.Core.List.{List, [], _∷_}
 use mathlib.Core.Logic.{by-cases}
-use Prim.Native.Nat.{ℕ, zero, suc, _-_, _<_}
+use Prim.Native.Nat.{ℕ, zero, suc, _+_, _-_, _≤_, _<_}
 use native.Mathlib.Nat.{zero-add}
 use native.Mathlib.Decide.{ℕ-discrete, decLt}
 use native.Mathlib.Omega.{arith}
@@ -22,8 +22,8 @@ use Rattle.graph.proofs.View.{view-has, view-only}
 use Rattle.graph.proofs.Reached.{closure-holds, closure-least, closure-closed}
 use Rattle.machine.specs.Sound.{Marked}
 use Rattle.changes.specs.Stores.{markBy, completed, new-mark}
-use Rattle.changes.specs.Marking.{listed, Roomy, Touched, Between, Followable}
-use Rattle.changes.proofs.Touching.{unset-zero, unset-some, unset-none, marked-below, unmarked-at, list-less, stays-marked, roomy-next}
+use Rattle.changes.specs.Marking.{listed, unmarked, Roomy, ListLeft, Touched, Between, Followable}
+use Rattle.changes.proofs.Touching.{unset-zero, unset-some, unset-none, marked-below, unmarked-at, list-less, left-none, left-then, stays-marked, roomy-next}
 
 -- ---- numbers below a bound
 
@@ -148,16 +148,20 @@ module _ {G : Graph} {ms list : List ℕ} {top : ℕ} (f : Followable G ms list 
 
 -- ---- the loop
 
-pub record FollowAt (G : Graph) (ms₀ list₀ ms list : List ℕ) (top : ℕ) : Type 0 where
+pub record FollowAt (G : Graph) (ms₀ list₀ : List ℕ) (top₀ : ℕ) (ms list : List ℕ) (top : ℕ) : Type 0 where
   pub followable : Followable G ms list top
   pub between : (given : List ℕ) → Between G given ms₀ → Between G given ms
   pub marks-long : length ms ≡ length ms₀
   pub list-long : length list ≡ length list₀
+  -- what is on the list and what is not marked have not become more
+  pub no-more : top + unmarked ms ≤ top₀ + unmarked ms₀
+  pub left : ListLeft top₀ ms₀ list₀ ms list
 
-pub following-start : {G : Graph} {ms list : List ℕ} {top : ℕ} → Followable G ms list top → FollowAt G ms list ms list top
-following-start f = record { followable = f; between = λ given b. b; marks-long = refl; list-long = refl }
+pub following-start : {G : Graph} {ms list : List ℕ} {top : ℕ} → Followable G ms list top → FollowAt G ms list top ms list top
+following-start {ms = ms} {list} {top} f =
+    record { followable = f; between = λ given b. b; marks-long = refl; list-long = refl; no-more = omega arith; left = left-none top ms list }
 
-module _ {G : Graph} {ms₀ list₀ ms list : List ℕ} {top : ℕ} (a : FollowAt G ms₀ list₀ ms list top) where
+module _ {G : Graph} {ms₀ list₀ : List ℕ} {top₀ : ℕ} {ms list : List ℕ} {top : ℕ} (a : FollowAt G ms₀ list₀ top₀ ms list top) where
   -- the list is not empty
   pub last-of : 0 < top → Followable G ms list (suc (top - 1))
   last-of h =
@@ -165,18 +169,21 @@ module _ {G : Graph} {ms₀ list₀ ms list : List ℕ} {top : ℕ} (a : FollowA
       subst (λ (k : ℕ). Followable G ms list k) q (a .followable)
 
   pub following-next : (h : 0 < top) {ms′ list′ : List ℕ} {top′ : ℕ}
-      → Touched new-mark (referencesOf G (getD list (top - 1) 0)) ms list (top - 1) ms′ list′ top′ → FollowAt G ms₀ list₀ ms′ list′ top′
+      → Touched new-mark (referencesOf G (getD list (top - 1) 0)) ms list (top - 1) ms′ list′ top′ → FollowAt G ms₀ list₀ top₀ ms′ list′ top′
   following-next h t =
+      let no-more = a .no-more in
       record {
         followable = follow-next (last-of h) t;
         between = λ given b. between-next (last-of h) t given (a .between given b);
         marks-long = t .marks-long ∙ a .marks-long;
         list-long = t .list-long ∙ a .list-long;
+        no-more = omega (arith, t .sized);
+        left = left-then (a .left) (omega arith) (t .left);
       }
 
   -- it is
-  pub following-end : top ≡ 0 → (given : List ℕ) → Between G given ms₀ → ms ≡ completed G given
+  pub following-end : top ≡ 0 → ((given : List ℕ) → Between G given ms₀ → ms ≡ completed G given) × ListLeft top₀ ms₀ list₀ ms list
   unfolding sum
-  following-end z given b =
+  following-end z =
       let f : Followable G ms list 0 = subst (λ (k : ℕ). Followable G ms list k) z (a .followable) in
-      completed-is (a .between given b) (λ u e m l. f .closed u e m refl l)
+      (λ given b. completed-is (a .between given b) (λ u e m l. f .closed u e m refl l), a .left)

@@ -14,8 +14,8 @@ use Rattle.graph.specs.Leaving.{unset?}
 use Rattle.graph.proofs.Formed.{below-all}
 use Rattle.machine.specs.Sound.{Marked}
 use Rattle.changes.specs.Stores.{new-mark}
-use Rattle.changes.specs.Marking.{listed, unmarked, Roomy, Touched, Seeded}
-use Rattle.changes.proofs.Touching.{stays-marked}
+use Rattle.changes.specs.Marking.{listed, unmarked, Roomy, ListLeft, Touched, Seeded}
+use Rattle.changes.proofs.Touching.{left-none, left-then, stays-marked}
 
 -- the first i pairs were looked at
 pub record Seeding (from to ms list ms′ list′ : List ℕ) (top′ i : ℕ) : Type 0 where
@@ -30,6 +30,7 @@ pub record Seeding (from to ms list ms′ list′ : List ℕ) (top′ i : ℕ) :
       → (v : ℕ) → Marked ms′ v → Marked cl v
   pub holds : (v : ℕ) → listed v list′ top′ + unset? (getD ms′ v 0) ≡ unset? (getD ms v 0)
   pub sized : top′ + unmarked ms′ ≡ unmarked ms
+  pub left : ListLeft 0 ms list ms′ list′
 
 pub seeding-none : (from to ms list : List ℕ) → Seeding from to ms list ms list 0 0
 unfolding sum
@@ -44,6 +45,7 @@ seeding-none from to ms list =
       within = λ cl f g v h. f v h;
       holds = λ v. omega arith;
       sized = omega arith;
+      left = left-none 0 ms list;
     }
 
 module _ {from to ms list ms′ list′ : List ℕ} {top′ i : ℕ} (a : Seeding from to ms list ms′ list′ top′ i) where
@@ -70,6 +72,7 @@ module _ {from to ms list ms′ list′ : List ℕ} {top′ i : ℕ} (a : Seedin
         within = a .within;
         holds = a .holds;
         sized = a .sized;
+        left = a .left;
       }
 
   -- one whose source is
@@ -96,6 +99,7 @@ module _ {from to ms list ms′ list′ : List ℕ} {top′ i : ℕ} (a : Seedin
             rw (hit-equal v (getD to i 0) (omega (arith, w))) (g i h (a .within cl f g (getD from i 0) s)));
         holds = λ v. t .holds v ∙ a .holds v;
         sized = t .sized ∙ a .sized;
+        left = left-then (a .left) (omega (arith, a .sized)) (t .left);
       }
 
   pub seeding-end : length from ≤ i → Seeded from to ms list ms′ list′ top′
@@ -109,6 +113,7 @@ module _ {from to ms list ms′ list′ : List ℕ} {top′ i : ℕ} (a : Seedin
         within = a .within;
         holds = a .holds;
         sized = a .sized;
+        left = a .left;
       }
 
   -- source and target are among the marks

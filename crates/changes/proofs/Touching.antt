@@ -3,7 +3,7 @@
 use mathlib.Core.Path.{_≡_, refl, ap, _∙_}
 use mathlib.Core.Bool.{true}
 use mathlib.Core.List.{List, [], _∷_, _++_}
-use mathlib.Core.Logic.{by-cases, ⊎-elim}
+use mathlib.Core.Logic.{inl, inr, by-cases, ⊎-elim}
 use Prim.Native.Nat.{ℕ, zero, suc, _+_, _≤_, _<_}
 use native.Mathlib.Numerals.{add-one}
 use native.Mathlib.Decide.{ℕ-discrete, decLt}
@@ -16,7 +16,7 @@ use Rattle.graph.specs.Graph.{allBelow}
 use Rattle.graph.specs.Leaving.{unset?}
 use Rattle.graph.proofs.Formed.{below-all}
 use Rattle.machine.specs.Sound.{Marked}
-use Rattle.changes.specs.Marking.{listed, Roomy, Touched}
+use Rattle.changes.specs.Marking.{listed, unmarked, Roomy, ListLeft, Touched}
 
 -- ---- marks
 
@@ -50,6 +50,33 @@ list-more v w list top h = rw (add-one top, take-suc-set list top v h) (sum-snoc
 pub list-less : (w : ℕ) (list : List ℕ) (top : ℕ) → top < length list → listed w list (suc top) ≡ listed w list top + hit w (getD list top 0)
 list-less w list top h = rw (take-suc list top 0 h) (sum-snoc (hit w) (take top list) (getD list top 0))
 
+-- ---- what is left in the list's words
+
+pub left-none : (top : ℕ) (ms list : List ℕ) → ListLeft top ms list ms list
+left-none top ms list = record { long = refl; marked = λ v h. h; fewer = omega arith; words = λ i. inl refl }
+
+-- one step and then another, where what is on the list and what is not marked have not become more
+pub left-then : {top : ℕ} {ms list ms′ list′ : List ℕ} {top′ : ℕ} {ms″ list″ : List ℕ} → ListLeft top ms list ms′ list′
+    → top′ + unmarked ms′ ≤ top + unmarked ms → ListLeft top′ ms′ list′ ms″ list″ → ListLeft top ms list ms″ list″
+left-then {ms = ms} {list} {ms′} {list′} {ms″ = ms″} {list″} a h b =
+    let fewer = a .fewer in
+    let fewer′ = b .fewer in
+    record {
+      long = b .long ∙ a .long;
+      marked = λ v m. b .marked v (a .marked v m);
+      fewer = omega arith;
+      words = λ i.
+          ⊎-elim
+          (λ (e : getD list″ i 0 ≡ getD list′ i 0).
+          ⊎-elim (λ (f : getD list′ i 0 ≡ getD list i 0). inl (e ∙ f))
+          (λ p. inr (omega (arith, p .0), rw e (p .1), rw e (b .marked (getD list′ i 0) (p .2))))
+          (a .words i))
+          (λ p.
+          inr
+          (omega (arith, p .0), unmarked-at ms (getD list″ i 0) (λ m. omega (arith, a .marked (getD list″ i 0) m, p .1)), p .2))
+          (b .words i);
+    }
+
 -- ---- one object
 
 sole : (w v : ℕ) → 0 < sum (hit w) (v ∷ []) → w ≡ v
@@ -76,6 +103,7 @@ module _ (value : ℕ) (ms list : List ℕ) (top v : ℕ) where
         looked = λ w h. rw (sole w v h) m;
         holds = λ w. refl;
         sized = refl;
+        left = left-none top ms list;
       }
 
   -- not yet
@@ -85,7 +113,7 @@ module _ (value : ℕ) (ms list : List ℕ) (top v : ℕ) where
       record {
         marks-long = length-set ms v value;
         list-long = length-set list top v;
-        kept = λ w h. getD-set-other ms v w value 0 (λ (q : w ≡ v). omega (arith, h, ap (λ (i : ℕ). getD ms i 0) q, e));
+        kept = kept;
         fresh = λ w z h.
             by-cases (ℕ-discrete w v) (λ (q : w ≡ v). rw q (getD-set-same ms v value 0 below, one-there v))
             (λ q. absurd (omega (arith, z, h, getD-set-other ms v w value 0 q)));
@@ -97,8 +125,24 @@ module _ (value : ℕ) (ms list : List ℕ) (top v : ℕ) where
               rw (unset-some value some) at (at-set unset? 0 ms v 0 value w e below),
               hit-swap v w,
             );
-        sized = omega (arith, sum-set unset? 0 ms v 0 value e below, unset-some value some);
+        sized = fewer-by-one;
+        left = record {
+          long = length-set list top v;
+          marked = λ w h. omega (arith, h, kept w h);
+          fewer = omega (arith, fewer-by-one);
+          words = λ i.
+              by-cases (ℕ-discrete i top)
+              (λ (q : i ≡ top).
+              rw (q, getD-set-same list top v 0 room) (inr (omega (arith, fewer-by-one), e, rw (getD-set-same ms v value 0 below) some)))
+              (λ q. inl (getD-set-other list top i v 0 q));
+        };
       }
+    where
+      kept : (w : ℕ) → Marked ms w → getD (set ms v value) w 0 ≡ getD ms w 0
+      kept w h = getD-set-other ms v w value 0 (λ (q : w ≡ v). omega (arith, h, ap (λ (i : ℕ). getD ms i 0) q, e))
+
+      fewer-by-one : top + 1 + unmarked (set ms v value) ≡ top + unmarked ms
+      fewer-by-one = omega (arith, sum-set unset? 0 ms v 0 value e below, unset-some value some)
 
 -- ---- several, one after the other
 
@@ -113,6 +157,7 @@ touched-none value ms list top =
       looked = λ w h. absurd (omega (arith, h));
       holds = λ w. refl;
       sized = refl;
+      left = left-none top ms list;
     }
 
 module _ {value : ℕ} {a ms list : List ℕ} {top : ℕ} {ms′ list′ : List ℕ} {top′ : ℕ} (t : Touched value a ms list top ms′ list′ top′) where
@@ -145,6 +190,7 @@ module _ {value : ℕ} {a ms list : List ℕ} {top : ℕ} {ms′ list′ : List 
             (either-positive (sum (hit w) a) (sum (hit w) b) (omega (arith, h, sum-append (hit w) a b)));
         holds = λ w. u .holds w ∙ t .holds w;
         sized = u .sized ∙ t .sized;
+        left = left-then (t .left) (omega (arith, t .sized)) (u .left);
       }
 
 -- ---- the objects of a list

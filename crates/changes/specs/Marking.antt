@@ -1,6 +1,7 @@
 -- Marking along references with a list of objects whose references are still to be followed: what the functions ask and leave.
 use mathlib.Core.Path.{_≡_}
 use mathlib.Core.List.{List}
+use mathlib.Core.Logic.{_⊎_}
 use Prim.Native.Nat.{ℕ, _+_, _≤_, _<_}
 use lib.ListN.{length, getD, take}
 use Rattle.laws.specs.Sum.{sum, hit}
@@ -24,6 +25,15 @@ pub record Roomy (ms list : List ℕ) (top : ℕ) : Type 0 where
   pub room : top + unmarked ms ≤ length list
   pub few : length list < 4294967296
 
+-- What marking leaves in the words of its list, of which top were in use: each is as it was, or names an object newly marked, and then it is one
+-- of the first behind those in use, as many as there are such objects. Which of them it names is left open. No mark is lost.
+pub record ListLeft (top : ℕ) (ms list ms′ list′ : List ℕ) : Type 0 where
+  pub long : length list′ ≡ length list
+  pub marked : (v : ℕ) → Marked ms v → Marked ms′ v
+  pub fewer : unmarked ms′ ≤ unmarked ms
+  pub words : (i : ℕ) → (getD list′ i 0 ≡ getD list i 0)
+      ⊎ ((i + unmarked ms′ < top + unmarked ms) × (getD ms (getD list′ i 0) 0 ≡ 0) × Marked ms′ (getD list′ i 0))
+
 -- objects that were looked at: those without a mark got this one, and are on the list
 pub record Touched (value : ℕ) (seen ms list : List ℕ) (top : ℕ) (ms′ list′ : List ℕ) (top′ : ℕ) : Type 0 where
   pub marks-long : length ms′ ≡ length ms
@@ -37,6 +47,7 @@ pub record Touched (value : ℕ) (seen ms list : List ℕ) (top : ℕ) (ms′ li
   -- the list gets exactly the newly marked ones
   pub holds : (v : ℕ) → listed v list′ top′ + unset? (getD ms′ v 0) ≡ listed v list top + unset? (getD ms v 0)
   pub sized : top′ + unmarked ms′ ≡ top + unmarked ms
+  pub left : ListLeft top ms list ms′ list′
 
 -- marks on the way from those given to the completed ones
 pub record Between (G : Graph) (given ms : List ℕ) : Type 0 where
@@ -65,3 +76,4 @@ pub record Seeded (from to ms list ms′ list′ : List ℕ) (top′ : ℕ) : Ty
       → (v : ℕ) → Marked ms′ v → Marked cl v
   pub holds : (v : ℕ) → listed v list′ top′ + unset? (getD ms′ v 0) ≡ unset? (getD ms v 0)
   pub sized : top′ + unmarked ms′ ≡ unmarked ms
+  pub left : ListLeft 0 ms list ms′ list′

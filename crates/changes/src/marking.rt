@@ -7,7 +7,7 @@ ghost use Prim.Native.Nat.{ℕ, _<_};
 ghost use lib.ListN.{length};
 ghost use Rattle.graph.specs.Graph.{graph, allBelow};
 ghost use Rattle.changes.specs.Stores.{completed};
-ghost use Rattle.changes.specs.Marking.{Roomy, Touched, Between, Followable, Seeded};
+ghost use Rattle.changes.specs.Marking.{Roomy, ListLeft, Touched, Between, Followable, Seeded};
 
 // The mark of an object newly in the set.
 pub const NEW: u8 = 255;
@@ -48,7 +48,8 @@ pub fn touch_all(
 pub fn follow(offsets: &[u32], targets: &[u32], marks: &mut [u8], list: &mut [u32], top: usize)
     requires { ⌜ Followable (graph (now offsets) (now targets)) (now marks) (now list) top ⌝ }
     ensures { λ _. ⌜ ((given : List ℕ) → Between (graph (now (offsets .entry)) (now (targets .entry))) given (now (marks .entry))
-        → now (marks .exit) ≡ completed (graph (now (offsets .entry)) (now (targets .entry))) given) ⌝ }
+        → now (marks .exit) ≡ completed (graph (now (offsets .entry)) (now (targets .entry))) given)
+        × ListLeft top (now (marks .entry)) (now (list .entry)) (now (marks .exit)) (now (list .exit)) ⌝ }
 {
     let mut count = top;
     while count > 0 {

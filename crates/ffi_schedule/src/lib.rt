@@ -38,13 +38,14 @@ pub extern "C" fn kullneyra_draw(seed: &mut [u32], result: &mut [u32]) -> u32
     if result.len() != 1 {
         return kullneyra::BUFFER;
     }
-    let moved = seed::step(Seed {
+    let left = seed::draw_from(Seed {
         first: seed[0],
         second: seed[1],
     });
-    match seed::card_of(moved) {
+    let answer = left.answer;
+    match answer {
         Drawn::Card(card) => {
-            kullneyra::put_seed(moved, seed);
+            kullneyra::put_seed(left.seed, seed);
             result[0] = card;
             0
         }

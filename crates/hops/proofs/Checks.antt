@@ -18,7 +18,7 @@ use Rattle.refusal.proofs.Numbers.{numbered, when-fine, when-faulty}
 use Rattle.graph.specs.Graph.{graph, objects}
 use Rattle.desk.specs.Checks.{countsOutside, countFault, storeFault}
 use Rattle.desk.proofs.Passed.{counted, stored}
-use Rattle.layers.specs.Hops.{HopsOf}
+use Rattle.layers.specs.Hops.{HopsOf, LinksLeft}
 use Rattle.layers.specs.Search.{Searchable}
 use Rattle.hops.specs.Call.{workWords, fault, Finds, Answered}
 
@@ -67,6 +67,7 @@ module _ {os ts ss : List ℕ} (H W : List ℕ) {v : Verdict} (found : Finds v o
       record {
         number-is = n;
         counted = λ z. absurd (omega (arith, numbered cause));
+        work-left = λ z. absurd (omega (arith, numbered cause));
         unchanged = λ k z. (refl, refl);
       }
 
@@ -76,10 +77,11 @@ module _ {os ts ss : List ℕ} (H W : List ℕ) {v : Verdict} (found : Finds v o
   pub found-searchable : v ≡ Fine → Searchable (graph os ts) ss H W
   found-searchable e = searchable os ts ss H W (none-found e)
 
-  pub answered-fine : v ≡ Fine → {H′ W′ : List ℕ} → HopsOf (graph os ts) ss H′ → Answered os ts ss H W Fine H′ W′
+  pub answered-fine : v ≡ Fine → {H′ W′ : List ℕ} → HopsOf (graph os ts) ss H′ × LinksLeft H′ W W′ → Answered os ts ss H W Fine H′ W′
   answered-fine e h =
       record {
         number-is = sym (none-found e);
-        counted = λ z. h;
+        counted = λ z. h .0;
+        work-left = λ z. h .1;
         unchanged = λ k z. absurd (omega (arith, none-found e));
       }

@@ -11,7 +11,7 @@ use Rattle.refusal.specs.Order.{raise, first}
 use Rattle.graph.specs.Graph.{graph, objects}
 use Rattle.desk.specs.Checks.{countFault, objectsFault, storeFault}
 use Rattle.desk.specs.Length.{LengthRow, lengthBy}
-use Rattle.layers.specs.Hops.{HopsOf}
+use Rattle.layers.specs.Hops.{HopsOf, LinksLeft}
 
 -- how many work words n objects take
 abbrev pub workWords : ℕ → ℕ
@@ -37,6 +37,8 @@ pub record Answered (offsets targets starts hops work : List ℕ) (v : Verdict) 
   pub number-is : numberOf v ≡ fault offsets targets starts (length hops) (length work)
   -- without a fault: the least lengths of chains
   pub counted : fault offsets targets starts (length hops) (length work) ≡ 0 → HopsOf (graph offsets targets) starts hops′
+  -- and the work words of an object without a count are as they were
+  pub work-left : fault offsets targets starts (length hops) (length work) ≡ 0 → LinksLeft hops′ work work′
   -- beside a refusal every lent word is as it was
   pub unchanged : (k : ℕ) → fault offsets targets starts (length hops) (length work) ≡ suc k → (hops′ ≡ hops) × (work′ ≡ work)
 

@@ -13,5 +13,6 @@ hops-in a e =
     record {
       answers = n;
       counted = λ z. a .counted (sym n ∙ z);
+      work-left = λ z. a .work-left (sym n ∙ z);
       unchanged = λ k z. a .unchanged k (sym n ∙ z);
     }

@@ -2,7 +2,7 @@
 use mathlib.Core.Path.{_≡_, refl, ap, sym, _∙_}
 use mathlib.Core.List.{List, [], _∷_}
 use mathlib.Core.Logic.{_≢_}
-use Prim.Native.Nat.{ℕ, zero, suc, _^_, _<_}
+use Prim.Native.Nat.{ℕ, zero, suc, _<_}
 use native.Mathlib.Omega.{arith}
 use lib.ListN.{length, set}
 use borrow.Author.Tests.{eq-eqb, ne-eqb}
@@ -14,9 +14,8 @@ use Rattle.seed.specs.declared.Seed.{Seed}
 use Rattle.seed.specs.declared.Drawn.{Drawn}
 use Rattle.seed.specs.declared.Drawn.the-variants.{Card, Refused}
 use Rattle.seed.specs.declared.Dealt.the-variants.{Moved, Refused as NotDealt}
-use Rattle.seed.specs.Draw.{next, drawnBy, drawn}
+use Rattle.seed.specs.Draw.{next, drawn}
 use Rattle.seed.specs.Deal.{fault, Deals}
-use Rattle.seed.proofs.Words.{tells}
 use Rattle.kullneyra.specs.Calls.{seedOf, seedWords, DrawsIn, DealsIn}
 use Rattle.desk.proofs.Kept.{kept}
 
@@ -33,12 +32,9 @@ draw-result-wrong seed result two h =
     let g = ne-eqb (length result) 1 h in
     record { answers = rw (f, g); moves = rw (f, g); fills-result = rw (f, g) }
 
--- with both lengths right: the next seed r, and what it tells
-module _ (seed result : List ℕ) (two : length seed ≡ 2) (one : length result ≡ 1) (low : seedOf seed .first < 2 ^ 32) {r : Seed} {d : Drawn}
-    (e : r ≡ next (seedOf seed)) (f : d ≡ drawnBy (r .first) r) where
-  answered : d ≡ drawn (seedOf seed)
-  answered = tells (seedOf seed) r d low e f
-
+-- with both lengths right: the seed r that the draw left, and its answer d
+module _ (seed result : List ℕ) (two : length seed ≡ 2) (one : length result ≡ 1) {r : Seed} {d : Drawn} (e : r ≡ next (seedOf seed))
+    (answered : d ≡ drawn (seedOf seed)) where
   pub draw-card : {c : ℕ} {seed′ : List ℕ} → d ≡ Card c → seed′ ≡ seedWords r → DrawsIn seed result seed′ (set result 0 c) 0
   draw-card {c} t w =
       let a : drawn (seedOf seed) ≡ Card c = sym answered ∙ t in

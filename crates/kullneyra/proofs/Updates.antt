@@ -16,6 +16,7 @@ module _ {os ts a b B P M W B′ P′ M′ W′ : List ℕ} {v : Verdict} {r : �
         store-is = λ z. x .store-is (sym n ∙ z);
         marks-are = λ z. x .marks-are (sym n ∙ z);
         promise = λ z. x .promise (sym n ∙ z);
+        work-left = λ z. x .work-left (sym n ∙ z);
         unchanged = λ k z. x .unchanged k (sym n ∙ z);
       }
 
@@ -27,5 +28,6 @@ module _ {os ts a b B P M W B′ P′ M′ W′ : List ℕ} {v : Verdict} {r : �
         store-is = λ z. x .store-is (sym n ∙ z);
         marks-are = λ z. x .marks-are (sym n ∙ z);
         promise = λ z. x .promise (sym n ∙ z);
+        work-left = λ z. x .work-left (sym n ∙ z);
         unchanged = λ k z. x .unchanged k (sym n ∙ z);
       }

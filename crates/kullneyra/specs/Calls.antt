@@ -4,7 +4,7 @@ use mathlib.Core.Path.{_≡_}
 use Prim.Native.Nat.{ℕ, suc}
 use mathlib.Core.Bool.{Bool, true, false}
 use mathlib.Core.List.{List, [], _∷_}
-use lib.ListN.{length, getD}
+use lib.ListN.{length, getD, replicate}
 use lib.Dec.{eqb}
 use Rattle.laws.specs.Choice.{pick}
 use Rattle.graph.specs.Graph.{graph, objects, partStart, partLength}
@@ -23,17 +23,15 @@ use Rattle.machine.specs.Call.{Call, graphOf, final, marking, marksAfter, workA
 use Rattle.sweep.specs.Sweep.{Row as SweepRow, sweeping, listAfter}
 use Rattle.saved.specs.Layout.{savedWords}
 use Rattle.saved.specs.Calls.{beginFault, resumeFault, resumed, rowFor}
-use Rattle.refusal.specs.Number.{number}
 use Rattle.seed.specs.declared.Seed.{Seed}
-use Rattle.seed.specs.declared.Drawn.{Drawn}
-use Rattle.seed.specs.declared.Drawn.the-variants.{Card, Refused}
-use Rattle.seed.specs.Draw.{next, drawn}
+use Rattle.seed.specs.Draw.{next, drawn, drawRow}
 use Rattle.seed.specs.Deal.{afterDraws, handOf, fault}
 use Rattle.matrix.specs.Import.{headRow, taken as importTaken, answerOf}
-use Rattle.layers.specs.Hops.{HopsOf}
+use Rattle.layers.specs.Hops.{HopsOf, LinksLeft}
 use Rattle.hops.specs.Call.{fault as hopFault}
 use Rattle.changes.specs.Pairs.{paired}
 use Rattle.changes.specs.Stores.{added, completed, removed, marksAfresh}
+use Rattle.changes.specs.Marking.{ListLeft}
 use Rattle.changes.specs.Promise.{AddPromise, RemovePromise}
 use Rattle.updates.specs.Call.{lengths, addFault, removeFault}
 
@@ -157,23 +155,14 @@ seedOf words = record { first = getD words 0 0; second = getD words 1 0 }
 abbrev pub seedWords : Seed → List ℕ
 seedWords s = s .first ∷ s .second ∷ []
 
--- 0 and the card, or the number of the refusal and 0
-abbrev pub drawNumber : Drawn → ℕ
-drawNumber (Card c) = 0
-drawNumber (Refused r) = number r
-
-abbrev pub drawCard : Drawn → ℕ
-drawCard (Card c) = c
-drawCard (Refused r) = 0
-
 -- 7 where the seed is not two words, or the result words are not one
 abbrev pub drawAnswer : List ℕ → List ℕ → ℕ
-drawAnswer seed result = pick (eqb (length seed) 2) (answerIn 1 result (drawNumber (drawn (seedOf seed)))) 7
+drawAnswer seed result = pick (eqb (length seed) 2) (answerIn 1 result (drawRow (drawn (seedOf seed)) .number)) 7
 
 pub record DrawsIn (seed result seed′ result′ : List ℕ) (answer : ℕ) : Type 0 where
   pub answers : answer ≡ drawAnswer seed result
   pub moves : seed′ ≡ unlessRefused (drawAnswer seed result) (seedWords (next (seedOf seed))) seed
-  pub fills-result : result′ ≡ unlessRefused (drawAnswer seed result) (drawCard (drawn (seedOf seed)) ∷ []) result
+  pub fills-result : result′ ≡ unlessRefused (drawAnswer seed result) (drawRow (drawn (seedOf seed)) .card ∷ []) result
 
 abbrev pub dealAnswer : List ℕ → ℕ → ℕ → ℕ → ℕ
 dealAnswer seed k W long = pick (eqb (length seed) 2) (fault (seedOf seed) k W long) 7
@@ -185,20 +174,24 @@ pub record DealsIn (seed : List ℕ) (k W : ℕ) (schedule seed′ schedule′ :
 
 -- ---- hops: no results
 
--- the answer is the first fault; without one the hop counts are those of the graph, and beside a refusal every lent word is as it was
+-- the answer is the first fault; without one the hop counts are those of the graph, and the work words of an object without a count are as they
+-- were; beside a refusal every lent word is as it was
 pub record HopsIn (offsets targets starts hops work hops′ work′ : List ℕ) (answer : ℕ) : Type 0 where
   pub answers : answer ≡ hopFault offsets targets starts (length hops) (length work)
   pub counted : answer ≡ 0 → HopsOf (graph offsets targets) starts hops′
+  pub work-left : answer ≡ 0 → LinksLeft hops′ work work′
   pub unchanged : (k : ℕ) → answer ≡ suc k → (hops′ ≡ hops) × (work′ ≡ work)
 
 -- ---- add, remove: no results
 
--- the answer is the first fault; without one the store and the marks are the definitions', and beside a refusal every lent word is as it was
+-- the answer is the first fault; without one the store and the marks are the definitions', and each work word is as it was or one of the first, as
+-- many as there are objects newly marked, and names one of these; beside a refusal every lent word is as it was
 pub record AddsIn (offsets targets from to bounds places marks work bounds′ places′ marks′ work′ : List ℕ) (answer : ℕ) : Type 0 where
   pub answers : answer ≡ addFault offsets targets from to marks (lengths bounds places marks work)
   pub store-is : answer ≡ 0 → graph bounds′ places′ ≡ added (graph offsets targets) (paired from to)
   pub marks-are : answer ≡ 0 → marks′ ≡ completed (added (graph offsets targets) (paired from to)) marks
   pub promise : answer ≡ 0 → AddPromise (graph offsets targets) (paired from to) marks marks′
+  pub work-left : answer ≡ 0 → ListLeft 0 marks work marks′ work′
   pub unchanged : (k : ℕ) → answer ≡ suc k → (bounds′ ≡ bounds) × (places′ ≡ places) × (marks′ ≡ marks) × (work′ ≡ work)
 
 pub record RemovesIn (offsets targets numbers starts bounds places marks work bounds′ places′ marks′ work′ : List ℕ) (answer : ℕ) : Type 0 where
@@ -206,6 +199,8 @@ pub record RemovesIn (offsets targets numbers starts bounds places marks work bo
   pub store-is : answer ≡ 0 → graph bounds′ places′ ≡ removed (graph offsets targets) numbers
   pub marks-are : answer ≡ 0 → marks′ ≡ marksAfresh (removed (graph offsets targets) numbers) starts
   pub promise : answer ≡ 0 → RemovePromise (removed (graph offsets targets) numbers) starts marks′
+  -- nothing was marked before
+  pub work-left : answer ≡ 0 → ListLeft 0 (replicate (length marks) 0) work marks′ work′
   pub unchanged : (k : ℕ) → answer ≡ suc k → (bounds′ ≡ bounds) × (places′ ≡ places) × (marks′ ≡ marks) × (work′ ≡ work)
 
 -- ---- market_header: n, m, index

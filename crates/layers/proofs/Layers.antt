@@ -20,8 +20,8 @@ use Rattle.graph.specs.Formed.{Formed}
 use Rattle.graph.specs.Limits.{most-objects}
 use Rattle.graph.proofs.Formed.{below-all}
 use Rattle.theorems.proofs.Demand2.{marked-is}
-use Rattle.bag.specs.Bag.{sizeOf, Bag, times, contents, empty}
-use Rattle.layers.specs.Hops.{none, Chain, here, on, hopOf, HopsOf}
+use Rattle.bag.specs.Bag.{sizeOf, Bag, Same, times, contents, empty}
+use Rattle.layers.specs.Hops.{none, Chain, here, on, hopOf, HopsOf, LinksLeft}
 use Rattle.layers.specs.Search.{leadsTo, unknown, Growable, Grown, Walkable, Apart, Searchable, Layer}
 use Rattle.layers.proofs.Growing.{alike, none-hit, some-hit}
 use Rattle.layers.proofs.Spreading.{none-in, empty-length, empty-bag}
@@ -164,6 +164,27 @@ module _ {G : Graph} {starts H L : List ℕ} (ok : Searchable G starts H L) wher
       inside-start v p =
           let i = sum-positive (hit v) 0 starts p in
           omega (arith, hit-equal v (getD starts (i .0) 0) (i .2), below-all (objects G) starts (ok .inside) (i .0) (i .1))
+
+-- ---- the links of objects without a count
+
+module _ {hop : ℕ} {seen : ℕ → ℕ} {H L N H′ L′ S′ : List ℕ} (e : N ≡ empty) (g : Grown hop seen H L N H′ L′ S′) where
+  left-alone : (v : ℕ) → hopOf H′ v ≡ none → Same L L′ v
+  left-alone v z =
+      g .same v (omega (arith, g .holds v, ap (λ (n : List ℕ). times v (contents L n)) e, none-in v L, none-hit (hopOf H′ v) z, hit-at-most-one none (hopOf H v)))
+
+  -- a bag was filled that had been empty
+  pub left-first : LinksLeft H′ L L′
+  left-first = record { long = g .links-long; same = left-alone }
+
+  pub left-next : {L₀ : List ℕ} → LinksLeft H L₀ L → LinksLeft H′ L₀ L′
+  left-next l =
+      record {
+        long = g .links-long ∙ l .long;
+        same = λ v z.
+            let a = l .same v (⊎-elim (λ (q : hopOf H v ≡ none). q) (λ (n : hopOf H v ≢ none). absurd (n (sym (g .kept v n) ∙ z))) (alike (hopOf H v) none)) in
+            let b = left-alone v z in
+            (b .0 ∙ a .0, b .1 ∙ a .1);
+      }
 
 -- ---- the next layer
 

@@ -7,6 +7,7 @@ use Prim.Native.Nat.{ℕ, suc, _≤_, _<_}
 use lib.ListN.{length, getD}
 use Rattle.laws.specs.Sum.{sum, hit}
 use Rattle.graph.specs.Graph.{Graph, Leaves, objects, target}
+use Rattle.bag.specs.Bag.{Same}
 use Rattle.machine.specs.Demand2.{FinishedMarks}
 use Rattle.machine.specs.Sound.{Marked}
 
@@ -35,3 +36,9 @@ pub record HopsOf (G : Graph) (starts hops : List ℕ) : Type 0 where
   pub small : (v : ℕ) → v < objects G → hopOf hops v ≢ none → hopOf hops v < objects G
   -- the objects with a count are exactly those that a finished collection marks
   pub marked : (marks : List ℕ) → FinishedMarks G starts marks → (v : ℕ) → v < objects G → (hopOf hops v ≢ none) ↔ Marked marks v
+
+-- The work words, two links for each object, afterwards: those of an object to which no chain leads are as they were. Which links the others get
+-- is the search's choice.
+pub record LinksLeft (hops links links′ : List ℕ) : Type 0 where
+  pub long : length links′ ≡ length links
+  pub same : (v : ℕ) → hopOf hops v ≡ none → Same links links′ v

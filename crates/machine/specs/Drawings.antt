@@ -1,4 +1,4 @@
--- The drawings A to J and L: one statement over one table, computed. (K is the reader's: `catalogue/specs/Examples`.)
+-- The drawings A to J and L: one statement over one table, computed. (K is the reader's: `records/specs/Examples`.)
 use mathlib.Core.Path.{_≡_, refl}
 use mathlib.Core.Bool.{Bool, true, false}
 use mathlib.Core.List.{List, [], _∷_, _++_, map}

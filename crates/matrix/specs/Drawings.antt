@@ -1,9 +1,10 @@
 -- Texts computed: store S as a text of 79 bytes and back, and the numbers of texts with one fault or two, both edges of each check.
 use mathlib.Core.Path.{_≡_, refl}
+use mathlib.Core.Bool.{true}
 use mathlib.Core.List.{List, [], _∷_, _++_, map}
 use Prim.Native.Nat.{ℕ}
 use Prim.Native.String.{String}
-use lib.ListN.{length, take}
+use lib.ListN.{length, take, replicate}
 use Rattle.laws.specs.Blocks.{laid}
 use Rattle.laws.specs.Grouping.{part, grouped, under, below, starts}
 use Rattle.laws.specs.Sum.{sum, hit}
@@ -12,8 +13,8 @@ use Rattle.graph.specs.Graph.{Graph, graph, referencesOf, rising, allBelow, wel
 use Rattle.records.specs.Store.{offsetsOf, targetsOf}
 use Rattle.text.specs.Text.{codes, digitsIn, decimal}
 use Rattle.matrix.specs.Layout.{banner, valueFrom}
-use Rattle.matrix.specs.Reading.{begins, skip, digits, areLines, pairsIn, isHead, isText, pairs}
-use Rattle.matrix.specs.Import.{storeOf, inside, fault}
+use Rattle.matrix.specs.Reading.{begins, skip, digits, areLines, pairsIn, isHead, isText, rows, entries, pairs}
+use Rattle.matrix.specs.Import.{storeOf, inside, fault, headFault, taken, answerOf}
 use Rattle.matrix.specs.Export.{pairsBelow, exported, exportFault}
 
 -- store S: 0→1, 0→2, 1→3, 2→3, 3→0, 5→4
@@ -97,6 +98,39 @@ cases =
 pub cases-hold : map (λ (c : Case). fault (c .text)) cases ≡ map (λ (c : Case). c .number) cases
 unfolding fault isText isHead begins skip digits valueFrom areLines pairs pairsIn inside all
 cases-hold = refl
+
+-- both edges of the counts, by the call for them
+abbrev pub heads : List Case
+heads =
+    then "1 1 0\n" 0
+    ∷ then "65536 65536 1048576\n" 0
+    ∷ then "0 0 0\n" 4
+    ∷ then "65537 65537 0\n" 4
+    ∷ then "1 1 1048577\n" 4
+    ∷ []
+
+pub heads-hold : map (λ (c : Case). headFault (c .text)) heads ≡ map (λ (c : Case). c .number) heads
+unfolding headFault isHead begins skip digits valueFrom
+heads-hold = refl
+
+-- and by import, of a text of one row and so many lines
+pub entries-above : (t : List ℕ) → isText t ≡ true → rows t ≡ 1 → entries t ≡ 1048577 → fault t ≡ 4
+unfolding fault
+entries-above t e r m = rw (e, r, m)
+
+pub entries-largest : (t : List ℕ) → isText t ≡ true → rows t ≡ 1 → entries t ≡ 1048576 → inside 1 (pairs t) ≡ true → fault t ≡ 0
+unfolding fault
+entries-largest t e r m i = rw (e, r, m, i)
+
+-- import's buffers: the offsets, targets and sizes of store S have 7, 6 and 6 words, and others are 7
+abbrev pub numberOf : ℕ → ℕ → ℕ → ℕ
+numberOf offsets targets sizes = answerOf (taken textS (replicate offsets 0) (replicate targets 0) (replicate sizes 0)) .refusal
+
+pub lent-hold :
+    numberOf 7 6 6 ∷ numberOf 6 6 6 ∷ numberOf 8 6 6 ∷ numberOf 7 5 6 ∷ numberOf 7 7 6 ∷ numberOf 7 6 5 ∷ numberOf 7 6 7 ∷ []
+    ≡ 0 ∷ 7 ∷ 7 ∷ 7 ∷ 7 ∷ 7 ∷ 7 ∷ []
+unfolding fault isText isHead begins skip digits valueFrom areLines pairs pairsIn inside all
+lent-hold = refl
 
 -- export: offsets, targets, how long the lent buffer is, and the number
 pub record Lent : Type 0 where

@@ -14,6 +14,7 @@ ghost use Rattle.graph.specs.Graph.{graph, allBelow};
 ghost use Rattle.graph.specs.Formed.{Formed};
 ghost use Rattle.graph.specs.Limits.{most-references};
 ghost use Rattle.changes.specs.Stores.{chosen, marksAfresh};
+ghost use Rattle.changes.specs.Marking.{ListLeft};
 ghost use Rattle.changes.specs.Taking.{taken-words, absent, Gathered, Covers, Climbs};
 ghost use Rattle.updates.specs.Call.{Removes, RemoveChecked};
 
@@ -109,7 +110,8 @@ fn keep_targets(targets: &[u32], taken: &[u32], places: &mut [u32])
 fn mark_afresh(offsets: &[u32], targets: &[u32], starts: &[u32], marks: &mut [u8], work: &mut [u32])
     requires { ⌜ Formed (graph (now offsets) (now targets)) × (allBelow (length (now marks)) (now starts) ≡ true)
         × (length (now marks) + 1 ≡ length (now offsets)) × (length (now work) ≡ length (now marks)) × (length (now work) < 4294967296) ⌝ }
-    ensures { λ _. ⌜ now (marks .exit) ≡ marksAfresh (graph (now (offsets .entry)) (now (targets .entry))) (now (starts .entry)) ⌝ }
+    ensures { λ _. ⌜ (now (marks .exit) ≡ marksAfresh (graph (now (offsets .entry)) (now (targets .entry))) (now (starts .entry)))
+        × ListLeft 0 (replicate (length (now (marks .entry))) 0) (now (work .entry)) (now (marks .exit)) (now (work .exit)) ⌝ }
 {
     let n = marks.len();
     slices::clear_bytes(marks, 0, n);

@@ -79,9 +79,9 @@ pub fn put_ordered(
 {
     let settings = order::order_of(order);
     let found = order::check(settings);
-    if let Verdict::Faulty(refusal) = found {
-        return lines::put_refusal(out, 0, refusal::number_of(refusal));
-    }
+    let Verdict::Fine = found else {
+        return lines::put_refusal(out, 0, refusal::verdict_number(found));
+    };
     put_collection(
         offsets,
         targets,

@@ -31,17 +31,17 @@ fn put_answer(
         (programText (files storefile (now (store .entry)) orderfile (now (order .entry)))) (now (out .exit)) r ⌝ }
 {
     let found = files::check(storefile, store, orderfile, order);
-    if let Verdict::Faulty(refusal) = found {
-        return lines::put_refusal(out, 0, refusal::number_of(refusal));
-    }
+    let Verdict::Fine = found else {
+        return lines::put_refusal(out, 0, refusal::verdict_number(found));
+    };
     let head = catalogue::header(store);
     let Answer::Read { n, m, index: _ } = head else {
         return lines::put_refusal(out, 0, catalogue::refusal_of(head));
     };
     let counted = files::check_counts(n, m);
-    if let Verdict::Faulty(refusal) = counted {
-        return lines::put_refusal(out, 0, refusal::number_of(refusal));
-    }
+    let Verdict::Fine = counted else {
+        return lines::put_refusal(out, 0, refusal::verdict_number(counted));
+    };
     store::put_store(store, order, n as usize, m as usize, out)
 }
 

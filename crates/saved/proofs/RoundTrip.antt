@@ -186,12 +186,19 @@ module _ {n W : ℕ} {s : State} (X : Shaped n W s) where
       rw (parts, length-append, length-append, length-append, length-append)
       (omega (arith, counts-long, workers-long, tallies-long, X .sized .marks-length, stretches-long))
 
-  -- count number k
+  -- each count
   pub count-told : countsIn (savedWords n s) ≡ s .counts
   unfolding savedWords laid
   count-told =
       let c = s .counts in
-      rw (two-words (c .live), two-words (c .followed), two-words (c .handed), two-words (c .refused), two-words (c .moved), two-words (c .carrying)) refl
+      let told = countsIn (savedWords n s) in
+      let live : told .live ≡ c .live = two-words (c .live) in
+      let followed : told .followed ≡ c .followed = two-words (c .followed) in
+      let handed : told .handed ≡ c .handed = two-words (c .handed) in
+      let refused : told .refused ≡ c .refused = two-words (c .refused) in
+      let moved : told .moved ≡ c .moved = two-words (c .moved) in
+      let carrying : told .carrying ≡ c .carrying = two-words (c .carrying) in
+      rw (live, followed, handed, refused, moved, carrying) refl
 
   -- a word of the workers' part
   pub worker-word : (b k : ℕ) → b < W → k < worker-words

@@ -3,3 +3,4 @@ pub mod Drawn
 pub mod Layout
 pub mod Sound
 pub mod Test
+pub mod Unsound

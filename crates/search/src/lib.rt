@@ -10,7 +10,7 @@ ghost use lib.ListN.{length, replicate};
 ghost use Rattle.laws.specs.Sum.{sum};
 ghost use Rattle.bag.specs.Bag.{slot-count, Bag, times, pennantOf, contents};
 ghost use Rattle.graph.specs.Graph.{graph, allBelow};
-ghost use Rattle.layers.specs.Hops.{none, HopsOf};
+ghost use Rattle.layers.specs.Hops.{none, HopsOf, LinksLeft};
 ghost use Rattle.layers.specs.Search.{leadsTo, Growable, Grown, Walkable, Apart, Searchable};
 
 // One pennant of a layer: the first bag that it fills is the next layer so far, and the bag of any
@@ -93,7 +93,8 @@ fn begin(starts: &[u32], hops: &mut [u32], links: &mut [u32], slots: &mut [u32; 
 // The hop counts: layer after layer, until one is empty. Two bags take turns, so that none is copied.
 pub fn search(offsets: &[u32], targets: &[u32], starts: &[u32], hops: &mut [u32], links: &mut [u32])
     requires { ⌜ Searchable (graph (now offsets) (now targets)) (now starts) (now hops) (now links) ⌝ }
-    ensures { λ _. ⌜ HopsOf (graph (now (offsets .entry)) (now (targets .entry))) (now (starts .entry)) (now (hops .exit)) ⌝ }
+    ensures { λ _. ⌜ HopsOf (graph (now (offsets .entry)) (now (targets .entry))) (now (starts .entry)) (now (hops .exit))
+        × LinksLeft (now (hops .exit)) (now (links .entry)) (now (links .exit)) ⌝ }
 {
     forget(hops);
     let mut layer = [0u32; 18];

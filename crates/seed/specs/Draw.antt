@@ -2,6 +2,7 @@
 use Prim.Native.Nat.{ℕ, zero, suc, _+_, _*_, _/_, _%_, _^_}
 use lib.Bits.{bitXor}
 use Rattle.refusal.specs.declared.Refusal.the-variants.{Seed as NoSeed}
+use Rattle.refusal.specs.Number.{number}
 use Rattle.cards.specs.Deck.{deck-size}
 use Rattle.seed.specs.declared.Seed.{Seed}
 use Rattle.seed.specs.declared.Drawn.{Drawn}
@@ -56,3 +57,12 @@ drawnBy (suc k) s = Card (cardOf s)
 -- what a draw answers: 16 where the first word is 0, else the card of the moved words
 abbrev pub drawn : Seed → Drawn
 drawn s = drawnBy (s .first) (next s)
+
+-- as a row of SPECIFICATION 2: the number, 0 for no fault, and the card, which is 0 beside a refusal
+pub record DrawRow : Type 0 where
+  pub number : ℕ
+  pub card : ℕ
+
+abbrev pub drawRow : Drawn → DrawRow
+drawRow (Card c) = record { number = 0; card = c }
+drawRow (Refused r) = record { number = number r; card = 0 }

@@ -3,7 +3,7 @@ use mathlib.Core.Path.{_≡_, refl}
 use mathlib.Core.List.{List, [], _∷_, map}
 use Prim.Native.Nat.{ℕ}
 use Rattle.seed.specs.declared.Seed.{Seed}
-use Rattle.seed.specs.Draw.{xorshifted}
+use Rattle.seed.specs.Draw.{xorshifted, next, drawn, DrawRow, drawRow}
 use Rattle.seed.specs.Deal.{afterDraws, handOf, fault}
 
 abbrev pub seed : ℕ → ℕ → Seed
@@ -18,6 +18,17 @@ pub words-hold : map (λ (k : ℕ). afterDraws k (seed 1 0)) (1 ∷ 2 ∷ 3 ∷ 
     ≡ seed 270369 362437 ∷ seed 67634689 724874 ∷ seed 2647435461 1087311 ∷ seed 307599695 1449748 ∷ seed 2398689233 1812185 ∷ []
 unfolding afterDraws xorshifted
 words-hold = refl
+
+-- a first word of 0 is refused with 16, and the words are as they were
+abbrev pub answered : ℕ → ℕ → DrawRow
+answered number card = record { number = number; card = card }
+
+pub draws-hold : map (λ (s : Seed). drawRow (drawn s)) (seed 0 7 ∷ seed 1 0 ∷ []) ≡ answered 16 0 ∷ answered 0 646 ∷ []
+unfolding xorshifted
+draws-hold = refl
+
+pub zero-kept : next (seed 0 7) ≡ seed 0 7
+zero-kept = refl
 
 -- the first word, W, how many rounds, how long the lent schedule is, and the number of the refusal
 pub record Lent : Type 0 where

@@ -39,7 +39,7 @@ fn xorshift(x: u32) -> u32
 }
 
 // The seed after a draw. One whose first word is 0 stays as it is.
-pub fn step(seed: Seed) -> Seed
+fn step(seed: Seed) -> Seed
     ensures { λ r. ⌜ r ≡ next seed ⌝ }
 {
     let first = seed.first;
@@ -63,7 +63,7 @@ fn card(seed: Seed) -> u32
 }
 
 // What moved words answer.
-pub fn card_of(seed: Seed) -> Drawn
+fn card_of(seed: Seed) -> Drawn
     ensures { λ r. ⌜ r ≡ drawnBy (seed .first) seed ⌝ }
 {
     let first = seed.first;
@@ -80,6 +80,27 @@ pub fn draw(seed: &mut Seed) -> Drawn
     let moved = step(*seed);
     *seed = moved;
     card_of(moved)
+}
+
+// A seed that a draw left, and what the draw answered.
+pub struct DrawLeft {
+    pub seed: Seed,
+    pub answer: Drawn,
+}
+
+fn leave(seed: Seed, answer: Drawn) -> DrawLeft
+    ensures { λ r. ⌜ (r .seed ≡ seed) × (r .answer ≡ answer) ⌝ }
+{
+    DrawLeft { seed, answer }
+}
+
+// The draw for a caller that has the words as numbers: the seed is lent to it, and handed back.
+pub fn draw_from(seed: Seed) -> DrawLeft
+    ensures { λ r. ⌜ (r .seed ≡ next seed) × (r .answer ≡ drawn seed) ⌝ }
+{
+    let mut words = seed;
+    let answer = draw(&mut words);
+    leave(words, answer)
 }
 
 // Draws so many cards and writes their rounds one behind the other; answers the seed that is left.

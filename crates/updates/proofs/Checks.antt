@@ -5,7 +5,7 @@ use mathlib.Core.List.{List}
 use Prim.Native.Nat.{ℕ, _+_, _-_, _≤_, _<_}
 use native.Mathlib.Omega.{arith}
 use lib.Dec.{ltb, eqb}
-use lib.ListN.{length}
+use lib.ListN.{length, replicate}
 use borrow.Author.Tests.{eqb-true, not-false, ltb-false, lt-ltb, le-ltb}
 use Rattle.laws.specs.Span.{span}
 use Rattle.laws.specs.Test.{allUpTo}
@@ -29,6 +29,7 @@ use Rattle.updates.specs.declared.Lengths.{Lengths}
 use Rattle.changes.specs.Pairs.{paired}
 use Rattle.changes.specs.Stores.{added, completed, distinct, staying, chosen, removed, marksAfresh}
 use Rattle.changes.specs.Filling.{Addable}
+use Rattle.changes.specs.Marking.{ListLeft}
 use Rattle.changes.specs.Taking.{absent, Gathered, Covers, Climbs}
 use Rattle.updates.specs.Call.{lengths, lengthsWrong, closedAt, addFault, AddFinds, Adds, removeFault, RemoveChecked, Removes}
 use Rattle.updates.proofs.Closing.{found-closed}
@@ -183,6 +184,7 @@ module _ {os ts from to : List ℕ} (bounds places ms work : List ℕ) {v : Verd
         store-is = λ z. absurd (omega (arith, z, k, numbered cause));
         marks-are = λ z. absurd (omega (arith, z, k, numbered cause));
         promise = λ z. absurd (omega (arith, z, k, numbered cause));
+        work-left = λ z. absurd (omega (arith, z, k, numbered cause));
         unchanged = λ i z. (refl, refl, refl, refl);
       }
 
@@ -190,8 +192,9 @@ module _ {os ts from to : List ℕ} (bounds places ms work : List ℕ) {v : Verd
   found-ready e = add-ready os ts from to bounds places ms work (when-fine (found .number-is) e)
 
   pub adds-fine : v ≡ Fine → {bounds′ places′ ms′ work′ : List ℕ} → graph bounds′ places′ ≡ added (graph os ts) (paired from to)
-      → ms′ ≡ completed (added (graph os ts) (paired from to)) ms → Adds os ts from to bounds places ms work Fine bounds′ places′ ms′ work′
-  adds-fine e g m =
+      → ms′ ≡ completed (added (graph os ts) (paired from to)) ms → ListLeft 0 ms work ms′ work′
+      → Adds os ts from to bounds places ms work Fine bounds′ places′ ms′ work′
+  adds-fine e g m left =
       let z = when-fine (found .number-is) e in
       let r = found-ready e in
       let a = r .addable in
@@ -201,6 +204,7 @@ module _ {os ts from to : List ℕ} (bounds places ms work : List ℕ) {v : Verd
         store-is = λ q. g;
         marks-are = λ q. m;
         promise = λ q. rw m (add-promise (graph os ts) (a .formed) (paired from to) low ms (r .marks-long) (r .closed));
+        work-left = λ q. left;
         unchanged = λ i q. absurd (omega (arith, z, q));
       }
 
@@ -295,6 +299,7 @@ module _ {os ts ns starts : List ℕ} (bounds places ms work : List ℕ) {v : Ve
         store-is = λ z. absurd (omega (arith, z, k, numbered cause));
         marks-are = λ z. absurd (omega (arith, z, k, numbered cause));
         promise = λ z. absurd (omega (arith, z, k, numbered cause));
+        work-left = λ z. absurd (omega (arith, z, k, numbered cause));
         unchanged = λ i z. (refl, refl, refl, refl);
       }
 
@@ -305,8 +310,9 @@ module _ {os ts ns starts : List ℕ} (bounds places ms work : List ℕ) {v : Ve
   found-gathered e = found .gathered (when-fine (found .number-is) e)
 
   pub removes-fine : v ≡ Fine → {bounds′ places′ ms′ work′ : List ℕ} → graph bounds′ places′ ≡ removed (graph os ts) ns
-      → ms′ ≡ marksAfresh (removed (graph os ts) ns) starts → Removes os ts ns starts bounds places ms work Fine bounds′ places′ ms′ work′
-  removes-fine e g m =
+      → ms′ ≡ marksAfresh (removed (graph os ts) ns) starts → ListLeft 0 (replicate (length ms) 0) work ms′ work′
+      → Removes os ts ns starts bounds places ms work Fine bounds′ places′ ms′ work′
+  removes-fine e g m left =
       let z = when-fine (found .number-is) e in
       let r = found-removable e in
       let G = removed (graph os ts) ns in
@@ -316,6 +322,7 @@ module _ {os ts ns starts : List ℕ} (bounds places ms work : List ℕ) {v : Ve
         store-is = λ q. g;
         marks-are = λ q. m;
         promise = λ q. rw m (afresh-promise G (removed-formed ns (graph os ts) (r .formed)) starts (rw n at (r .starts-low)));
+        work-left = λ q. left;
         unchanged = λ i q. absurd (omega (arith, z, q));
       }
 

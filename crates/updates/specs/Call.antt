@@ -4,7 +4,7 @@ use mathlib.Core.Bool.{Bool, not, _||_}
 use mathlib.Core.List.{List}
 use Prim.Native.Nat.{ℕ, suc, _+_, _-_}
 use lib.Dec.{ltb, eqb}
-use lib.ListN.{length, getD}
+use lib.ListN.{length, getD, replicate}
 use Rattle.laws.specs.Choice.{either}
 use Rattle.laws.specs.Test.{all, allUpTo}
 use Rattle.refusal.specs.declared.Verdict.{Verdict}
@@ -17,6 +17,7 @@ use Rattle.desk.specs.Length.{LengthRow, lengthBy}
 use Rattle.updates.specs.declared.Lengths.{Lengths}
 use Rattle.changes.specs.Pairs.{paired}
 use Rattle.changes.specs.Stores.{added, completed, distinct, removed, marksAfresh}
+use Rattle.changes.specs.Marking.{ListLeft}
 use Rattle.changes.specs.Taking.{Gathered}
 use Rattle.changes.specs.Promise.{AddPromise, RemovePromise}
 
@@ -87,6 +88,8 @@ pub record Adds (offsets targets from to newOffsets newTargets marks work : List
       → marks′ ≡ completed (added (graph offsets targets) (paired from to)) marks
   pub promise : addFault offsets targets from to marks (lengths newOffsets newTargets marks work) ≡ 0
       → AddPromise (graph offsets targets) (paired from to) marks marks′
+  -- each work word is as it was, or one of the first, as many as there are objects newly marked, and names one of these
+  pub work-left : addFault offsets targets from to marks (lengths newOffsets newTargets marks work) ≡ 0 → ListLeft 0 marks work marks′ work′
   -- beside a refusal every lent word is as it was
   pub unchanged : (k : ℕ) → addFault offsets targets from to marks (lengths newOffsets newTargets marks work) ≡ suc k
       → (newOffsets′ ≡ newOffsets) × (newTargets′ ≡ newTargets) × (marks′ ≡ marks) × (work′ ≡ work)
@@ -125,6 +128,9 @@ pub record Removes (offsets targets ns starts newOffsets newTargets marks work :
       → marks′ ≡ marksAfresh (removed (graph offsets targets) ns) starts
   pub promise : removeFault offsets targets ns starts (lengths newOffsets newTargets marks work) ≡ 0
       → RemovePromise (removed (graph offsets targets) ns) starts marks′
+  -- the same, where nothing was marked before
+  pub work-left : removeFault offsets targets ns starts (lengths newOffsets newTargets marks work) ≡ 0
+      → ListLeft 0 (replicate (length marks) 0) work marks′ work′
   -- beside a refusal every lent word is as it was
   pub unchanged : (k : ℕ) → removeFault offsets targets ns starts (lengths newOffsets newTargets marks work) ≡ suc k
       → (newOffsets′ ≡ newOffsets) × (newTargets′ ≡ newTargets) × (marks′ ≡ marks) × (work′ ≡ work)

@@ -3,7 +3,7 @@ use mathlib.Core.Path.{_≡_, refl}
 use mathlib.Core.List.{List, [], _∷_, map}
 use Prim.Native.Nat.{ℕ}
 use native.Mathlib.Omega.{arith}
-use lib.ListN.{replicate}
+use lib.ListN.{length, replicate}
 use Rattle.laws.specs.Sum.{sum, hit}
 use Rattle.laws.specs.Span.{span, listing}
 use Rattle.laws.specs.Grouping.{part, grouped, under, below, starts}
@@ -110,6 +110,16 @@ pub addings-hold : map (λ (a : Adding). addFault (a .offsets) (a .targets) (a .
     ≡ map (λ (a : Adding). a .number) addings
 unfolding addFault wellFormed rising allBelow allUpTo all referencesOf
 addings-hold = refl
+
+-- one object without references, so many sources and no target: an enlarged m above the largest is 4, though the lists are unlike too; at the
+-- largest they are 7
+pub sum-above : (from : List ℕ) → length from ≡ 1048577 → addFault (0 ∷ 0 ∷ []) [] from [] (0 ∷ []) (lengthsOf 2 1048577 1 1) ≡ 4
+unfolding addFault
+sum-above from e = rw e
+
+pub sum-largest : (from : List ℕ) → length from ≡ 1048576 → addFault (0 ∷ 0 ∷ []) [] from [] (0 ∷ []) (lengthsOf 2 1048576 1 1) ≡ 7
+unfolding addFault
+sum-largest from e = rw e
 
 pub record Removing : Type 0 where
   pub offsets : List ℕ

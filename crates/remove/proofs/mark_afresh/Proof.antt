@@ -4,6 +4,7 @@ use native.Mathlib.Omega.{arith}
 use lib.ListN.{length, replicate}
 use borrow.Author.Needs.{needs}
 use Rattle.slices.proofs.Clearing.{cleared-all}
+use Rattle.changes.proofs.Touching.{left-then}
 use Rattle.changes.proofs.Afresh.{afresh-room, afresh-followable, afresh-between}
 use Rattle.remove.proofs.mark_afresh.Statement.{statement}
 use Rattle.remove.proofs.mark_afresh.Tie as tie
@@ -33,7 +34,10 @@ returns c =
     let t = f .before .before .before .before .before .before .before in
     let z = t .before .before .before .before .before in
     let p = start z .pre in
-    f .follow .ensures _ (afresh-between (p .0) (length (start z .args .marks .now)) (p .2) (start z .args .work .now) (p .3) (p .4) (cleared z) (t .touch-all .ensures))
+    let all = t .touch-all .ensures in (
+      f .follow .ensures .0 _ (afresh-between (p .0) (length (start z .args .marks .now)) (p .2) (start z .args .work .now) (p .3) (p .4) (cleared z) all),
+      rw (cleared z) at (left-then (all .left) (omega (arith, all .sized)) (f .follow .ensures .1)),
+    )
 
 pub mark-afresh-spec : {M : Type 1} → statement M
 mark-afresh-spec =

@@ -48,7 +48,8 @@ returns-2 c =
     let told = o .before .before .before in
     removes-fine _ _ _ _ (told .before .before .before .check .ensures) (told .enum-told .given .1)
     (remains (ready told) (gathered told) (o .keep-offsets .ensures) (t .keep-targets .ensures))
-    (afresh-marks (ready told) (gathered told) (o .keep-offsets .ensures) (t .keep-targets .ensures) (m .mark-afresh .ensures))
+    (afresh-marks (ready told) (gathered told) (o .keep-offsets .ensures) (t .keep-targets .ensures) (m .mark-afresh .ensures .0))
+    (m .mark-afresh .ensures .1)
 
 pub remove-spec : {M : Type 1} → statement M
 remove-spec =

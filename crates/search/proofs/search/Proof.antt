@@ -1,20 +1,23 @@
 -- `hops::search::search` meets its contract: the bag in hand is layer `hop`, and the other one is empty. Each layer that is not empty takes an
 -- object, so the objects of the layer and those without a count get fewer.
-use Prim.Native.Nat.{_+_}
+use Prim.Native.Nat.{ℕ, _+_}
 use mathlib.Core.Path.{_≡_, refl}
+use mathlib.Core.List.{List}
 use native.Mathlib.Omega.{arith}
 use lib.ListN.{length}
 use borrow.Author.Needs.{needs}
 use Rattle.graph.specs.Graph.{graph}
 use Rattle.bag.specs.Bag.{contents, empty}
+use Rattle.layers.specs.Hops.{LinksLeft}
 use Rattle.layers.specs.Search.{Layer, unknown}
-use Rattle.layers.proofs.Layers.{begin-ready, begun, layer-low, layer-end, pass-ready, passed, passed-less, hops-same, links-same}
+use Rattle.layers.proofs.Layers.{begin-ready, begun, layer-low, layer-end, pass-ready, passed, passed-less, left-first, left-next, hops-same, links-same}
 use Rattle.search.proofs.search.Statement.{statement}
 use Rattle.search.proofs.search.Tie as tie
 
 abbrev Inv-loop : tie.InvT-loop
 Inv-loop offsets targets starts hops₀ links₀ layer₀ next₀ hop₀ hops links layer next hop =
     Layer (graph offsets targets) starts hop hops links layer × (next ≡ empty)
+    × ((L : List ℕ) → LinksLeft hops₀ L links₀ → LinksLeft hops L links)
 
 abbrev μ-loop : tie.MeasureT-loop
 μ-loop offsets targets starts hops₀ links₀ layer₀ next₀ hop₀ hops links layer next hop = length (contents links layer) + unknown hops
@@ -40,6 +43,13 @@ first v =
     let l = t .before in
     passed (start l .pre) (l .loop .inv .0) (l .loop .inv .1) (v .pass .ensures) (t .loop-test .taken)
 
+-- the links of objects without a count, when the layer is reached and after the first pass
+reached-left : (l : tie.At-loop Inv-loop μ-loop) → LinksLeft (l .loop .hops) (start l .args .links .now) (l .loop .links)
+reached-left l = l .loop .inv .2 (start l .args .links .now) (left-first refl (l .before .before .before .before .before .begin .ensures))
+
+first-left : (v : tie.After-pass Inv-loop μ-loop) → let z = v .pass .last in LinksLeft (z .1 .1 .0) (start (turn v .before) .args .links .now) (z .1 .1 .1 .0)
+first-left v = let l = turn v .before in left-next (l .loop .inv .1) (v .pass .ensures) (reached-left l)
+
 begin-requires : tie.Need-begin-requires Inv-loop μ-loop
 begin-requires c κs = let f = c .before .before .before .before .before in begin-ready (entered f .pre) (f .forget .ensures)
 
@@ -47,7 +57,7 @@ loop-holds : tie.Need-loop-holds Inv-loop μ-loop
 loop-holds c =
     let g = c .before .before .before .before in
     let f = g .before .before .before .before .before .before in
-    (begun (entered f .pre) (f .forget .ensures) (g .begin .ensures), refl)
+    (begun (entered f .pre) (f .forget .ensures) (g .begin .ensures), refl, λ L x. x)
 
 pass-requires : tie.Need-pass-requires Inv-loop μ-loop
 pass-requires c κs = let l = c .before .before .before .before .before in pass-ready (start l .pre) (l .loop .inv .0) (l .loop .inv .1)
@@ -56,7 +66,7 @@ returns : tie.Need-returns Inv-loop μ-loop
 returns c =
     let v = c .before .before .before .before .before in
     let p = start (turn v .before) .pre in
-    layer-end (p .formed) (p .few) (first v) (c .if1 .taken)
+    (layer-end (p .formed) (p .few) (first v) (c .if1 .taken), first-left v)
 
 add-hop-2 : tie.Need-add-hop-2 Inv-loop μ-loop
 add-hop-2 c =
@@ -89,13 +99,14 @@ loop-again c =
     let w = c .before .before .before .before in
     let b = between w in
     let v = b .before .before .before .before .before in
-    (passed (start (turn v .before) .pre) (first v) refl (w .pass2 .ensures) (b .if1 .left), refl)
+    let l = turn v .before in
+    (passed (start l .pre) (first v) refl (w .pass2 .ensures) (b .if1 .left), refl, λ L x. left-next refl (w .pass2 .ensures) (left-next (l .loop .inv .1) (v .pass .ensures) (l .loop .inv .2 L x)))
 
 returns-2 : tie.Need-returns-2 Inv-loop μ-loop
 returns-2 c =
     let l = c .before in
     let p = start l .pre in
-    layer-end (p .formed) (p .few) (l .loop .inv .0) (c .loop-test .left)
+    (layer-end (p .formed) (p .few) (l .loop .inv .0) (c .loop-test .left), reached-left l)
 
 pub search-spec : {M : Type 1} → statement M
 search-spec =

@@ -175,17 +175,19 @@ pub fn after(case: &Case, side: &dyn Side) -> After {
         Call::Hops { offsets, targets, starts, hops, work } => {
             let (mut hops, mut work) = (words(*hops, case.fill(1)), words(*work, case.fill(2)));
             let number = side.hops(offsets, targets, starts, hops.part(), work.part());
-            // Nothing is said of the work words of an accepted call, but that no other word is touched.
+            // Left open are the two work words of an object with a count, and no others.
             if number == 0 {
-                work.part().fill(0);
+                let links = work.part().chunks_exact_mut(2);
+                links.zip(hops.part()).filter(|(_, hop)| **hop != u32::MAX).for_each(|(two, _)| two.fill(0));
             }
             After { number, buffers: vec![("hops", Whole::Words(hops.0)), ("work", Whole::Words(work.0))] }
         }
         Call::Add { update, from, to } => {
-            after_update(case, update, |lent| side.add(&update.offsets, &update.targets, from, to, lent))
+            after_update(case, update, &update.marks, |lent| side.add(&update.offsets, &update.targets, from, to, lent))
         }
         Call::Remove { update, numbers, starts } => {
-            after_update(case, update, |lent| side.remove(&update.offsets, &update.targets, numbers, starts, lent))
+            let none = vec![0; update.marks.len()];
+            after_update(case, update, &none, |lent| side.remove(&update.offsets, &update.targets, numbers, starts, lent))
         }
         Call::MarketHeader { text } => words_only(case, |result| side.market_header(text, result)),
         Call::Import { text, offsets, targets, sizes } => {
@@ -211,15 +213,17 @@ pub fn after(case: &Case, side: &dyn Side) -> After {
     }
 }
 
-fn after_update(case: &Case, update: &Update, call: impl FnOnce(&mut Renewal<'_>) -> u32) -> After {
+/// `marked` are the marks from which the call goes on.
+fn after_update(case: &Case, update: &Update, marked: &[u8], call: impl FnOnce(&mut Renewal<'_>) -> u32) -> After {
     let (mut offsets, mut targets) = (words(update.new_offsets, case.fill(1)), words(update.new_targets, case.fill(2)));
     let mut marks = Lent::holding(&update.marks, case.fill(3), 0xff);
     let mut work = words(update.work, case.fill(4));
     let number =
         call(&mut Renewal { offsets: offsets.part(), targets: targets.part(), marks: marks.part(), work: work.part() });
-    // Nothing is said of the work words of an accepted call, but that no other word is touched.
+    // Left open are the first work words, as many as there are objects newly marked, and no others.
     if number == 0 {
-        work.part().fill(0);
+        let fresh = marked.iter().zip(marks.part()).filter(|(before, after)| **before == 0 && **after != 0).count();
+        work.part()[..fresh].fill(0);
     }
     let buffers = vec![
         ("new offsets", Whole::Words(offsets.0)),

@@ -292,7 +292,7 @@ fn parts(side: &dyn Side, case: &Case) -> Result<Vec<String>, String> {
             let first = side.hop_words(hops.len() as u32, &mut length);
             let second = side.hops(&case.words(0), &case.words(1), &case.words(2), &mut hops, &mut work);
             let mut parts = vec![told("", first, &length)?, verdict(" counted", second), shown(&hops)];
-            // Nothing is said of the work words of an accepted call.
+            // Some work words of an accepted call are left open; `lent` compares the others.
             parts.extend((second != 0).then(|| shown(&work)));
             parts
         }

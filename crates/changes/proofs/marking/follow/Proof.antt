@@ -9,7 +9,7 @@ use Rattle.changes.proofs.marking.follow.Statement.{statement}
 use Rattle.changes.proofs.marking.follow.Tie as tie
 
 abbrev Inv-loop : tie.InvT-loop
-Inv-loop offsets targets marks₀ list₀ top count₀ marks list count = FollowAt (graph offsets targets) marks₀ list₀ marks list count
+Inv-loop offsets targets marks₀ list₀ top count₀ marks list count = FollowAt (graph offsets targets) marks₀ list₀ top marks list count
 
 abbrev μ-loop : tie.MeasureT-loop
 μ-loop offsets targets marks₀ list₀ top count₀ marks list count = count + unmarked marks

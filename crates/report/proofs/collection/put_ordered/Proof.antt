@@ -1,5 +1,6 @@
 -- The settings and their check decide.
-use mathlib.Core.Path.{_≡_}
+use mathlib.Core.Path.{_≡_, ap, _∙_}
+use Rattle.refusal.specs.Number.{numberOf}
 use Rattle.refusal.proofs.Numbers.{when-fine, when-faulty}
 use Rattle.slices.proofs.Written.{as-text}
 use Rattle.program.specs.Program.{orderFault}
@@ -20,12 +21,12 @@ fine c = when-fine (c .before .before .check .ensures) (c .enum-told .given .1)
 returns : tie.Need-returns
 returns c =
     let at-refusal = c .before .before in
-    let at-found = at-refusal .before .before .before .before in
-    let k = at-found .before .before in
+    let at-told = at-refusal .before .before .before in
+    let k = at-told .before .before in
     let o = k .before in
-    let v = at-found .found .given in
-    as-text
-    (due-order (entry o .pre) (o .order-of .ensures) (v .0 .0) (at-refusal .before .number-of .ensures) (when-faulty (k .check .ensures) (v .1)))
+    let v = at-told .enum-told2 .given in
+    let number = at-refusal .before .verdict-number .ensures ∙ ap numberOf (v .1) in
+    as-text (due-order (entry o .pre) (o .order-of .ensures) (v .0 .0) number (when-faulty (k .check .ensures) (v .1)))
     (at-refusal .put-refusal .ensures .put)
 
 put-collection-requires : tie.Need-put-collection-requires
@@ -45,6 +46,6 @@ returns-2 c =
 pub put-ordered-spec : {M : Type 1} → statement M
 put-ordered-spec =
     tie.close
-    (tie.spec (λ c κs. search needs) (λ c κs. search needs) (λ c. search needs) (λ c κs. search needs) (λ c κs. search needs)
-    (λ c. search needs) returns (λ c. search needs) (λ c. search needs) (λ c. search needs) (λ c. search needs)
+    (tie.spec (λ c κs. search needs) (λ c κs. search needs) (λ c. search needs) (λ c. search needs) (λ c κs. search needs) (λ c κs. search needs)
+    (λ c. search needs) returns (λ c. search needs) (λ c. search needs) (λ c. search needs)
     put-collection-requires (λ c. search needs) returns-2)
