@@ -301,8 +301,9 @@ uint32_t kullneyra_hop_words(uint32_t objects, uint64_t *result, size_t result_l
 
 /* For each object the least number of references from a start, KULLNEYRA_NO_HOPS where no chain leads to it. hops
  * has as many words as there are objects, and work as many as kullneyra_hop_words says; what they held before does
- * not matter. Offsets, targets and starts are checked as in kullneyra_mark. Beside a fault both are as they were.
- * Beside the number there is no answer. */
+ * not matter, and afterwards the two work words of an object without a count are as they were. Offsets, targets and
+ * starts are checked as in kullneyra_mark. Beside a fault both are as they were. Beside the number there is no
+ * answer. */
 uint32_t kullneyra_hops(const uint32_t *offsets, size_t offsets_len, const uint32_t *targets, size_t targets_len,
                         const uint32_t *starts, size_t starts_len, uint32_t *hops, size_t hops_len, uint32_t *work,
                         size_t work_len);
@@ -313,8 +314,9 @@ uint32_t kullneyra_update_words(uint32_t objects, uint64_t *result, size_t resul
 /* Adds the references from[i] -> to[i] to a store. new_offsets has as many words as offsets, and new_targets as many
  * as targets and from together: an object's new references stand behind its old ones, in list order. An object that
  * is newly live gets the mark KULLNEYRA_NEWLY_LIVE, and a mark that is set keeps its value. The marks must be closed
- * under the old references (KULLNEYRA_NOT_CLOSED), as those of a finished collection are. Beside a fault all four
- * are as they were. Beside the number there is no answer. */
+ * under the old references (KULLNEYRA_NOT_CLOSED), as those of a finished collection are. A work word that has
+ * changed names an object newly live. Beside a fault all four are as they were. Beside the number there is no
+ * answer. */
 uint32_t kullneyra_add(const uint32_t *offsets, size_t offsets_len, const uint32_t *targets, size_t targets_len,
                        const uint32_t *from, size_t from_len, const uint32_t *to, size_t to_len, uint32_t *new_offsets,
                        size_t new_offsets_len, uint32_t *new_targets, size_t new_targets_len, uint8_t *marks,
@@ -322,8 +324,8 @@ uint32_t kullneyra_add(const uint32_t *offsets, size_t offsets_len, const uint32
 
 /* Takes the references with these numbers out of a store; a number that stands in the list twice counts once.
  * new_targets has as many words as references remain. The marks are made afresh: 1 for a start, KULLNEYRA_NEWLY_LIVE
- * for what else is reached, 0 for the rest; what they held before does not matter. Beside a fault all four are as
- * they were. Beside the number there is no answer. */
+ * for what else is reached, 0 for the rest; what they held before does not matter. A work word that has changed
+ * names a marked object. Beside a fault all four are as they were. Beside the number there is no answer. */
 uint32_t kullneyra_remove(const uint32_t *offsets, size_t offsets_len, const uint32_t *targets, size_t targets_len,
                           const uint32_t *numbers, size_t numbers_len, const uint32_t *starts, size_t starts_len,
                           uint32_t *new_offsets, size_t new_offsets_len, uint32_t *new_targets, size_t new_targets_len,

@@ -20,7 +20,7 @@ use Rattle.graph.specs.Graph.{Graph, Leaves, references}
 use Rattle.graph.proofs.OverMarked.{after-limit}
 use Rattle.machine.specs.Sound.{Marked, Within, Whole}
 use Rattle.theorems.proofs.Room.{leaves-one}
-use Rattle.frontier.specs.Runs.{HasOwner, Owns, Carried, Roomy, runOf, RunFound, StretchesThere}
+use Rattle.frontier.specs.Runs.{HasOwner, Owns, Marking, runOf, RunFound, LoadsThere}
 
 -- ---- `object_of`
 
@@ -34,51 +34,6 @@ pub between-end : {os : List ℕ} {e low high : ℕ} → Between os e low high �
 between-end {os} {e} {low} {high} x h =
     let next : high ≡ low + 1 = omega (arith, x .order) in
     record { object = omega (arith, x .inside); from = x .from; below = rw next at (x .below) }
-
--- ---- `carry`
-
--- the references from one up to e are in the set, besides those that were
-pub record CarriedAt (bs : List ℕ) (from to e : ℕ) (bs′ : List ℕ) : Type 0 where
-  pub low : from ≤ e
-  pub high : e ≤ to
-  pub long : length bs′ ≡ length bs
-  pub adds : (x : ℕ) → bit bs′ x ≡ bit bs x + span (hit x) from (e - from)
-
-pub carried-start : {bs : List ℕ} {from to : ℕ} → from ≤ to → CarriedAt bs from to from bs
-unfolding span
-carried-start {bs} {from} h =
-    let none : from - from ≡ 0 = omega arith in
-    record { low = omega arith; high = h; long = refl; adds = λ x. rw none (omega arith) }
-
-module _ {bs : List ℕ} {from to e : ℕ} {bs′ : List ℕ} (x : CarriedAt bs from to e bs′) (h : e < to) where
-  pub carried-next : {r : Bool} {bs″ : List ℕ} → length bs″ ≡ length bs′ → Inserts bs′ e r bs″ → r ≡ true
-      → CarriedAt bs from to (e + 1) bs″
-  carried-next l i t =
-      let more : e + 1 - from ≡ e - from + 1 = omega (arith, x .low) in
-      let here : from + (e - from) ≡ e = omega (arith, x .low) in
-      record {
-        low = omega (arith, x .low);
-        high = omega arith;
-        long = l ∙ x .long;
-        adds = λ y. rw (more, span-after (hit y) from (e - from), here) (omega (arith, i .fresh t y, x .adds y));
-      }
-
-  -- e would be in it twice
-  pub carried-twice : bit bs′ e ≡ 1 → ((y : ℕ) → bit bs y + span (hit y) from (to - from) ≤ 1) → ⊥
-  carried-twice one once =
-      by-cases (decLt 0 (span (hit e) from (e - from)))
-      (λ (p : 0 < span (hit e) from (e - from)). omega (arith, span-hit-in e from (e - from) p))
-      (λ (p : ¬ (0 < span (hit e) from (e - from))).
-      omega (arith, once e, span-hit-one e from (to - from) (x .low) (omega (arith, x .low)), x .adds e, one))
-
-pub carried-stop : {bs bs′ : List ℕ} {from to : ℕ}
-    → (((y : ℕ) → bit bs y + span (hit y) from (to - from) ≤ 1) → ⊥) → Carried bs from to false bs′
-carried-stop n = record { adds = λ z. never z refl; known = λ h. absurd (n h) }
-
-pub carried-end : {bs : List ℕ} {from to e : ℕ} {bs′ : List ℕ} → CarriedAt bs from to e bs′ → to ≤ e → Carried bs from to true bs′
-carried-end {from = from} {to} {e} x h =
-    let same : e ≡ to = omega (arith, x .high) in
-    record { adds = λ z y. rw (← same) (x .adds y); known = λ q. refl }
 
 -- ---- `zeros`
 
@@ -98,46 +53,17 @@ zeros-at ws from k e h q =
 
 -- ---- `check_run`
 
--- bits that are there
-pub roomy-of : {G : Graph} {ms bs : List ℕ} {W : ℕ} {w : List ℕ} → StretchesThere G ms bs W w → Roomy G ms bs
-roomy-of x =
-    let there = x .there in
-    record {
-      formed = there .formed;
-      some = there .some;
-      objects-limit = there .objects-limit;
-      marks-length = there .marks-length;
-      room = x .room;
-    }
+-- a graph and its marks, beside saved words
+pub marking-of : {G : Graph} {ms : List ℕ} {W : ℕ} {w : List ℕ} → LoadsThere G ms W w → Marking G ms
+marking-of x = record { formed = x .formed; some = x .some; objects-limit = x .objects-limit; marks-length = x .marks-length }
 
--- other bits, as many
-pub roomy-after : {G : Graph} {ms bs bs′ : List ℕ} → Roomy G ms bs → length bs′ ≡ length bs → Roomy G ms bs′
-roomy-after x e =
-    record {
-      formed = x .formed;
-      some = x .some;
-      objects-limit = x .objects-limit;
-      marks-length = x .marks-length;
-      room = omega (arith, x .room);
-    }
-
-module _ {G : Graph} {ms bs : List ℕ} {from to : ℕ} (there : Roomy G ms bs) (h : from < to) where
+module _ {G : Graph} {ms : List ℕ} {from to : ℕ} (there : Marking G ms) (h : from < to) where
   -- the run's end, and how many references it has
   ends : from + suc (to - suc from) ≡ to
   ends = omega arith
 
-  sizes : suc (to - suc from) ≡ to - from
-  sizes = omega arith
-
-  pub run-wrong : {bs′ : List ℕ} → (Within G ms (runOf from to) → ((e : ℕ) → bit bs e + span (hit e) from (to - from) ≤ 1) → ⊥)
-      → RunFound G ms bs from to (record { sound = false; whole = false }) bs′
-  run-wrong n =
-      record {
-        within = λ z. never z refl;
-        whole = λ z. never z refl;
-        adds = λ z. never z refl;
-        known = λ w o. absurd (n w (rw sizes at o));
-      }
+  pub run-wrong : (Within G ms (runOf from to) → ⊥) → RunFound G ms from to (record { sound = false; whole = false })
+  run-wrong n = record { within = λ z. never z refl; whole = λ z. never z refl; known = λ w. absurd (n w) }
 
   pub run-limit : Within G ms (runOf from to) → to ≤ references G
   run-limit w = omega (arith, ends, w .ends, after-limit G (there .formed) (w .object) (w .is-object))
@@ -165,11 +91,10 @@ module _ {G : Graph} {ms bs : List ℕ} {from to : ℕ} (there : Roomy G ms bs) 
     pub run-marked : Within G ms (runOf from to) → Marked ms v
     run-marked w = rw (← run-object w) (w .is-marked)
 
-    pub run-right : {bs′ : List ℕ} {carry whole : Bool} → to ≤ getD (G .offsets) (v + 1) 0 → Marked ms v
-        → Carried bs from to carry bs′ → carry ≡ true
+    pub run-right : {whole : Bool} → to ≤ getD (G .offsets) (v + 1) 0 → Marked ms v
         → Decides whole ((from ≡ getD (G .offsets) v 0) × (to ≡ getD (G .offsets) (v + 1) 0))
-        → RunFound G ms bs from to (record { sound = true; whole = whole }) bs′
-    run-right a m c t d =
+        → RunFound G ms from to (record { sound = true; whole = whole })
+    run-right a m d =
         let inside = leaves in
         record {
           within = λ z.
@@ -187,6 +112,5 @@ module _ {G : Graph} {ms bs : List ℕ} {from to : ℕ} (there : Roomy G ms bs) 
               let same : w .object ≡ v =
               leaves-one (there .formed) (record { object = w .is-object; from = omega (arith, w .begins); below = omega (arith, ends, w .ends) }) inside in
               (rw (← same) (w .begins), rw (add-one, ← same) (sym ends ∙ w .ends)));
-          adds = λ z e. rw sizes (c .adds t e);
-          known = λ w o. refl;
+          known = λ w. refl;
         }

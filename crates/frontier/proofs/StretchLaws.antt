@@ -9,19 +9,18 @@ use lib.Seq.{drop-cons, take-suc, drop-at}
 use borrow.Author.Tests.{lt-ltb, le-ltb}
 use Rattle.laws.specs.Decides.{Decides}
 use Rattle.laws.specs.Every.{Every}
-use Rattle.laws.specs.Sum.{sum, hit}
+use Rattle.laws.specs.Sum.{sum}
 use Rattle.laws.proofs.Decides.{never, decides-yes, decides-same}
-use Rattle.slices.proofs.BitWords.{bit-low}
 use Rattle.graph.specs.Graph.{Graph}
 use Rattle.machine.specs.Run.{Run, carried, pairs}
-use Rattle.machine.specs.Sound.{Within, Whole, WholeButLast, WholeInside, runsSum}
-use Rattle.theorems.proofs.Runs.{runs-append, whole-tail}
+use Rattle.machine.specs.Sound.{Within, Whole, WholeButLast, WholeInside}
+use Rattle.theorems.proofs.Runs.{whole-tail}
 use Rattle.worker.proofs.Pairs.{length-pairs}
 use Rattle.worker.specs.Registers.{status-given}
 use Rattle.saved.specs.Layout.{runsIn}
 use Rattle.frontier.specs.declared.runs.Tested.{Tested}
 use Rattle.frontier.specs.declared.runs.Runs.{Runs}
-use Rattle.frontier.specs.Runs.{runOf, RunFound, Once, RunsSound, Adds, RunsFound, runsFor, StretchSound, LoadFound}
+use Rattle.frontier.specs.Runs.{runOf, RunFound, RunsSound, RunsFound, runsFor, StretchSound, LoadFound}
 
 -- ---- runs before and behind others
 
@@ -78,7 +77,7 @@ module _ (st : List ℕ) (i : ℕ) (h : 2 * i + 1 < length st) where
   unfolding runsIn
   runs-none q = rw (two-left, le-ltb _ _ q)
 
-  runs-one : getD st (2 * i) 0 < getD st (2 * i + 1) 0
+  pub runs-one : getD st (2 * i) 0 < getD st (2 * i + 1) 0
       → runsIn (drop (2 * i) st) ≡ runsIn (drop (2 * (i + 1)) st) ++ (runOf (getD st (2 * i) 0) (getD st (2 * i + 1) 0) ∷ [])
   unfolding runsIn
   runs-one q = rw (two-left, lt-ltb _ _ q)
@@ -88,7 +87,7 @@ runs-out st i h = runs-short (drop (2 * i) st) (rw length-drop (omega arith))
 
 -- ---- `check_runs`: the runs of the pairs passed
 
-pub record RunsAt (G : Graph) (ms bs st bs′ : List ℕ) (total : ℕ) (whole : Bool) (i : ℕ) : Type 0 where
+pub record RunsAt (G : Graph) (ms st : List ℕ) (total : ℕ) (whole : Bool) (i : ℕ) : Type 0 where
   pub high : 2 * i ≤ length st
   pub runs : List Run
   pub number : length runs ≡ i
@@ -98,12 +97,10 @@ pub record RunsAt (G : Graph) (ms bs st bs′ : List ℕ) (total : ℕ) (whole :
   pub within : Every (Within G ms) runs
   pub inside : WholeInside G runs
   pub flag : Decides whole (WholeButLast G runs)
-  pub adds : Adds bs runs bs′
-  pub long : length bs′ ≡ length bs
   pub low : total ≤ 4294967296 * i
 
-pub runs-start : {G : Graph} {ms bs st : List ℕ} → RunsAt G ms bs st bs 0 true 0
-unfolding carried runsSum sum pairs
+pub runs-start : {G : Graph} {ms st : List ℕ} → RunsAt G ms st 0 true 0
+unfolding carried sum pairs
 runs-start {st = st} =
     record {
       high = omega arith;
@@ -115,15 +112,13 @@ runs-start {st = st} =
       within = tt;
       inside = tt;
       flag = decides-yes tt;
-      adds = λ e. omega arith;
-      long = refl;
       low = omega arith;
     }
 
-module _ {G : Graph} {ms bs st bs′ : List ℕ} {total : ℕ} {whole : Bool} {i : ℕ} (x : RunsAt G ms bs st bs′ total whole i) where
+module _ {G : Graph} {ms st : List ℕ} {total : ℕ} {whole : Bool} {i : ℕ} (x : RunsAt G ms st total whole i) where
   -- no pair is left
   pub runs-end : {p : ℕ} → p ≡ i → runsIn (drop (2 * i) st) ≡ []
-      → RunsFound G ms bs st (record { sound = true; pairs = p; carried = total }) bs′
+      → RunsFound G ms st (record { sound = true; pairs = p; carried = total })
   runs-end same none =
       let all : runsIn st ≡ x .runs = x .left ∙ ap (λ (l : List Run). l ++ x .runs) none in
       record {
@@ -131,10 +126,8 @@ module _ {G : Graph} {ms bs st bs′ : List ℕ} {total : ℕ} {whole : Bool} {i
             record {
               within = subst (λ (l : List Run). Every (Within G ms) l) (sym all) (x .within);
               whole = subst (λ (l : List Run). WholeInside G l) (sym all) (x .inside);
-              once = λ e. rw all (omega (arith, x .adds e, bit-low bs′ e));
             };
         known = λ q. refl;
-        adds = λ z e. rw all (x .adds e);
         number = λ z. same ∙ sym (x .number) ∙ ap length (sym all);
         words = λ z. ap (λ (k : ℕ). take (2 * k) st) same ∙ x .words ∙ ap pairs (sym all);
         total = λ z. x .total-is ∙ ap carried (sym all);
@@ -153,33 +146,23 @@ module _ {G : Graph} {ms bs st bs′ : List ℕ} {total : ℕ} {whole : Bool} {i
         ∙ append-assoc (runsIn (drop (2 * (i + 1)) st)) (r ∷ []) (x .runs)
 
     -- a run behind the pair is not whole
-    pub runs-part : whole ≡ false → RunsSound G ms bs (runsIn st) → ⊥
+    pub runs-part : whole ≡ false → RunsSound G ms (runsIn st) → ⊥
     runs-part f s =
         let t = subst (λ (l : List Run). WholeInside G l) split (s .whole) in
         never (x .flag .known (inside-behind G (runsIn (drop (2 * (i + 1)) st)) r (x .runs) t)) f
 
-    module _ {tested : Tested} {bs″ : List ℕ}
-        (found : RunFound G ms bs′ (getD st (2 * i) 0) (getD st (2 * i + 1) 0) tested bs″) where
-      -- the pair is no run of the graph, or it is carried twice
-      pub runs-wrong-run : tested .sound ≡ false → RunsSound G ms bs (runsIn st) → ⊥
-      unfolding runsSum sum
+    module _ {tested : Tested} (found : RunFound G ms (getD st (2 * i) 0) (getD st (2 * i + 1) 0) tested) where
+      -- the pair is no run of the graph
+      pub runs-wrong-run : tested .sound ≡ false → RunsSound G ms (runsIn st) → ⊥
       runs-wrong-run f s =
           let rest = runsIn (drop (2 * (i + 1)) st) in
-          never
-          (found .known (every-middle (Within G ms) rest r (x .runs) (subst (λ (l : List Run). Every (Within G ms) l) split (s .within)))
-          (λ e.
-          omega (
-            arith,
-            x .adds e,
-            rw (split, runs-append (hit e) rest (r ∷ x .runs)) at (s .once e),
-          )))
-          f
+          never (found .known (every-middle (Within G ms) rest r (x .runs) (subst (λ (l : List Run). Every (Within G ms) l) split (s .within)))) f
 
-      pub runs-next : {whole′ : Bool} → whole ≡ true → tested .sound ≡ true → length bs″ ≡ length bs′
+      pub runs-next : {whole′ : Bool} → whole ≡ true → tested .sound ≡ true
           → Decides whole′ (WholeButLast G (r ∷ x .runs)) → getD st (2 * i + 1) 0 < 4294967296
-          → RunsAt G ms bs st bs″ (total + (getD st (2 * i + 1) 0 - getD st (2 * i) 0)) whole′ (i + 1)
-      unfolding carried runsSum sum pairs
-      runs-next w s l d small =
+          → RunsAt G ms st (total + (getD st (2 * i + 1) 0 - getD st (2 * i) 0)) whole′ (i + 1)
+      unfolding carried sum pairs
+      runs-next w s d small =
           let ends : getD st (2 * i) 0 + suc (getD st (2 * i + 1) 0 - suc (getD st (2 * i) 0)) ≡ getD st (2 * i + 1) 0 = omega arith in
           record {
             high = omega arith;
@@ -191,8 +174,6 @@ module _ {G : Graph} {ms bs st bs′ : List ℕ} {total : ℕ} {whole : Bool} {i
             within = (found .within s, x .within);
             inside = x .flag .right w;
             flag = d;
-            adds = λ e. omega (arith, found .adds s e, x .adds e);
-            long = l ∙ x .long;
             low = omega (arith, x .low);
           }
 
@@ -203,13 +184,12 @@ module _ {G : Graph} {ms bs st bs′ : List ℕ} {total : ℕ} {whole : Bool} {i
     pub flag-one : i ≤ 0 → whole ≡ true → Decides whole (WholeButLast G (r ∷ x .runs))
     flag-one q w = rw w (decides-yes (whole-one G r (x .runs) (omega (arith, x .number))))
 
-pub runs-wrong : {G : Graph} {ms bs st bs′ : List ℕ} → (RunsSound G ms bs (runsIn st) → ⊥)
-    → RunsFound G ms bs st (record { sound = false; pairs = 0; carried = 0 }) bs′
+pub runs-wrong : {G : Graph} {ms st : List ℕ} → (RunsSound G ms (runsIn st) → ⊥)
+    → RunsFound G ms st (record { sound = false; pairs = 0; carried = 0 })
 runs-wrong n =
     record {
       right = λ z. never z refl;
       known = λ h. absurd (n h);
-      adds = λ z. never z refl;
       number = λ z. never z refl;
       words = λ z. never z refl;
       total = λ z. never z refl;
@@ -222,54 +202,52 @@ runs-wrong n =
 pub runs-all : (status : ℕ) (st : List ℕ) → status-given ≤ status → runsFor status st ≡ runsIn st
 runs-all status st h = rw (le-ltb status 4 h)
 
-module _ {G : Graph} {ms bs : List ℕ} {status batch : ℕ} {st : List ℕ} where
-  pub stretch-wrong : {bs′ : List ℕ} → (StretchSound G ms status batch st (runsFor status st) → Once bs (runsFor status st) → ⊥)
-      → LoadFound G ms bs status batch st (record { sound = false; carried = 0 }) bs′
+module _ {G : Graph} {ms : List ℕ} {status batch : ℕ} {st : List ℕ} where
+  pub stretch-wrong : (StretchSound G ms status batch st (runsFor status st) → ⊥)
+      → LoadFound G ms status batch st (record { sound = false; carried = 0 })
   stretch-wrong n =
       record {
         right = λ z. never z refl;
-        known = λ s o. absurd (n s o);
-        adds = λ z. never z refl;
+        known = λ s. absurd (n s);
         total = λ z. never z refl;
         low = omega arith;
       }
 
   -- a worker that carries nothing
   pub stretch-idle : {clear : Bool} → status < status-given → batch ≡ 0 → Decides clear (drop 0 st ≡ replicate (length st - 0) 0)
-      → LoadFound G ms bs status batch st (record { sound = clear; carried = 0 }) bs
-  unfolding pairs carried runsSum sum
+      → LoadFound G ms status batch st (record { sound = clear; carried = 0 })
+  unfolding pairs carried sum
   stretch-idle h z d =
       let none : runsFor status st ≡ [] = rw (lt-ltb status 4 h) in
       record {
         right = λ t.
             subst (λ (l : List Run). StretchSound G ms status batch st l) (sym none)
             record { within = tt; whole = tt; words = d .right t; supplied = λ q. absurd (omega arith); batch-carried = omega arith };
-        known = λ s o. d .known (subst (λ (l : List Run). StretchSound G ms status batch st l) none s .words);
-        adds = λ t e. rw none (omega arith);
+        known = λ s. d .known (subst (λ (l : List Run). StretchSound G ms status batch st l) none s .words);
         total = λ t. ap carried (sym none);
         low = omega arith;
       }
 
   -- one that carries
-  module _ (h : status-given ≤ status) {found : Runs} {bs′ : List ℕ} (x : RunsFound G ms bs st found bs′) where
+  module _ (h : status-given ≤ status) {found : Runs} (x : RunsFound G ms st found) where
     sound-all : StretchSound G ms status batch st (runsFor status st) → StretchSound G ms status batch st (runsIn st)
     sound-all s = subst (λ (l : List Run). StretchSound G ms status batch st l) (runs-all status st h) s
 
-    pub wrong-runs : found .sound ≡ false → StretchSound G ms status batch st (runsFor status st) → Once bs (runsFor status st) → ⊥
-    wrong-runs f s o =
+    pub wrong-runs : found .sound ≡ false → StretchSound G ms status batch st (runsFor status st) → ⊥
+    wrong-runs f s =
         let t = sound-all s in
-        never (x .known (record { within = t .within; whole = t .whole; once = subst (λ (l : List Run). Once bs l) (runs-all status st h) o })) f
+        never (x .known (record { within = t .within; whole = t .whole })) f
 
     module _ (t : found .sound ≡ true) where
-      pub wrong-none : found .pairs ≡ 0 → StretchSound G ms status batch st (runsFor status st) → Once bs (runsFor status st) → ⊥
-      wrong-none z s o = omega (arith, sound-all s .supplied h, x .number t)
+      pub wrong-none : found .pairs ≡ 0 → StretchSound G ms status batch st (runsFor status st) → ⊥
+      wrong-none z s = omega (arith, sound-all s .supplied h, x .number t)
 
-      pub wrong-batch : found .carried < batch → StretchSound G ms status batch st (runsFor status st) → Once bs (runsFor status st) → ⊥
-      wrong-batch z s o = omega (arith, sound-all s .batch-carried, x .total t)
+      pub wrong-batch : found .carried < batch → StretchSound G ms status batch st (runsFor status st) → ⊥
+      wrong-batch z s = omega (arith, sound-all s .batch-carried, x .total t)
 
       pub stretch-right : {clear : Bool} → (found .pairs ≡ 0 → ⊥) → batch ≤ found .carried
           → Decides clear (drop (2 * found .pairs) st ≡ replicate (length st - 2 * found .pairs) 0)
-          → LoadFound G ms bs status batch st (record { sound = clear; carried = found .carried }) bs′
+          → LoadFound G ms status batch st (record { sound = clear; carried = found .carried })
       stretch-right n b d =
           let r = x .right t in
           let all = runs-all status st h in
@@ -284,8 +262,7 @@ module _ {G : Graph} {ms bs : List ℕ} {status batch : ℕ} {st : List ℕ} whe
                   supplied = λ q. omega (arith, n, x .number t);
                   batch-carried = omega (arith, x .total t);
                 };
-            known = λ s o. d .known (tail (sound-all s .words));
-            adds = λ z e. rw all (x .adds t e);
+            known = λ s. d .known (tail (sound-all s .words));
             total = λ z. x .total t ∙ ap carried (sym all);
             low = x .low;
           }

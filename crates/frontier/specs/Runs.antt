@@ -10,7 +10,6 @@ use Rattle.laws.specs.Decides.{Decides}
 use Rattle.laws.specs.Every.{Every}
 use Rattle.laws.specs.Span.{span}
 use Rattle.laws.specs.Sum.{hit}
-use Rattle.slices.specs.Bits.{bit, word-bits}
 use Rattle.graph.specs.Graph.{Graph, objects, references, first, after, target}
 use Rattle.graph.specs.Chain.{set?}
 use Rattle.graph.specs.Formed.{Formed}
@@ -18,7 +17,7 @@ use Rattle.graph.specs.Limits.{most-objects, most-references}
 use Rattle.desk.specs.Limits.{most-workers}
 use Rattle.desk.specs.Lengths.{savedLength}
 use Rattle.machine.specs.Run.{Run, run, carried, pairs}
-use Rattle.machine.specs.Sound.{Marked, Within, Whole, WholeInside, runSum, runsSum}
+use Rattle.machine.specs.Sound.{Marked, Within, Whole, WholeInside, runsSum}
 use Rattle.worker.specs.Registers.{status-given}
 use Rattle.saved.specs.Layout.{workerWord, stretchIn, runsIn}
 use Rattle.frontier.specs.declared.runs.Tested.{Tested}
@@ -40,52 +39,34 @@ pub record Owns (os : List ℕ) (e v : ℕ) : Type 0 where
   pub from : getD os v 0 ≤ e
   pub below : e < getD os (v + 1) 0
 
--- what `carry` says and leaves: the references from one to another are in the set, besides those that were; or one of them
--- would be in it twice
-pub record Carried (bs : List ℕ) (from to : ℕ) (r : Bool) (bs′ : List ℕ) : Type 0 where
-  pub adds : r ≡ true → (e : ℕ) → bit bs′ e ≡ bit bs e + span (hit e) from (to - from)
-  pub known : ((e : ℕ) → bit bs e + span (hit e) from (to - from) ≤ 1) → r ≡ true
-
--- a graph, a mark for each object, and a bit for each reference
-pub record Roomy (G : Graph) (ms bs : List ℕ) : Type 0 where
+-- a graph, and a mark for each object
+pub record Marking (G : Graph) (ms : List ℕ) : Type 0 where
   pub formed : Formed G
   pub some : 1 ≤ objects G
   pub objects-limit : objects G ≤ most-objects
   pub marks-length : length ms ≡ objects G
-  pub room : references G ≤ word-bits * length bs
 
 -- the run of a pair
 abbrev pub runOf : ℕ → ℕ → Run
 runOf from to = run from (to - suc from)
 
--- what `check_run` says of a run, and the bits that it leaves
-pub record RunFound (G : Graph) (ms bs : List ℕ) (from to : ℕ) (r : Tested) (bs′ : List ℕ) : Type 0 where
+-- what `check_run` says of a run
+pub record RunFound (G : Graph) (ms : List ℕ) (from to : ℕ) (r : Tested) : Type 0 where
   pub within : r .sound ≡ true → Within G ms (runOf from to)
   pub whole : r .sound ≡ true → Decides (r .whole) (Whole G (runOf from to))
-  pub adds : r .sound ≡ true → (e : ℕ) → bit bs′ e ≡ bit bs e + runSum (hit e) (runOf from to)
-  pub known : Within G ms (runOf from to) → ((e : ℕ) → bit bs e + runSum (hit e) (runOf from to) ≤ 1) → r .sound ≡ true
+  pub known : Within G ms (runOf from to) → r .sound ≡ true
 
 -- ---- one stretch
 
--- no reference is carried twice, with those that the bits tell of
-abbrev pub Once : List ℕ → List Run → Type 0
-Once bs rs = (e : ℕ) → bit bs e + runsSum (hit e) rs ≤ 1
-
--- runs that may stand in a stretch beside what the bits tell of
-pub record RunsSound (G : Graph) (ms bs : List ℕ) (rs : List Run) : Type 0 where
+-- runs that may stand in a stretch
+pub record RunsSound (G : Graph) (ms : List ℕ) (rs : List Run) : Type 0 where
   pub within : Every (Within G ms) rs
   pub whole : WholeInside G rs
-  pub once : Once bs rs
-
--- the bits when they are carried too
-abbrev pub Adds : List ℕ → List Run → List ℕ → Type 0
-Adds bs rs bs′ = (e : ℕ) → bit bs′ e ≡ bit bs e + runsSum (hit e) rs
 
 -- what `check_runs` says of a stretch
-pub record RunsFound (G : Graph) (ms bs st : List ℕ) (r : Runs) (bs′ : List ℕ) : Type 0 where
-  pub right : r .sound ≡ true → RunsSound G ms bs (runsIn st)
-  pub known : RunsSound G ms bs (runsIn st) → r .sound ≡ true
-  pub adds : r .sound ≡ true → Adds bs (runsIn st) bs′
+pub record RunsFound (G : Graph) (ms st : List ℕ) (r : Runs) : Type 0 where
+  pub right : r .sound ≡ true → RunsSound G ms (runsIn st)
+  pub known : RunsSound G ms (runsIn st) → r .sound ≡ true
   pub number : r .sound ≡ true → r .pairs ≡ length (runsIn st)
   pub words : r .sound ≡ true → take (2 * r .pairs) st ≡ pairs (runsIn st)
   pub total : r .sound ≡ true → r .carried ≡ carried (runsIn st)
@@ -105,10 +86,9 @@ pub record StretchSound (G : Graph) (ms : List ℕ) (status batch : ℕ) (st : L
   pub batch-carried : batch ≤ carried rs
 
 -- what `check_stretch` says
-pub record LoadFound (G : Graph) (ms bs : List ℕ) (status batch : ℕ) (st : List ℕ) (r : Load) (bs′ : List ℕ) : Type 0 where
+pub record LoadFound (G : Graph) (ms : List ℕ) (status batch : ℕ) (st : List ℕ) (r : Load) : Type 0 where
   pub right : r .sound ≡ true → StretchSound G ms status batch st (runsFor status st)
-  pub known : StretchSound G ms status batch st (runsFor status st) → Once bs (runsFor status st) → r .sound ≡ true
-  pub adds : r .sound ≡ true → Adds bs (runsFor status st) bs′
+  pub known : StretchSound G ms status batch st (runsFor status st) → r .sound ≡ true
   pub total : r .sound ≡ true → r .carried ≡ carried (runsFor status st)
   pub low : r .carried ≤ 4294967296 * length st
 
@@ -149,17 +129,10 @@ pub record LoadsThere (G : Graph) (ms : List ℕ) (W : ℕ) (w : List ℕ) : Typ
   pub long : length w ≡ savedLength (objects G) W
   pub batch-none : (b : ℕ) → b < W → workerWord w b 0 < status-given → workerWord w b 3 ≡ 0
 
--- the same with a bit for each reference, none of which is set
-pub record StretchesThere (G : Graph) (ms bs : List ℕ) (W : ℕ) (w : List ℕ) : Type 0 where
-  pub there : LoadsThere G ms W w
-  pub room : references G ≤ word-bits * length bs
-  pub none : (e : ℕ) → bit bs e ≡ 0
-
 -- what `check_stretches` says
-pub record LoadsFound (G : Graph) (ms : List ℕ) (W : ℕ) (w : List ℕ) (r : Loads) (bs′ : List ℕ) : Type 0 where
-  pub right : r .sound ≡ true → StretchesSound G ms W w
-  pub known : StretchesSound G ms W w → r .sound ≡ true
-  pub times : r .sound ≡ true → (e : ℕ) → bit bs′ e ≡ timesWords (objects G) W w e W
+pub record LoadsFound (G : Graph) (ms : List ℕ) (W : ℕ) (w : List ℕ) (r : Loads) : Type 0 where
+  pub right : r .sound ≡ true → (b : ℕ) → b < W → StretchAt G ms W w b
+  pub known : ((b : ℕ) → b < W → StretchAt G ms W w b) → r .sound ≡ true
   pub total : r .sound ≡ true → r .carried ≡ carriedWords (objects G) W w W
   pub carrying : r .sound ≡ true → r .carrying ≡ carryingWords (objects G) W w W
   pub low : r .carried ≤ 1152921504606846976

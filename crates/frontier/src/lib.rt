@@ -1,14 +1,12 @@
 // Whether the runs of saved words are a frontier: the references that the workers carry are those of marked
 // objects, none twice, and behind them every target is marked (SPECIFICATION 8.2). Nothing lent is written:
-// the references that are carried are one bit each in local words.
+// the references that are carried are one bit each in local words, a window of them at a time.
 mod runs;
+mod windows;
 
 use runs::Loads;
 ghost use Rattle.graph.specs.Graph.{graph};
 ghost use Rattle.frontier.specs.Runs.{LoadsThere, LoadedFound};
-
-// The words of a set of all references.
-const REFERENCE_WORDS: usize = graph::MOST_REFERENCES / 32;
 
 // What all workers carry, where a marked object's reference that nobody carries has a marked target.
 pub fn check_loads(
@@ -21,12 +19,11 @@ pub fn check_loads(
     requires { ⌜ LoadsThere (graph (now offsets) (now targets)) (now marks) workers (now saved) ⌝ }
     ensures { λ r. ⌜ LoadedFound (graph (now (offsets .entry)) (now (targets .entry))) (now (marks .entry)) workers (now (saved .entry)) r ⌝ }
 {
-    let mut carried = [0u32; REFERENCE_WORDS];
-    let loads = runs::check_stretches(offsets, targets, marks, &mut carried, saved, workers);
+    let loads = runs::check_stretches(offsets, targets, marks, saved, workers);
     if !loads.sound {
         return runs::NO_LOADS;
     }
-    if !marks::targets_marked(offsets, targets, marks, &carried) {
+    if !windows::check_references(offsets, targets, marks, saved, workers) {
         return runs::NO_LOADS;
     }
     loads

@@ -1,21 +1,19 @@
 // The stretches: the runs that the workers carry.
 use desk::places;
 use protocol::fields;
-use slices::bits;
 use worker::registers;
 ghost use mathlib.Core.Path.{_≡_};
 ghost use Prim.Native.Nat.{_+_, _-_, _*_, _≤_, _<_};
 ghost use lib.ListN.{length, getD, drop, replicate};
 ghost use Rattle.laws.specs.Decides.{Decides};
-ghost use Rattle.slices.specs.Bits.{word-bits};
 ghost use Rattle.graph.specs.Graph.{graph};
 ghost use Rattle.graph.specs.Limits.{most-objects};
 ghost use Rattle.desk.specs.Lengths.{stretchLength};
 ghost use Rattle.worker.specs.Registers.{status-given};
-ghost use Rattle.frontier.specs.Runs.{HasOwner, Owns, Carried, Roomy, RunFound, RunsFound, LoadFound, StretchesThere, LoadsFound};
+ghost use Rattle.frontier.specs.Runs.{HasOwner, Owns, Marking, RunFound, RunsFound, LoadFound, LoadsThere, LoadsFound};
 
 // The object that reference e leaves: its references begin at or before e, the next one's after e.
-fn object_of(offsets: &[u32], e: u32) -> usize
+pub fn object_of(offsets: &[u32], e: u32) -> usize
     requires { ⌜ HasOwner (now offsets) e ⌝ }
     ensures { λ v. ⌜ Owns (now (offsets .entry)) e v ⌝ }
 {
@@ -32,19 +30,6 @@ fn object_of(offsets: &[u32], e: u32) -> usize
     low
 }
 
-// Takes the references from one to another into the set; false where one of them is in it already.
-fn carry(carried: &mut [u32], from: u32, to: u32) -> bool
-    requires { ⌜ (from ≤ to) × (to ≤ word-bits * length (now carried)) ⌝ }
-    ensures { λ r. ⌜ Carried (now (carried .entry)) from to r (now (carried .exit)) ⌝ }
-{
-    for e in from..to {
-        if !bits::insert(carried, e) {
-            return false;
-        }
-    }
-    true
-}
-
 // Whether object v has no other references than those from one to another.
 fn is_whole(offsets: &[u32], v: usize, from: u32, to: u32) -> bool
     requires { ⌜ v + 1 < length (now offsets) ⌝ }
@@ -56,8 +41,7 @@ fn is_whole(offsets: &[u32], v: usize, from: u32, to: u32) -> bool
     to == offsets[v + 1]
 }
 
-// What a run is: whether its references are those of one marked object and new, and whether they are
-// all of them.
+// What a run is: whether its references are those of one marked object, and whether they are all of them.
 pub struct Tested {
     pub sound: bool,
     pub whole: bool,
@@ -69,16 +53,9 @@ const WRONG: Tested = Tested {
 };
 
 // The run from one reference to another, which is after it.
-fn check_run(
-    offsets: &[u32],
-    targets: &[u32],
-    marks: &[u32],
-    carried: &mut [u32],
-    from: u32,
-    to: u32,
-) -> Tested
-    requires { ⌜ Roomy (graph (now offsets) (now targets)) (now marks) (now carried) × (from < to) ⌝ }
-    ensures { λ r. ⌜ RunFound (graph (now (offsets .entry)) (now (targets .entry))) (now (marks .entry)) (now (carried .entry)) from to r (now (carried .exit)) ⌝ }
+fn check_run(offsets: &[u32], targets: &[u32], marks: &[u32], from: u32, to: u32) -> Tested
+    requires { ⌜ Marking (graph (now offsets) (now targets)) (now marks) × (from < to) ⌝ }
+    ensures { λ r. ⌜ RunFound (graph (now (offsets .entry)) (now (targets .entry))) (now (marks .entry)) from to r ⌝ }
 {
     if targets.len() < to as usize {
         return WRONG;
@@ -88,9 +65,6 @@ fn check_run(
         return WRONG;
     }
     if marks[v] == 0 {
-        return WRONG;
-    }
-    if !carry(carried, from, to) {
         return WRONG;
     }
     let whole = is_whole(offsets, v, from, to);
@@ -111,15 +85,9 @@ const NO_RUNS: Runs = Runs {
 };
 
 // The pairs of a stretch up to the first that is none. All but the first and the last must be whole.
-fn check_runs(
-    offsets: &[u32],
-    targets: &[u32],
-    marks: &[u32],
-    carried: &mut [u32],
-    stretch: &[u32],
-) -> Runs
-    requires { ⌜ Roomy (graph (now offsets) (now targets)) (now marks) (now carried) × (length (now stretch) ≤ stretchLength most-objects) ⌝ }
-    ensures { λ r. ⌜ RunsFound (graph (now (offsets .entry)) (now (targets .entry))) (now (marks .entry)) (now (carried .entry)) (now (stretch .entry)) r (now (carried .exit)) ⌝ }
+fn check_runs(offsets: &[u32], targets: &[u32], marks: &[u32], stretch: &[u32]) -> Runs
+    requires { ⌜ Marking (graph (now offsets) (now targets)) (now marks) × (length (now stretch) ≤ stretchLength most-objects) ⌝ }
+    ensures { λ r. ⌜ RunsFound (graph (now (offsets .entry)) (now (targets .entry))) (now (marks .entry)) (now (stretch .entry)) r ⌝ }
 {
     let mut total: u64 = 0;
     let mut whole = true;
@@ -138,7 +106,7 @@ fn check_runs(
         if !whole {
             return NO_RUNS;
         }
-        let run = check_run(offsets, targets, marks, carried, from, to);
+        let run = check_run(offsets, targets, marks, from, to);
         let sound = run.sound;
         if !sound {
             return NO_RUNS;
@@ -184,19 +152,18 @@ fn check_stretch(
     offsets: &[u32],
     targets: &[u32],
     marks: &[u32],
-    carried: &mut [u32],
     stretch: &[u32],
     status: u32,
     batch: u32,
 ) -> Load
-    requires { ⌜ Roomy (graph (now offsets) (now targets)) (now marks) (now carried) × (length (now stretch) ≤ stretchLength most-objects) × (status < status-given → batch ≡ 0) ⌝ }
-    ensures { λ r. ⌜ LoadFound (graph (now (offsets .entry)) (now (targets .entry))) (now (marks .entry)) (now (carried .entry)) status batch (now (stretch .entry)) r (now (carried .exit)) ⌝ }
+    requires { ⌜ Marking (graph (now offsets) (now targets)) (now marks) × (length (now stretch) ≤ stretchLength most-objects) × (status < status-given → batch ≡ 0) ⌝ }
+    ensures { λ r. ⌜ LoadFound (graph (now (offsets .entry)) (now (targets .entry))) (now (marks .entry)) status batch (now (stretch .entry)) r ⌝ }
 {
     if status < registers::GIVEN {
         let sound = zeros(stretch, 0);
         return Load { sound, carried: 0 };
     }
-    let runs = check_runs(offsets, targets, marks, carried, stretch);
+    let runs = check_runs(offsets, targets, marks, stretch);
     let sound = runs.sound;
     let pairs = runs.pairs;
     let total = runs.carried;
@@ -229,17 +196,16 @@ pub const NO_LOADS: Loads = Loads {
     carried: 0,
 };
 
-// All workers' stretches, with a set of references that is empty at first.
+// All workers' stretches.
 pub fn check_stretches(
     offsets: &[u32],
     targets: &[u32],
     marks: &[u32],
-    carried: &mut [u32],
     saved: &[u32],
     workers: u32,
 ) -> Loads
-    requires { ⌜ StretchesThere (graph (now offsets) (now targets)) (now marks) (now carried) workers (now saved) ⌝ }
-    ensures { λ r. ⌜ LoadsFound (graph (now (offsets .entry)) (now (targets .entry))) (now (marks .entry)) workers (now (saved .entry)) r (now (carried .exit)) ⌝ }
+    requires { ⌜ LoadsThere (graph (now offsets) (now targets)) (now marks) workers (now saved) ⌝ }
+    ensures { λ r. ⌜ LoadsFound (graph (now (offsets .entry)) (now (targets .entry))) (now (marks .entry)) workers (now (saved .entry)) r ⌝ }
 {
     let mut carrying: u64 = 0;
     let mut total: u64 = 0;
@@ -253,7 +219,6 @@ pub fn check_stretches(
             offsets,
             targets,
             marks,
-            carried,
             &saved[from..from + len],
             saved[at + fields::STATUS],
             saved[at + fields::BATCH],

@@ -1,4 +1,4 @@
--- Hop counts drawn: a chain of store S, and the count where none leads.
+-- Hop counts drawn: a chain of store S, its counts, and the count where none leads.
 use mathlib.Core.Path.{_≡_, refl}
 use mathlib.Core.List.{List, [], _∷_}
 use mathlib.Core.Logic.{by-cases}

@@ -17,7 +17,7 @@ use Rattle.laws.proofs.Decides.{never}
 use Rattle.laws.proofs.Passing.{span-plus, span-agree, span-limit}
 use Rattle.laws.proofs.Span.{span-hit-one}
 use Rattle.laws.proofs.Sum.{sum-snoc, inside, hit-same, hit-other, hit-swap}
-use Rattle.slices.specs.Bits.{bit, Inserts}
+use Rattle.slices.specs.Bits.{bit, Inserts, word-bits}
 use Rattle.slices.proofs.BitWords.{bit-low, bit-none}
 use Rattle.graph.specs.Graph.{graph, degree}
 use Rattle.graph.specs.Chain.{set?, overMarked}
@@ -226,6 +226,6 @@ pub starts-wrong : {starts ms : List ℕ} → (StartsMarked starts ms → ⊥) �
 starts-wrong n = record { right = λ z. never z refl; known = λ h. absurd (n h); distinct = λ z. never z refl }
 
 -- a set of zeros is empty
-pub zeros-for : {starts ms : List ℕ} (k : ℕ) → 65536 ≤ 32 * k → StartsBelow starts (length ms) → length ms ≤ 65536
+pub zeros-for : {starts ms : List ℕ} (k : ℕ) → length ms ≤ word-bits * k → StartsBelow starts (length ms)
     → StartsThere starts ms (replicate k 0)
-zeros-for k h b l = record { below = b; room = rw length-replicate (omega arith); none = bit-none k }
+zeros-for k h b = record { below = b; room = rw length-replicate (omega arith); none = bit-none k }

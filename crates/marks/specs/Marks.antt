@@ -2,7 +2,7 @@
 use mathlib.Core.Path.{_≡_}
 use mathlib.Core.Bool.{true}
 use mathlib.Core.List.{List}
-use Prim.Native.Nat.{ℕ, suc, _*_, _≤_, _<_}
+use Prim.Native.Nat.{ℕ, suc, _+_, _-_, _*_, _≤_, _<_, min, max}
 use lib.ListN.{length, getD}
 use Rattle.laws.specs.Span.{span}
 use Rattle.laws.specs.Sum.{sum, hit}
@@ -14,6 +14,7 @@ use Rattle.machine.specs.Machine.{live}
 use Rattle.machine.specs.Sound.{Marked}
 use Rattle.marks.specs.declared.Marks.{Marks}
 use Rattle.marks.specs.declared.Starts.{Starts}
+use Rattle.marks.specs.declared.Window.{Window}
 
 -- a mark for each object, whose references begin at offsets that do not fall
 pub record MarksThere (os ms : List ℕ) : Type 0 where
@@ -35,6 +36,10 @@ pub record MarksFound (W : ℕ) (os ms : List ℕ) (r : Marks) : Type 0 where
 abbrev pub StartsBelow : List ℕ → ℕ → Type 0
 StartsBelow starts n = (i : ℕ) → i < length starts → getD starts i 0 < n
 
+-- the words of a set of all objects
+abbrev pub object-words : ℕ
+object-words = 2048
+
 -- and there is a bit for each object, none of which is set
 pub record StartsThere (starts ms seen : List ℕ) : Type 0 where
   pub below : StartsBelow starts (length ms)
@@ -54,24 +59,26 @@ pub record StartsFound (starts ms : List ℕ) (r : Starts) : Type 0 where
   pub known : StartsMarked starts ms → r .sound ≡ true
   pub distinct : r .sound ≡ true → r .distinct ≡ distinct (length ms) starts
 
--- ---- the targets
+-- ---- the targets, of the references in a window; the bits are those of the references from base on
 
--- targets that are objects, with a mark for each object and a bit for each reference
-pub record TargetsThere (ts ms carried : List ℕ) : Type 0 where
+-- targets that are objects, with a mark for each object, and a bit for each reference from base up to end
+pub record TargetsThere (ts ms carried : List ℕ) (base end : ℕ) : Type 0 where
   pub inside : (e : ℕ) → e < length ts → getD ts e 0 < length ms
-  pub room : length ts ≤ word-bits * length carried
+  pub within : end ≤ length ts
+  pub room : end ≤ base + word-bits * length carried
 
 -- each of the references from one to another that nobody carries has a marked target
-abbrev pub PartMarked : List ℕ → List ℕ → List ℕ → ℕ → ℕ → Type 0
-PartMarked ts ms carried from to = (e : ℕ) → from ≤ e → e < to → bit carried e ≡ 0 → Marked ms (getD ts e 0)
+abbrev pub PartMarked : List ℕ → List ℕ → List ℕ → ℕ → ℕ → ℕ → Type 0
+PartMarked ts ms carried base from to = (e : ℕ) → from ≤ e → e < to → bit carried (e - base) ≡ 0 → Marked ms (getD ts e 0)
 
--- each reference of a marked object
-abbrev pub AllMarked : List ℕ → List ℕ → List ℕ → List ℕ → Type 0
-AllMarked os ts ms carried =
-    (v : ℕ) → v < length ms → Marked ms v → PartMarked ts ms carried (getD os v 0) (getD os (suc v) 0)
+-- each reference of a marked object that lies in the window
+abbrev pub AllMarked : List ℕ → List ℕ → List ℕ → List ℕ → ℕ → ℕ → Type 0
+AllMarked os ts ms carried base end =
+    (v : ℕ) → v < length ms → Marked ms v → PartMarked ts ms carried base (max base (getD os v 0)) (min end (getD os (suc v) 0))
 
--- the offsets bound parts of the targets
-pub record PartsThere (os ts ms carried : List ℕ) : Type 0 where
-  pub targets : TargetsThere ts ms carried
+-- the references in the window leave its objects
+pub record PartsThere (os ts ms carried : List ℕ) (w : Window) : Type 0 where
+  pub targets : TargetsThere ts ms carried (w .from) (w .to)
   pub long : length os ≡ suc (length ms)
-  pub inside : (v : ℕ) → v < length ms → getD os (suc v) 0 ≤ length ts
+  pub objects : w .last ≤ length ms
+  pub leaves : (v e : ℕ) → v < length ms → getD os v 0 ≤ e → e < getD os (suc v) 0 → w .from ≤ e → e < w .to → (w .first ≤ v) × (v < w .last)

@@ -1,6 +1,6 @@
 // Whether saved marks are those of a collection (SPECIFICATION 8.2): what they come to, the starts, and the
 // targets of references that nobody carries. Nothing lent is written: the objects that are starts are one
-// bit each in local words.
+// bit each in local words. The references are looked at in windows.
 use slices::bits;
 ghost use Prim.Native.Nat.{_≤_};
 ghost use lib.ListN.{length};
@@ -9,7 +9,7 @@ ghost use Rattle.graph.specs.Limits.{most-objects};
 ghost use Rattle.marks.specs.Marks.{MarksThere, MarksFound, StartsBelow, StartsThere, StartsFound, TargetsThere, PartMarked, PartsThere, AllMarked};
 
 // The words of a set of all objects.
-const OBJECT_WORDS: usize = graph::MOST_OBJECTS / 32;
+const OBJECT_WORDS: usize = graph::MOST_OBJECTS / bits::WORD as usize;
 
 // What the marks come to: how many are set, and how many references leave unmarked objects.
 pub struct Marks {
@@ -77,24 +77,44 @@ fn count_starts(starts: &[u32], marks: &[u32], seen: &mut [u32]) -> Starts
     }
 }
 
-// The same, with such a set.
+// The same, with such a set; it is small where there are few objects.
 pub fn check_starts(starts: &[u32], marks: &[u32]) -> Starts
     requires { ⌜ StartsBelow (now starts) (length (now marks)) × (length (now marks) ≤ most-objects) ⌝ }
     ensures { λ r. ⌜ StartsFound (now (starts .entry)) (now (marks .entry)) r ⌝ }
 {
+    if marks.len() <= bits::FEW_NUMBERS {
+        let mut few = [0u32; bits::FEW];
+        return count_starts(starts, marks, &mut few);
+    }
     let mut seen = [0u32; OBJECT_WORDS];
     count_starts(starts, marks, &mut seen)
 }
 
-// Whether each of the references from one to another that nobody carries has a marked target.
-fn part_marked(targets: &[u32], marks: &[u32], carried: &[u32], from: u32, to: u32) -> bool
-    requires { ⌜ TargetsThere (now targets) (now marks) (now carried) × (to ≤ length (now targets)) ⌝ }
-    ensures { λ r. ⌜ Decides r (PartMarked (now (targets .entry)) (now (marks .entry)) (now (carried .entry)) from to) ⌝ }
+// A window: the references from one up to another, and the objects that they leave, from one up to another.
+pub struct Window {
+    pub from: u32,
+    pub to: u32,
+    pub first: usize,
+    pub last: usize,
+}
+
+// Whether each of the references from one to another that nobody carries has a marked target. The set has
+// the carried references from base on.
+fn part_marked(
+    targets: &[u32],
+    marks: &[u32],
+    carried: &[u32],
+    base: u32,
+    from: u32,
+    to: u32,
+) -> bool
+    requires { ⌜ TargetsThere (now targets) (now marks) (now carried) base to × (base ≤ from) ⌝ }
+    ensures { λ r. ⌜ Decides r (PartMarked (now (targets .entry)) (now (marks .entry)) (now (carried .entry)) base from to) ⌝ }
 {
     for e in from..to {
         let target = targets[e as usize];
         if marks[target as usize] == 0 {
-            if !bits::contains(carried, e) {
+            if !bits::contains(carried, e - base) {
                 return false;
             }
         }
@@ -102,14 +122,26 @@ fn part_marked(targets: &[u32], marks: &[u32], carried: &[u32], from: u32, to: u
     true
 }
 
-// The same for the references of all marked objects.
-pub fn targets_marked(offsets: &[u32], targets: &[u32], marks: &[u32], carried: &[u32]) -> bool
-    requires { ⌜ PartsThere (now offsets) (now targets) (now marks) (now carried) ⌝ }
-    ensures { λ r. ⌜ Decides r (AllMarked (now (offsets .entry)) (now (targets .entry)) (now (marks .entry)) (now (carried .entry))) ⌝ }
+// The same for the references of all marked objects that lie in a window.
+pub fn targets_marked(
+    offsets: &[u32],
+    targets: &[u32],
+    marks: &[u32],
+    carried: &[u32],
+    window: Window,
+) -> bool
+    requires { ⌜ PartsThere (now offsets) (now targets) (now marks) (now carried) window ⌝ }
+    ensures { λ r. ⌜ Decides r (AllMarked (now (offsets .entry)) (now (targets .entry)) (now (marks .entry)) (now (carried .entry)) (window .from) (window .to)) ⌝ }
 {
-    for v in 0..marks.len() {
+    let base = window.from;
+    let end = window.to;
+    let first = window.first;
+    let last = window.last;
+    for v in first..last {
         if marks[v] != 0 {
-            if !part_marked(targets, marks, carried, offsets[v], offsets[v + 1]) {
+            let from = slices::larger(base, offsets[v]);
+            let to = slices::smaller(end, offsets[v + 1]);
+            if !part_marked(targets, marks, carried, base, from, to) {
                 return false;
             }
         }

@@ -8,7 +8,7 @@ use native.Mathlib.Numerals.{add-one}
 use native.Mathlib.Omega.{arith}
 use lib.ListN.{length, getD, drop, drop-of-length-le}
 use lib.Seq.{drop-cons, drop-drop, getD-drop}
-use lib.Dec.{ltb}
+use lib.Dec.{ltb, eqb}
 use borrow.Author.Tests.{lt-ltb, le-leb, lt-leb, eq-eqb, ne-eqb}
 use Rattle.laws.specs.Choice.{both}
 use Rattle.matrix.specs.Layout.{valueFrom}
@@ -105,8 +105,10 @@ module _ {text : List ℕ} {at i value : ℕ} (a : Scanning text at i value) whe
   field-good d {stop} e h some =
       let n = d .lead-is in
       let p : 0 < a .k = omega (arith, some, a .place) in
+      let stopped : stops stop (drop at text) ≡ both (ltb 0 (a .k)) (eqb (getD (drop at text) (a .k) 0) stop) =
+      ap (λ (k : ℕ). both (ltb 0 k) (eqb (getD (drop at text) k 0) stop)) n in
       record {
-        good-is = rw (n, d .next-byte, ← e, lt-ltb 0 (a .k) p, eq-eqb stop stop refl);
+        good-is = sym (stopped ∙ rw (d .next-byte, ← e, lt-ltb 0 (a .k) p, eq-eqb stop stop refl));
         value-is = λ z. sym (d .number-is);
         small = omega (arith, a .small, pow-le-pow-right {n = 10} (omega arith) {i = a .k} {j = 10} (omega (arith, a .sum)));
         next-is = λ z. let j : i + 1 ≡ at + suc (a .k) = omega (arith, a .place) in rw (n, j) (sym (drop-drop (suc (a .k)) at text));

@@ -13,7 +13,7 @@ use lib.Pow.{pow-pos, pow-add, shr-shr, shr-lt, shl-exact}
 use Rattle.laws.specs.Sum.{hit}
 use Rattle.laws.proofs.Sum.{hit-same, hit-other}
 use Rattle.laws.proofs.Decides.{never}
-use Rattle.slices.specs.Bits.{bit, Inserts}
+use Rattle.slices.specs.Bits.{bit, many-words, Inserts}
 
 -- ---- one word x, whose bit k is 0
 
@@ -107,6 +107,14 @@ module _ (ws : List ℕ) (i : ℕ) where
     unfolding bit
     inserts there = record { fresh = λ z j. rw power (bit-inserted there is-clear j); there = λ z. never refl z; same = λ z. never refl z }
 
+-- ---- the numbers from base on: two of them are the same where they stand at the same bit
+
+pub hit-shift : (x e base : ℕ) → base ≤ x → base ≤ e → hit (x - base) (e - base) ≡ hit x e
+hit-shift x e base h q =
+    by-cases (ℕ-discrete x e)
+    (λ (p : x ≡ e). rw (p, hit-same (e - base), hit-same e))
+    (λ (p : x ≢ e). omega (arith, hit-other x e p, hit-other (x - base) (e - base) (λ z. p (omega arith))))
+
 -- ---- no number is in the set of zeros
 
 zero-at : (k i : ℕ) → getD (replicate {A = ℕ} k 0) i 0 ≡ 0
@@ -118,3 +126,7 @@ zero-at k i =
 pub bit-none : (k i : ℕ) → bit (replicate k 0) i ≡ 0
 unfolding bit
 bit-none k i = rw (zero-at k (i / 32), zero-div (2 ^ (i % 32)))
+
+-- such a set has words, and not too many
+pub some-words : (k : ℕ) → 1 ≤ k → k ≤ many-words → (1 ≤ length (replicate {A = ℕ} k 0)) × (length (replicate {A = ℕ} k 0) ≤ many-words)
+some-words k h q = (omega (arith, length-replicate {A = ℕ} k 0), omega (arith, length-replicate {A = ℕ} k 0))

@@ -10,6 +10,13 @@ use Rattle.laws.specs.Sum.{hit}
 abbrev pub word-bits : ℕ
 word-bits = 32
 
+-- the words of a small set and of a large one
+abbrev pub few-words : ℕ
+few-words = 64
+
+abbrev pub many-words : ℕ
+many-words = 6144
+
 -- bit i: 1 where i is in the set, else 0
 unfoldable pub bit : List ℕ → ℕ → ℕ
 bit ws i = getD ws (i / word-bits) 0 / 2 ^ (i % word-bits) % 2

@@ -1,13 +1,12 @@
 -- The checks of both calls in their order, and what the calls promise at each exit.
 use mathlib.Core.Path.{_≡_, refl, sym, ap, _∙_}
 use mathlib.Core.Bool.{Bool, true, false, not, _||_}
-use mathlib.Core.List.{List}
+use mathlib.Core.List.{List, map}
 use Prim.Native.Nat.{ℕ, _+_, _-_, _≤_, _<_}
 use native.Mathlib.Omega.{arith}
 use lib.Dec.{ltb, eqb}
-use lib.ListN.{length, replicate}
+use lib.ListN.{length, length-map, replicate}
 use borrow.Author.Tests.{eqb-true, not-false, ltb-false, lt-ltb, le-ltb}
-use Rattle.laws.specs.Span.{span}
 use Rattle.laws.specs.Test.{allUpTo}
 use Rattle.refusal.specs.declared.Refusal.{Refusal}
 use Rattle.refusal.specs.declared.Refusal.the-variants.{Count, Buffer, Graph as NoGraph, Object, Marks}
@@ -27,13 +26,12 @@ use Rattle.desk.proofs.Passed.{counted, stored}
 use Rattle.machine.specs.Sound.{Marked}
 use Rattle.updates.specs.declared.Lengths.{Lengths}
 use Rattle.changes.specs.Pairs.{paired}
-use Rattle.changes.specs.Stores.{added, completed, distinct, staying, chosen, removed, marksAfresh}
+use Rattle.changes.specs.Stores.{added, completed, distinct, stays, staying, chosen, removed, marksAfresh}
 use Rattle.changes.specs.Filling.{Addable}
 use Rattle.changes.specs.Marking.{ListLeft}
-use Rattle.changes.specs.Taking.{absent, Gathered, Covers, Climbs}
-use Rattle.updates.specs.Call.{lengths, lengthsWrong, closedAt, addFault, AddFinds, Adds, removeFault, RemoveChecked, Removes}
+use Rattle.updates.specs.Call.{lengths, lengthsWrong, closedAt, addFault, AddFinds, Adds, removeFault, RemoveFinds, Removes}
 use Rattle.updates.proofs.Closing.{found-closed}
-use Rattle.changes.proofs.Keeping.{distinct-staying, counts, counts-long, absent-staying, removed-is, removed-objects, removed-formed, offsets-climb}
+use Rattle.changes.proofs.Keeping.{distinct-staying, removed-is, removed-objects, removed-formed}
 use Rattle.changes.proofs.Pairing.{paired-inside}
 use Rattle.changes.proofs.Promise.{add-promise, afresh-promise}
 
@@ -97,11 +95,11 @@ module _ {os ts from to ms : List ℕ} {l : Lengths} where
           module _ (e₅ : Pairs? (length os - 1) from to ≡ false) where
             pub add-17 : allUpTo (length os - 1) (closedAt (graph os ts) ms) ≡ false → AddFinds (Faulty Marks) os ts from to ms l
             unfolding addFault
-            add-17 e = record { number-is = rw (e₄, s₄, e₇, e₁₀, e₅, e) }
+            add-17 e = record { number-is = rw (e₄, s₄, e₇, e₁₀, e₅) (sym (ap (λ (t : Bool). raise (not t) 17 0) e)) }
 
             pub add-none : allUpTo (length os - 1) (closedAt (graph os ts) ms) ≡ true → AddFinds Fine os ts from to ms l
             unfolding addFault
-            add-none e = record { number-is = rw (e₄, s₄, e₇, e₁₀, e₅, e) }
+            add-none e = record { number-is = rw (e₄, s₄, e₇, e₁₀, e₅) (sym (ap (λ (t : Bool). raise (not t) 17 0) e)) }
 
 -- what a call without a fault may go on with
 pub record AddReady (os ts from to bounds places ms work : List ℕ) : Type 0 where
@@ -210,48 +208,26 @@ module _ {os ts from to : List ℕ} (bounds places ms work : List ℕ) {v : Verd
 
 -- ---- taking out
 
-module _ {os ts ns starts : List ℕ} {l : Lengths} {ws : List ℕ} where
-  refuses : {cause : Refusal} → number cause ≡ removeFault os ts ns starts l → RemoveChecked (Faulty cause) os ts ns starts l ws
-  refuses {cause} e = record { number-is = e; gathered = λ z. absurd (omega (arith, z, e, numbered cause)) }
-
-  pub remove-4 : countsOutside (length os - 1) (length ts) ≡ true → RemoveChecked (Faulty Count) os ts ns starts l ws
+module _ {os ts ns starts : List ℕ} {l : Lengths} where
+  pub remove-4 : countsOutside (length os - 1) (length ts) ≡ true → RemoveFinds (Faulty Count) os ts ns starts l
   unfolding removeFault
-  remove-4 e = refuses (rw e)
+  remove-4 e = record { number-is = rw e }
 
   module _ (e₄ : countsOutside (length os - 1) (length ts) ≡ false) where
-    pub remove-5 : allBelow (length ts) ns ≡ false → RemoveChecked (Faulty Object) os ts ns starts l ws
+    pub remove-5 : allBelow (length ts) ns ≡ false → RemoveFinds (Faulty Object) os ts ns starts l
     unfolding removeFault
-    remove-5 e = refuses (rw (e₄, e))
+    remove-5 e = record { number-is = rw (e₄, e) }
 
-    module _ (e₅ : allBelow (length ts) ns ≡ true) {r : ℕ} (g : Gathered ns (length ts) r ws) where
-      pub remove-7 : lengthsWrong (length os - 1) (length ts - r) l ≡ true → RemoveChecked (Faulty Buffer) os ts ns starts l ws
+    module _ (e₅ : allBelow (length ts) ns ≡ true) {r : ℕ} (g : r ≡ distinct ns (length ts)) where
+      pub remove-7 : lengthsWrong (length os - 1) (length ts - r) l ≡ true → RemoveFinds (Faulty Buffer) os ts ns starts l
       unfolding removeFault
-      remove-7 e = refuses (rw (e₄, e₅, ← g .count-is, e))
+      remove-7 e = record { number-is = rw (e₄, e₅, ← g, e) }
 
-      module _ (e₇ : lengthsWrong (length os - 1) (length ts - r) l ≡ false) where
-        -- 10, 13 or 5
-        pub remove-store : (cause : Refusal) → number cause ≡ storeFault os ts starts → RemoveChecked (Faulty cause) os ts ns starts l ws
-        unfolding removeFault
-        remove-store cause e = refuses (rw (e₄, e₅, ← g .count-is, e₇) e)
-
-        pub remove-none : storeFault os ts starts ≡ 0 → RemoveChecked Fine os ts ns starts l ws
-        unfolding removeFault
-        remove-none e =
-            record {
-              number-is = rw (e₄, e₅, ← g .count-is, e₇, e);
-              gathered = λ z.
-                  record {
-                    long = g .long;
-                    bits = g .bits;
-                    count-is = refl;
-                    count-low = omega (arith, g .count-is, g .count-low);
-                  };
-            }
-
-        -- by what the checks of the store find
-        pub remove-by : (v : Verdict) → numberOf v ≡ storeFault os ts starts → RemoveChecked v os ts ns starts l ws
-        remove-by Fine e = remove-none (sym e)
-        remove-by (Faulty cause) e = remove-store cause e
+      -- by what the checks of the store find: none, 10, 13 or 5
+      pub remove-by : lengthsWrong (length os - 1) (length ts - r) l ≡ false → (v : Verdict) → numberOf v ≡ storeFault os ts starts
+          → RemoveFinds v os ts ns starts l
+      unfolding removeFault
+      remove-by e₇ v e = record { number-is = rw (e₄, e₅, ← g, e₇) e }
 
 pub record RemoveReady (os ts ns starts bounds places ms work : List ℕ) : Type 0 where
   pub formed : Formed (graph os ts)
@@ -289,8 +265,8 @@ module _ (os ts ns starts bounds places ms work : List ℕ) where
         starts-low = rw (f .marks-long) (s .inside);
       }
 
-module _ {os ts ns starts : List ℕ} (bounds places ms work : List ℕ) {v : Verdict} {ws : List ℕ}
-    (found : RemoveChecked v os ts ns starts (lengths bounds places ms work) ws) where
+module _ {os ts ns starts : List ℕ} (bounds places ms work : List ℕ) {v : Verdict}
+    (found : RemoveFinds v os ts ns starts (lengths bounds places ms work)) where
   pub removes-refused : {cause : Refusal} → v ≡ Faulty cause → Removes os ts ns starts bounds places ms work (Faulty cause) bounds places ms work
   removes-refused {cause} e =
       let k = when-faulty (found .number-is) e in
@@ -305,9 +281,6 @@ module _ {os ts ns starts : List ℕ} (bounds places ms work : List ℕ) {v : Ve
 
   pub found-removable : v ≡ Fine → RemoveReady os ts ns starts bounds places ms work
   found-removable e = remove-ready os ts ns starts bounds places ms work (when-fine (found .number-is) e)
-
-  pub found-gathered : v ≡ Fine → Gathered ns (length ts) (distinct ns (length ts)) ws
-  found-gathered e = found .gathered (when-fine (found .number-is) e)
 
   pub removes-fine : v ≡ Fine → {bounds′ places′ ms′ work′ : List ℕ} → graph bounds′ places′ ≡ removed (graph os ts) ns
       → ms′ ≡ marksAfresh (removed (graph os ts) ns) starts → ListLeft 0 (replicate (length ms) 0) work ms′ work′
@@ -328,27 +301,17 @@ module _ {os ts ns starts : List ℕ} (bounds places ms work : List ℕ) {v : Ve
 
 -- ---- from the checks to what remains
 
-module _ {os ts ns starts bounds places ms work : List ℕ} (r : RemoveReady os ts ns starts bounds places ms work) {k : ℕ} {ws : List ℕ}
-    (g : Gathered ns (length ts) k ws) where
-  covers : Covers ws (length ts)
-  covers = record { long = g .long; few = r .few-references }
-
-  pub keep-ready : Covers ws (length ts) × Climbs os (length ts) × (length bounds ≡ length os)
-  keep-ready = (covers, offsets-climb ns (graph os ts) (r .formed), r .bounds-long)
-
-  pub targets-ready : Covers ws (length ts) × (length places ≡ span (absent ws) 0 (length ts))
-  targets-ready = (covers, r .places-long ∙ sym (absent-staying g (length ts)))
-
-  module _ {bounds′ places′ : List ℕ} (b : bounds′ ≡ counts ws os) (p : places′ ≡ chosen (absent ws) 0 ts) where
+module _ {os ts ns starts bounds places ms work : List ℕ} (r : RemoveReady os ts ns starts bounds places ms work) where
+  module _ {bounds′ places′ : List ℕ} (b : bounds′ ≡ map (staying ns) os) (p : places′ ≡ chosen (stays ns) 0 ts) where
     pub remains : graph bounds′ places′ ≡ removed (graph os ts) ns
-    remains = rw (b, p) (removed-is g (graph os ts))
+    remains = removed-is ns (graph os ts) (r .formed) b p
 
     pub afresh-ready : Formed (graph bounds′ places′) × (allBelow (length ms) starts ≡ true) × (length ms + 1 ≡ length bounds′)
         × (length work ≡ length ms) × (length work < 4294967296)
     afresh-ready = (
       rw remains (removed-formed ns (graph os ts) (r .formed)),
       r .starts-low,
-      omega (arith, r .marks-long, ap length b, counts-long ws os),
+      omega (arith, r .marks-long, ap length b, length-map os (staying ns)),
       r .work-long,
       omega (arith, r .work-long, r .marks-long, r .few),
     )

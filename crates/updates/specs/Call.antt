@@ -18,7 +18,6 @@ use Rattle.updates.specs.declared.Lengths.{Lengths}
 use Rattle.changes.specs.Pairs.{paired}
 use Rattle.changes.specs.Stores.{added, completed, distinct, removed, marksAfresh}
 use Rattle.changes.specs.Marking.{ListLeft}
-use Rattle.changes.specs.Taking.{Gathered}
 use Rattle.changes.specs.Promise.{AddPromise, RemovePromise}
 
 -- how many work words n objects take, in either call; 4: n outside its range
@@ -112,10 +111,9 @@ removeFault offsets targets ns starts l =
     (first (removeLengthFault (graph offsets targets) ns l)
     (storeFault offsets targets starts)))
 
--- what the checks find is the first fault; where there is none, the numbers are gathered
-pub record RemoveChecked (v : Verdict) (offsets targets ns starts : List ℕ) (l : Lengths) (ws : List ℕ) : Type 0 where
+-- what the checks find is the first fault
+pub record RemoveFinds (v : Verdict) (offsets targets ns starts : List ℕ) (l : Lengths) : Type 0 where
   pub number-is : numberOf v ≡ removeFault offsets targets ns starts l
-  pub gathered : removeFault offsets targets ns starts l ≡ 0 → Gathered ns (length targets) (distinct ns (length targets)) ws
 
 -- the promise of the call, for all inputs
 pub record Removes (offsets targets ns starts newOffsets newTargets marks work : List ℕ) (v : Verdict) (newOffsets′ newTargets′ marks′ work′ : List ℕ)

@@ -395,8 +395,9 @@ func HopWords(objects uint32) (uint64, error) {
 }
 
 // Hops gives for each object the least number of references from a start, NoHops where no chain leads to it. hops has
-// as many words as there are objects, and work as many as HopWords says; what they held before does not matter.
-// Offsets, targets and starts are checked as in Mark. Beside a refusal both are as they were.
+// as many words as there are objects, and work as many as HopWords says; what they held before does not matter, and
+// afterwards the two work words of an object without a count are as they were. Offsets, targets and starts are checked
+// as in Mark. Beside a refusal both are as they were.
 func Hops(g Graph, starts, hops, work []uint32) error {
 	offsetsAt, offsetsLen := u32s(g.Offsets)
 	targetsAt, targetsLen := u32s(g.Targets)
@@ -417,8 +418,8 @@ func UpdateWords(objects uint32) (uint64, error) {
 // Add adds the references from[i] -> to[i] to a store. r.Graph.Offsets has as many words as offsets, and
 // r.Graph.Targets as many as targets and from together: an object's new references stand behind its old ones, in list
 // order. An object that is newly live gets the mark NewlyLive, and a mark that is set keeps its value. The marks must
-// be closed under the old references (NotClosed), as those of a finished collection are. Beside a refusal all four are
-// as they were.
+// be closed under the old references (NotClosed), as those of a finished collection are. A work word that has changed
+// names an object newly live. Beside a refusal all four are as they were.
 func Add(g Graph, from, to []uint32, r Renewed) error {
 	offsetsAt, offsetsLen := u32s(g.Offsets)
 	targetsAt, targetsLen := u32s(g.Targets)
@@ -435,7 +436,8 @@ func Add(g Graph, from, to []uint32, r Renewed) error {
 
 // Remove takes the references with these numbers out of a store; a number that stands in the list twice counts once.
 // r.Graph.Targets has as many words as references remain. The marks are made afresh: 1 for a start, NewlyLive for what
-// else is reached, 0 for the rest; what they held before does not matter. Beside a refusal all four are as they were.
+// else is reached, 0 for the rest; what they held before does not matter. A work word that has changed names a marked
+// object. Beside a refusal all four are as they were.
 func Remove(g Graph, numbers, starts []uint32, r Renewed) error {
 	offsetsAt, offsetsLen := u32s(g.Offsets)
 	targetsAt, targetsLen := u32s(g.Targets)

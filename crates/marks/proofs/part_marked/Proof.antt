@@ -15,16 +15,16 @@ use Rattle.marks.proofs.part_marked.Statement.{statement}
 use Rattle.marks.proofs.part_marked.Tie as tie
 
 abbrev Inv-loop : tie.InvT-loop
-Inv-loop targets marks carried from to e₀ e =
-    (from ≤ e) × ((x : ℕ) → from ≤ x → x < e → bit carried x ≡ 0 → Marked marks (getD targets x 0))
+Inv-loop targets marks carried base from to e₀ e =
+    (from ≤ e) × ((x : ℕ) → from ≤ x → x < e → bit carried (x - base) ≡ 0 → Marked marks (getD targets x 0))
 
 abbrev μ-loop : tie.MeasureT-loop
-μ-loop targets marks carried from to e₀ e = to - e
+μ-loop targets marks carried base from to e₀ e = to - e
 
 shared-slice-read-target : tie.Need-shared-slice-read-target Inv-loop μ-loop
 shared-slice-read-target c =
     let l = c .before .before in
-    omega (arith, l .before .before .before .before .pre .1)
+    omega (arith, l .before .before .before .before .pre .0 .within)
 
 cast-if1 : tie.Need-cast-if1 Inv-loop μ-loop
 cast-if1 c =
@@ -38,20 +38,25 @@ shared-slice-read-if1 : tie.Need-shared-slice-read-if1 Inv-loop μ-loop
 shared-slice-read-if1 c =
     let l = c .before .before .before in
     let there = l .before .before .before .before .pre in
-    there .0 .inside (l .loop .e) (omega (arith, there .1))
+    there .0 .inside (l .loop .e) (omega (arith, there .0 .within))
+
+sub-contains : tie.Need-sub-contains Inv-loop μ-loop
+sub-contains c =
+    let l = c .before .before .before .before in
+    omega (arith, l .before .before .before .before .pre .1, l .loop .inv .0)
 
 contains-requires : tie.Need-contains-requires Inv-loop μ-loop
 contains-requires c κs =
     let l = c .before .before .before .before in
     let there = l .before .before .before .before .pre in
-    omega (arith, there .0 .room, there .1)
+    omega (arith, there .0 .room, there .1, l .loop .inv .0)
 
 returns : tie.Need-returns Inv-loop μ-loop
 returns c =
     let marks = c .before .before in
     let l = marks .before .before .before .before in
     let e = l .loop .e in
-    let clear = bit-clear _ e (eqb-false _ 1 (sym (c .before .contains .ensures) ∙ not-true _ (c .if2 .taken))) in
+    let clear = bit-clear _ (e - l .before .before .before .before .args .base) (eqb-false _ 1 (sym (c .before .contains .ensures) ∙ not-true _ (c .if2 .taken))) in
     decides-no (λ h. omega (arith, h e (l .loop .inv .0) (omega arith) clear, marks .if1 .taken))
 
 loop-again : tie.Need-loop-again Inv-loop μ-loop
@@ -66,7 +71,7 @@ loop-again c =
           let here : x ≡ e = omega arith in
           rw here
           (⊎-elim
-          (λ t. absurd (omega (arith, rw here at z, eqb-true (bit (l .before .before .before .before .args .carried .now) e) 1 (sym (t .1 .ensures) ∙ not-false _ (t .2 .left)))))
+          (λ t. absurd (omega (arith, rw here at z, eqb-true (bit (l .before .before .before .before .args .carried .now) (e - l .before .before .before .before .args .base)) 1 (sym (t .1 .ensures) ∙ not-false _ (t .2 .left)))))
           (λ t. omega (arith, t .left))
           (c .if1 .came)))),
     )
@@ -80,5 +85,5 @@ pub part-marked-spec : {M : Type 1} → statement M
 part-marked-spec =
     tie.close
     (tie.spec Inv-loop μ-loop (λ c. (omega arith, (λ x h q z. absurd (omega arith)))) (λ c. search needs)
-    (λ c. search needs) shared-slice-read-target cast-if1 mul-if1 shared-slice-read-if1 contains-requires returns
+    (λ c. search needs) shared-slice-read-target cast-if1 mul-if1 shared-slice-read-if1 sub-contains contains-requires returns
     (λ c. search needs) (λ c. search needs) loop-again returns-2)

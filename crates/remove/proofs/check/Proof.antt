@@ -34,14 +34,14 @@ returns-2 c = remove-5 (counts (c .before .before)) (so (c .before .is-below .en
 low : (c : tie.Else2) → let a = start (c .before .before) .args in allBelow (length (a .targets .now)) (a .numbers .now) ≡ true
 low c = so (c .before .is-below .ensures) (not-false _ (c .if2 .left))
 
-gather-requires : tie.Need-gather-requires
-gather-requires c κs = let b = c .before in let e = b .before .before in (start e .pre, low b, ranges e .2)
+count-named-requires : tie.Need-count-named-requires
+count-named-requires c κs = let e = c .before .before .before in (ranges e .2, start e .pre .0, start e .pre .1)
 
 sub-lengths-wrong : tie.Need-sub-lengths-wrong
 sub-lengths-wrong c = omega (arith, ranges (c .before .before .before .before .before .before))
 
 sub-lengths-wrong-2 : tie.Need-sub-lengths-wrong-2
-sub-lengths-wrong-2 c = omega (arith, c .before .before .gather .ensures .count-low)
+sub-lengths-wrong-2 c = omega (arith, c .before .before .count-named .ensures .1)
 
 lengths-wrong-requires : tie.Need-lengths-wrong-requires
 lengths-wrong-requires c κs = ranges (c .before .before .before .before .before .before) .1
@@ -50,17 +50,17 @@ returns-3 : tie.Need-returns-3
 returns-3 c =
     let g = c .before .before .before .before in
     let b = g .before .before in
-    remove-7 (counts (b .before .before)) (low b) (g .gather .ensures) (so (c .before .lengths-wrong .ensures) (c .if3 .taken))
+    remove-7 (counts (b .before .before)) (low b) (g .count-named .ensures .0) (so (c .before .lengths-wrong .ensures) (c .if3 .taken))
 
 returns-4 : tie.Need-returns-4
 returns-4 c =
     let l = c .before in
     let g = l .before .before .before .before in
     let b = g .before .before in
-    remove-by (counts (b .before .before)) (low b) (g .gather .ensures) (so (l .before .lengths-wrong .ensures) (l .if3 .left)) _ (c .check-store .ensures)
+    remove-by (counts (b .before .before)) (low b) (g .count-named .ensures .0) (so (l .before .lengths-wrong .ensures) (l .if3 .left)) _ (c .check-store .ensures)
 
 pub check-spec : {M : Type 1} → statement M
 check-spec =
     tie.close
-    (tie.spec (λ c κs. search needs) returns (λ c κs. search needs) returns-2 gather-requires sub-lengths-wrong sub-lengths-wrong-2
+    (tie.spec (λ c κs. search needs) returns (λ c κs. search needs) returns-2 count-named-requires sub-lengths-wrong sub-lengths-wrong-2
     lengths-wrong-requires (λ c. search needs) returns-3 (λ c κs. search needs) (λ c. search needs) returns-4)

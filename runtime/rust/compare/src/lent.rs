@@ -187,7 +187,9 @@ pub fn after(case: &Case, side: &dyn Side) -> After {
         }
         Call::Remove { update, numbers, starts } => {
             let none = vec![0; update.marks.len()];
-            after_update(case, update, &none, |lent| side.remove(&update.offsets, &update.targets, numbers, starts, lent))
+            after_update(case, update, &none, |lent| {
+                side.remove(&update.offsets, &update.targets, numbers, starts, lent)
+            })
         }
         Call::MarketHeader { text } => words_only(case, |result| side.market_header(text, result)),
         Call::Import { text, offsets, targets, sizes } => {

@@ -336,8 +336,9 @@ pub fn hop_words(objects: u32) -> Result<u64, Refusal> {
 }
 
 /// For each object the least number of references from a start, [`NO_HOPS`] where no chain leads to it. hops has as
-/// many words as there are objects, and work as many as [`hop_words`] says; what they held before does not matter.
-/// Offsets, targets and starts are checked as in [`mark`]. Beside a refusal both are as they were.
+/// many words as there are objects, and work as many as [`hop_words`] says; what they held before does not matter, and
+/// afterwards the two work words of an object without a count are as they were. Offsets, targets and starts are checked
+/// as in [`mark`]. Beside a refusal both are as they were.
 pub fn hops(
     offsets: &[u32],
     targets: &[u32],
@@ -358,8 +359,8 @@ pub fn update_words(objects: u32) -> Result<u64, Refusal> {
 /// Adds the references `from[i]` -> `to[i]` to a store. `new_offsets` has as many words as offsets, and `new_targets`
 /// as many as targets and from together: an object's new references stand behind its old ones, in list order. An object
 /// that is newly live gets the mark [`NEWLY_LIVE`], and a mark that is set keeps its value. The marks must be closed
-/// under the old references ([`Refusal::Marks`]), as those of a finished collection are. Beside a refusal all four are
-/// as they were.
+/// under the old references ([`Refusal::Marks`]), as those of a finished collection are. A work word that has changed
+/// names an object newly live. Beside a refusal all four are as they were.
 #[allow(clippy::too_many_arguments)]
 pub fn add(
     offsets: &[u32],
@@ -376,8 +377,8 @@ pub fn add(
 
 /// Takes the references with these numbers out of a store; a number that stands in the list twice counts once.
 /// `new_targets` has as many words as references remain. The marks are made afresh: 1 for a start, [`NEWLY_LIVE`] for
-/// what else is reached, 0 for the rest; what they held before does not matter. Beside a refusal all four are as they
-/// were.
+/// what else is reached, 0 for the rest; what they held before does not matter. A work word that has changed names a
+/// marked object. Beside a refusal all four are as they were.
 #[allow(clippy::too_many_arguments)]
 pub fn remove(
     offsets: &[u32],

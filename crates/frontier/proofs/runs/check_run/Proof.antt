@@ -1,15 +1,13 @@
--- `frontier::runs::check_run` meets its contract: a run of whose object, mark and bits nothing is wrong lies within.
+-- `frontier::runs::check_run` meets its contract: a run of whose object and mark nothing is wrong lies within.
 use borrow.Author.Needs.{needs}
 use native.Mathlib.Omega.{arith}
-use borrow.Author.Tests.{not-true, not-false}
-use Rattle.laws.proofs.Decides.{never}
 use Rattle.frontier.proofs.RunLaws.{run-wrong, run-limit, has-owner, run-after, run-marked, run-right}
 use Rattle.frontier.proofs.runs.check_run.Statement.{statement}
 use Rattle.frontier.proofs.runs.check_run.Tie as tie
 
 -- the entry, from where each test has held
 abbrev entry₁ : tie.Else1 → tie.Start
-entry₁ c = c .before .before .before .before .before
+entry₁ c = c .before .before .before .before
 
 abbrev entry₂ : tie.Else2 → tie.Start
 entry₂ c = entry₁ (c .before .before .before)
@@ -19,18 +17,18 @@ entry₃ c = entry₂ (c .before .before)
 
 returns : tie.Need-returns
 returns c =
-    let p = c .before .before .before .before .before .pre in
-    run-wrong (p .0) (p .1) (λ w o. omega (arith, run-limit (p .0) (p .1) w, c .if1 .taken))
+    let p = c .before .before .before .before .pre in
+    run-wrong (p .0) (p .1) (λ w. omega (arith, run-limit (p .0) (p .1) w, c .if1 .taken))
 
 object-of-requires : tie.Need-object-of-requires
 object-of-requires c κs =
-    let p = c .before .before .before .before .before .pre in
+    let p = entry₁ c .pre in
     has-owner (p .0) (p .1) (c .if1 .left)
 
 returns-2 : tie.Need-returns-2
 returns-2 c =
     let p = entry₁ (c .before .before .before) .pre in
-    run-wrong (p .0) (p .1) (λ w o. omega (arith, run-after (p .0) (p .1) (c .before .before .object-of .ensures) w, c .if2 .taken))
+    run-wrong (p .0) (p .1) (λ w. omega (arith, run-after (p .0) (p .1) (c .before .before .object-of .ensures) w, c .if2 .taken))
 
 shared-slice-read-if3 : tie.Need-shared-slice-read-if3
 shared-slice-read-if3 c =
@@ -39,35 +37,21 @@ shared-slice-read-if3 c =
 returns-3 : tie.Need-returns-3
 returns-3 c =
     let p = entry₂ (c .before .before) .pre in
-    run-wrong (p .0) (p .1) (λ w o. omega (arith, run-marked (p .0) (p .1) (c .before .before .before .before .object-of .ensures) w, c .if3 .taken))
+    run-wrong (p .0) (p .1) (λ w. omega (arith, run-marked (p .0) (p .1) (c .before .before .before .before .object-of .ensures) w, c .if3 .taken))
 
-carry-requires : tie.Need-carry-requires
-carry-requires c κs =
-    let p = entry₃ (c .before) .pre in
-    (omega (arith, p .1), omega (arith, p .0 .room, c .before .before .before .before .before .before .if1 .left))
+is-whole-requires : tie.Need-is-whole-requires
+is-whole-requires c κs = c .before .before .before .before .object-of .ensures .object
 
 returns-4 : tie.Need-returns-4
 returns-4 c =
-    let p = entry₃ (c .before .before .before .before .before) .pre in
-    run-wrong (p .0) (p .1) (λ w o. never (c .before .before .before .carry .ensures .known o) (not-true _ (c .if4 .taken)))
-
-is-whole-requires : tie.Need-is-whole-requires
-is-whole-requires c κs =
-    let marked = c .before .before .before .before .before in
-    marked .before .before .before .before .object-of .ensures .object
-
-returns-5 : tie.Need-returns-5
-returns-5 c =
-    let marked = c .before .before .before .before .before .before in
+    let marked = c .before in
     let found = marked .before .before .before .before in
     let p = entry₃ marked .pre in
-    run-right (p .0) (p .1) (found .object-of .ensures) (marked .before .before .if2 .left) (omega (arith, marked .if3 .left))
-    (c .before .before .before .before .carry .ensures) (not-false _ (c .before .if4 .left)) (c .is-whole .ensures)
+    run-right (p .0) (p .1) (found .object-of .ensures) (marked .before .before .if2 .left) (omega (arith, marked .if3 .left)) (c .is-whole .ensures)
 
 pub check-run-spec : {M : Type 1} → statement M
 check-run-spec =
     tie.close
     (tie.spec returns object-of-requires (λ c. omega (arith, c .object-of .ensures .object)) (λ c. search needs)
     (λ c. c .before .object-of .ensures .object) returns-2 (λ c. search needs) shared-slice-read-if3 returns-3
-    carry-requires (λ c. c .before .before .before .carry .kept .0) returns-4 is-whole-requires
-    (λ c. c .before .before .before .before .carry .kept .0) returns-5)
+    is-whole-requires returns-4)

@@ -1,0 +1,270 @@
+-- The references of a window taken into the set, run by run and worker by worker; and the windows laid end to end.
+use mathlib.Core.Path.{_≡_, refl, sym, ap, _∙_}
+use mathlib.Core.Bool.{Bool, true, false}
+use mathlib.Core.List.{List, [], _∷_}
+use mathlib.Core.Logic.{by-cases}
+use Prim.Native.Nat.{ℕ, suc, _+_, _-_, _*_, _≤_, _<_, min, max}
+use native.Mathlib.Decide.{decLt}
+use native.Mathlib.Omega.{arith}
+use lib.ListN.{length, getD, drop, replicate, length-replicate}
+use borrow.Author.Tests.{lt-ltb}
+use Rattle.laws.specs.Decides.{Decides}
+use Rattle.laws.specs.Span.{span}
+use Rattle.laws.specs.Sum.{sum, hit}
+use Rattle.laws.proofs.Decides.{never, decides-same}
+use Rattle.laws.proofs.Passing.{span-after, span-next, span-so-far}
+use Rattle.laws.proofs.Span.{span-hit-in, span-hit-one}
+use Rattle.slices.specs.Bits.{bit, Inserts, word-bits}
+use Rattle.slices.proofs.BitWords.{bit-low, bit-none, hit-shift}
+use Rattle.graph.specs.Graph.{Graph, objects, references}
+use Rattle.graph.proofs.OverMarked.{offsets-rise}
+use Rattle.machine.specs.Sound.{runsSum}
+use Rattle.theorems.proofs.Runs.{runs-append}
+use Rattle.saved.specs.Layout.{workerWord, stretchIn, runsIn}
+use Rattle.worker.specs.Registers.{status-given}
+use Rattle.marks.specs.Marks.{AllMarked, PartsThere}
+use Rattle.frontier.specs.Runs.{HasOwner, Owns, runOf, runsAt, timesWords, LoadsThere}
+use Rattle.frontier.specs.Windows.{Once, Takes, Carried, RunsCarried, AllThere, AllCarried, WindowSound}
+use Rattle.frontier.proofs.RunLaws.{marking-of, has-owner}
+use Rattle.frontier.proofs.StretchLaws.{runs-one, runs-all}
+
+-- ---- `carry`
+
+-- the references of the window from one up to e are in the set, besides those that were
+pub record CarriedAt (base end : ℕ) (bs : List ℕ) (from to e : ℕ) (bs′ : List ℕ) : Type 0 where
+  pub low : max base from ≤ e
+  pub high : e ≤ max (max base from) (min end to)
+  pub long : length bs′ ≡ length bs
+  pub adds : (x : ℕ) → base ≤ x → bit bs′ (x - base) ≡ bit bs (x - base) + span (hit x) (max base from) (e - max base from)
+
+pub carried-start : {base end : ℕ} {bs : List ℕ} {from to e : ℕ} → e ≡ max base from → CarriedAt base end bs from to e bs
+unfolding span
+carried-start {base} {from = from} {e = e} same =
+    let none : e - max base from ≡ 0 = omega arith in
+    record { low = omega arith; high = omega arith; long = refl; adds = λ x h. rw none (omega arith) }
+
+-- a number counted in a part of the window is counted in the whole
+part-counts : (x base end from to : ℕ) → base ≤ x → x < end → span (hit x) (max base from) (min end to - max base from) ≡ span (hit x) from (to - from)
+part-counts x base end from to h q =
+    by-cases (decLt 0 (span (hit x) from (to - from)))
+    (λ (p : 0 < span (hit x) from (to - from)).
+    let i = span-hit-in x from (to - from) p in
+    omega (
+      arith,
+      span-hit-one x from (to - from) (i .0) (i .1),
+      span-hit-one x (max base from) (min end to - max base from) (omega (arith, i .0)) (omega (arith, i .1)),
+    ))
+    (λ (p : ¬ (0 < span (hit x) from (to - from))).
+    by-cases (decLt 0 (span (hit x) (max base from) (min end to - max base from)))
+    (λ (r : 0 < span (hit x) (max base from) (min end to - max base from)).
+    let i = span-hit-in x (max base from) (min end to - max base from) r in
+    omega (arith, span-hit-one x from (to - from) (omega (arith, i .0)) (omega (arith, i .1))))
+    (λ (r : ¬ (0 < span (hit x) (max base from) (min end to - max base from))). omega arith))
+
+module _ {base end : ℕ} {bs : List ℕ} {from to e : ℕ} {bs′ : List ℕ} (x : CarriedAt base end bs from to e bs′) where
+  module _ (h : e < min end to) where
+    pub carried-next : {r : Bool} {bs″ : List ℕ} → length bs″ ≡ length bs′ → Inserts bs′ (e - base) r bs″ → r ≡ true
+        → CarriedAt base end bs from to (e + 1) bs″
+    carried-next l i t =
+        let more : e + 1 - max base from ≡ e - max base from + 1 = omega (arith, x .low) in
+        let here : max base from + (e - max base from) ≡ e = omega (arith, x .low) in
+        record {
+          low = omega (arith, x .low);
+          high = omega arith;
+          long = l ∙ x .long;
+          adds = λ y q.
+              rw (more, span-after (hit y) (max base from) (e - max base from), here)
+              (omega (arith, i .fresh t (y - base), x .adds y q, hit-shift y e base q (omega (arith, x .low))));
+        }
+
+    -- e would be in it twice
+    pub carried-twice : bit bs′ (e - base) ≡ 1 → Once base end bs (λ (y : ℕ). span (hit y) from (to - from)) → ⊥
+    carried-twice one once =
+        by-cases (decLt 0 (span (hit e) (max base from) (e - max base from)))
+        (λ (p : 0 < span (hit e) (max base from) (e - max base from)). omega (arith, span-hit-in e (max base from) (e - max base from) p))
+        (λ (p : ¬ (0 < span (hit e) (max base from) (e - max base from))).
+        omega (arith, once e (omega (arith, x .low)) (omega arith), span-hit-one e from (to - from) (omega (arith, x .low)) (omega (arith, x .low)), x .adds e (omega (arith, x .low)), one))
+
+  pub carried-end : min end to ≤ e → Carried base end bs from to true bs′
+  carried-end h =
+      let same : e - max base from ≡ min end to - max base from = omega (arith, x .high, x .low) in
+      record { adds = λ z y q l. x .adds y q ∙ rw (same, part-counts y base end from to q l); known = λ q. refl }
+
+pub takes-not : {base end : ℕ} {bs : List ℕ} {f : ℕ → ℕ} {bs′ : List ℕ} → (Once base end bs f → ⊥) → Takes base end bs f false bs′
+takes-not n = record { adds = λ z. never z refl; known = λ h. absurd (n h) }
+
+-- ---- `carry_runs`
+
+-- what is left of the runs makes up the whole
+pub record TakenAt (base end : ℕ) (bs st : List ℕ) (i : ℕ) (bs′ : List ℕ) : Type 0 where
+  pub long : length bs′ ≡ length bs
+  pub left : (e : ℕ) → base ≤ e → e < end
+      → bit bs′ (e - base) + runsSum (hit e) (runsIn (drop (2 * i) st)) ≡ bit bs (e - base) + runsSum (hit e) (runsIn st)
+
+pub taken-start : {base end : ℕ} {bs st : List ℕ} → TakenAt base end bs st 0 bs
+taken-start = record { long = refl; left = λ e h q. refl }
+
+module _ {base end : ℕ} {bs st : List ℕ} {i : ℕ} {bs′ : List ℕ} (x : TakenAt base end bs st i bs′) where
+  -- no pair is left
+  pub taken-end : runsIn (drop (2 * i) st) ≡ [] → RunsCarried base end bs st true bs′
+  unfolding runsSum sum
+  taken-end none = record { adds = λ z e h q. omega (arith, rw none at (x .left e h q)); known = λ q. refl }
+
+  module _ (h : 2 * i + 1 < length st) (pair : getD st (2 * i) 0 < getD st (2 * i + 1) 0) where
+    one-less : (e : ℕ) → runsSum (hit e) (runsIn (drop (2 * i) st))
+        ≡ runsSum (hit e) (runsIn (drop (2 * (i + 1)) st)) + span (hit e) (getD st (2 * i) 0) (getD st (2 * i + 1) 0 - getD st (2 * i) 0)
+    unfolding runsSum sum
+    one-less e =
+        let size : suc (getD st (2 * i + 1) 0 - suc (getD st (2 * i) 0)) ≡ getD st (2 * i + 1) 0 - getD st (2 * i) 0 = omega arith in
+        let r = runOf (getD st (2 * i) 0) (getD st (2 * i + 1) 0) in
+        rw (runs-one st i h pair, ← size) (omega (arith, runs-append (hit e) (runsIn (drop (2 * (i + 1)) st)) (r ∷ [])))
+
+    module _ {r : Bool} {bs″ : List ℕ} (found : Carried base end bs′ (getD st (2 * i) 0) (getD st (2 * i + 1) 0) r bs″) where
+      pub taken-next : r ≡ true → length bs″ ≡ length bs′ → TakenAt base end bs st (i + 1) bs″
+      taken-next t l =
+          record { long = l ∙ x .long; left = λ e h q. omega (arith, x .left e h q, found .adds t e h q, one-less e) }
+
+      -- one of the run's references would be in the set twice
+      pub taken-twice : r ≡ false → Once base end bs (λ (e : ℕ). runsSum (hit e) (runsIn st)) → ⊥
+      taken-twice f once = never (found .known (λ e h q. omega (arith, x .left e h q, once e h q, one-less e))) f
+
+-- ---- `carry_all`
+
+-- the references of the workers passed are in the set
+pub record AllAt (base end n W : ℕ) (w bs : List ℕ) (b : ℕ) (bs′ : List ℕ) : Type 0 where
+  pub high : b ≤ W
+  pub long : length bs′ ≡ length bs
+  pub times : (e : ℕ) → base ≤ e → e < end → bit bs′ (e - base) ≡ timesWords n W w e b
+
+pub all-start : {base end n W : ℕ} {w bs : List ℕ} → ((i : ℕ) → bit bs i ≡ 0) → AllAt base end n W w bs 0 bs
+unfolding span
+all-start {base} none = record { high = omega arith; long = refl; times = λ e h q. none (e - base) }
+
+module _ {base end n W : ℕ} {w bs : List ℕ} {b : ℕ} {bs′ : List ℕ} (x : AllAt base end n W w bs b bs′) where
+  pub all-end : W ≤ b → AllCarried base end n W w true bs′
+  all-end h =
+      let same : b ≡ W = omega (arith, x .high) in
+      record { times = λ z e p q. x .times e p q ∙ ap (timesWords n W w e) same; known = λ q. refl }
+
+  module _ (h : b < W) where
+    one-more : (e : ℕ) → timesWords n W w e (b + 1) ≡ timesWords n W w e b + runsSum (hit e) (runsAt n W w b)
+    one-more e = span-next (λ (a : ℕ). runsSum (hit e) (runsAt n W w a)) b
+
+    -- a worker that carries nothing
+    pub all-idle : workerWord w b 0 < status-given → AllAt base end n W w bs (b + 1) bs′
+    unfolding runsSum sum
+    all-idle s =
+        let none : runsAt n W w b ≡ [] = rw (lt-ltb (workerWord w b 0) 4 s) in
+        record {
+          high = omega arith;
+          long = x .long;
+          times = λ e p q. omega (arith, x .times e p q, one-more e, ap (runsSum (hit e)) none);
+        }
+
+    module _ (s : status-given ≤ workerWord w b 0) {st : List ℕ} (is : st ≡ stretchIn n W w b) {r : Bool} {bs″ : List ℕ}
+        (found : RunsCarried base end bs′ st r bs″) where
+      its-runs : runsIn st ≡ runsAt n W w b
+      its-runs = ap runsIn is ∙ sym (runs-all (workerWord w b 0) (stretchIn n W w b) s)
+
+      pub all-next : r ≡ true → length bs″ ≡ length bs′ → AllAt base end n W w bs (b + 1) bs″
+      all-next t l =
+          record {
+            high = omega arith;
+            long = l ∙ x .long;
+            times = λ e p q. omega (arith, x .times e p q, found .adds t e p q, one-more e, ap (runsSum (hit e)) its-runs);
+          }
+
+      pub all-twice : r ≡ false → ((e : ℕ) → base ≤ e → e < end → timesWords n W w e W ≤ 1) → ⊥
+      all-twice f once =
+          never
+          (found .known
+          (λ e p q.
+          omega (
+            arith,
+            x .times e p q,
+            once e p q,
+            one-more e,
+            ap (runsSum (hit e)) its-runs,
+            span-so-far (λ (a : ℕ). runsSum (hit e) (runsAt n W w a)) 0 (b + 1) W (omega arith),
+          )))
+          f
+
+pub all-stop : {base end n W : ℕ} {w bs′ : List ℕ} → (((e : ℕ) → base ≤ e → e < end → timesWords n W w e W ≤ 1) → ⊥)
+    → AllCarried base end n W w false bs′
+all-stop n = record { times = λ z. never z refl; known = λ h. absurd (n h) }
+
+-- ---- `check_window`
+
+module _ {G : Graph} {ms : List ℕ} {W : ℕ} {w : List ℕ} (there : LoadsThere G ms W w) {from to : ℕ} (h : from < to) (inside : to ≤ references G) where
+  pub first-owner : HasOwner (G .offsets) from
+  first-owner = has-owner (marking-of there) h inside
+
+  pub last-owner : {e : ℕ} → e ≡ to - 1 → HasOwner (G .offsets) e
+  last-owner {e} same = has-owner {from = e} {to = to} (marking-of there) (omega arith) inside
+
+  -- a set that is cleared
+  pub cleared-there : (bs : List ℕ) {n : ℕ} → n ≡ objects G → to ≤ from + word-bits * length bs → AllThere from to (replicate (length bs) 0) n W w
+  cleared-there bs e room =
+      record {
+        room = rw length-replicate room;
+        none = bit-none (length bs);
+        objects-limit = omega (arith, there .objects-limit);
+        workers-limit = there .workers-limit;
+        long = rw e (there .long);
+      }
+
+  pub parts-there : {bs : List ℕ} {u v k : ℕ} → to ≤ from + word-bits * length bs → Owns (G .offsets) from u → Owns (G .offsets) k v → k ≡ to - 1
+      → PartsThere (G .offsets) (G .targets) ms bs (record { from = from; to = to; first = u; last = v + 1 })
+  parts-there {u = u} {v} room a b same =
+      let marks = there .marks-length in
+      record {
+        targets = record { inside = λ e q. omega (arith, there .formed .inside e q, marks); within = inside; room = room };
+        long = omega (arith, marks, there .some);
+        objects = omega (arith, b .object, marks);
+        leaves = λ x e l p q r s. (
+          by-cases (decLt x u)
+              (λ (t : x < u).
+              let d : suc x + (u - suc x) ≡ u = omega arith in
+              absurd (omega (arith, a .from, rw d at (offsets-rise G (there .formed) (suc x) (u - suc x) (omega (arith, a .object))))))
+              (λ (t : ¬ (x < u)). omega arith),
+          by-cases (decLt v x)
+              (λ (t : v < x).
+              let d : v + 1 + (x - (v + 1)) ≡ x = omega arith in
+              absurd (omega (arith, b .below, rw d at (offsets-rise G (there .formed) (v + 1) (x - (v + 1)) (omega (arith, marks))))))
+              (λ (t : ¬ (v < x)). omega arith),
+        );
+      }
+
+  module _ {bs : List ℕ} {r : Bool} (found : AllCarried from to (objects G) W w r bs) (done : r ≡ true) where
+    pub window-decided : {t : Bool} → Decides t (AllMarked (G .offsets) (G .targets) ms bs from to) → Decides t (WindowSound G ms W w from to)
+    window-decided d =
+        decides-same d
+        (λ all.
+        record {
+          once = λ e p q. omega (arith, found .times done e p q, bit-low bs (e - from));
+          targets = λ v l m e a b p q z. all v l m e (omega arith) (omega arith) (found .times done e p q ∙ z);
+        })
+        (λ s v l m e a b z. s .targets v l m e (omega arith) (omega arith) (omega arith) (omega arith) (sym (found .times done e (omega arith) (omega arith)) ∙ z))
+
+pub window-twice : {G : Graph} {ms : List ℕ} {W : ℕ} {w : List ℕ} {from to : ℕ} {r : Bool} {bs : List ℕ} → AllCarried from to (objects G) W w r bs → r ≡ false
+    → WindowSound G ms W w from to → ⊥
+window-twice found e s = never (found .known (s .once)) e
+
+-- ---- `check_windows`
+
+pub windows-start : {G : Graph} {ms : List ℕ} {W : ℕ} {w : List ℕ} → WindowSound G ms W w 0 0
+windows-start = record { once = λ e p q. absurd (omega arith); targets = λ v l m e a b p q. absurd (omega arith) }
+
+module _ {G : Graph} {ms : List ℕ} {W : ℕ} {w : List ℕ} {from to : ℕ} where
+  pub windows-next : WindowSound G ms W w 0 from → WindowSound G ms W w from to → WindowSound G ms W w 0 to
+  windows-next x y =
+      record {
+        once = λ e p q. by-cases (decLt e from) (λ (l : e < from). x .once e p l) (λ (l : ¬ (e < from)). y .once e (omega arith) q);
+        targets = λ v h m e a b p q.
+            by-cases (decLt e from) (λ (l : e < from). x .targets v h m e a b p l) (λ (l : ¬ (e < from)). y .targets v h m e a b (omega arith) q);
+      }
+
+  -- a part of what is sound
+  pub windows-part : {m : ℕ} → to ≤ m → WindowSound G ms W w 0 m → WindowSound G ms W w from to
+  windows-part l s =
+      record { once = λ e p q. s .once e (omega arith) (omega arith); targets = λ v h m e a b p q. s .targets v h m e a b (omega arith) (omega arith) }
