@@ -52,6 +52,7 @@ extern "C" {
 #define KULLNEYRA_NO_SEED 16 /* the first word of a seed is 0 */
 #define KULLNEYRA_NOT_CLOSED 17 /* a marked object has a reference to an unmarked one */
 #define KULLNEYRA_TEXT 18 /* a text that is no Matrix Market file of a graph */
+#define KULLNEYRA_NAMES 19 /* names that do not ascend, are not lower-case hexadecimal, or have no bytes */
 
 /* What a number says in words, for messages; a number that no call answers has words, too. */
 static inline const char *kullneyra_refusal_text(uint32_t number) {
@@ -94,6 +95,8 @@ static inline const char *kullneyra_refusal_text(uint32_t number) {
         return "a marked object has a reference to an unmarked one";
     case KULLNEYRA_TEXT:
         return "a text that is no Matrix Market file of a graph";
+    case KULLNEYRA_NAMES:
+        return "names that do not ascend, or are not lower-case hexadecimal";
     default:
         return "a number newer than this header";
     }
@@ -225,6 +228,7 @@ struct kullneyra_drawn {
 #define KULLNEYRA_HOP_WORDS 1 /* hop_words */
 #define KULLNEYRA_UPDATE_WORDS 1 /* update_words */
 #define KULLNEYRA_EXPORT_WORDS 1 /* export_length */
+#define KULLNEYRA_SCAN_WORDS 1 /* scan_length */
 
 /* Reads only the catalogue's header record. */
 uint32_t kullneyra_header(const uint8_t *bytes, size_t bytes_len, uint32_t *result, size_t result_len);
@@ -349,6 +353,23 @@ uint32_t kullneyra_export_length(const uint32_t *offsets, size_t offsets_len, co
  * There is no zero byte behind it. Beside the number there is no answer. */
 uint32_t kullneyra_export(const uint32_t *offsets, size_t offsets_len, const uint32_t *targets, size_t targets_len,
                           uint8_t *out, size_t out_len);
+
+/* How many mentions there are in texts: places where the bytes of a name stand, whatever stands around them. The
+ * names are `width` lower-case hexadecimal digits each, one behind the other, ascending and distinct; named[k] is
+ * the object that name k names. The texts stand one behind the other too: text i ends where ends[i] says, and
+ * owners[i] is the object that it belongs to. */
+uint32_t kullneyra_scan_length(uint32_t objects, uint32_t width, const uint8_t *names, size_t names_len,
+                               const uint32_t *named, size_t named_len, const uint8_t *texts, size_t texts_len,
+                               const uint64_t *ends, size_t ends_len, const uint32_t *owners, size_t owners_len,
+                               uint64_t *result, size_t result_len);
+
+/* Writes each mention as a pair from[i] -> to[i], by text and then by place: the owner of the text, and the object
+ * whose name stands there. Both lists have exactly as many words as kullneyra_scan_length says. kullneyra_add takes
+ * them as references. Beside the number there is no answer. */
+uint32_t kullneyra_scan(uint32_t objects, uint32_t width, const uint8_t *names, size_t names_len, const uint32_t *named,
+                        size_t named_len, const uint8_t *texts, size_t texts_len, const uint64_t *ends, size_t ends_len,
+                        const uint32_t *owners, size_t owners_len, uint32_t *from, size_t from_len, uint32_t *to,
+                        size_t to_len);
 
 /* The same calls with a struct for the answer, which is written in every case: what the call answers where the
  * number is 0, and zeros beside a fault. Where a range that a call writes overlaps another one, the number is
@@ -703,6 +724,45 @@ static inline uint32_t kullneyra_export_into(const uint32_t *offsets, size_t off
     if (kullneyra_shared(ranges, 1, 3, NULL, 0))
         return KULLNEYRA_BUFFER;
     return kullneyra_export(offsets, offsets_len, targets, targets_len, out, out_len);
+}
+
+static inline uint32_t kullneyra_scan_length_into(uint32_t objects, uint32_t width, const uint8_t *names,
+                                                  size_t names_len, const uint32_t *named, size_t named_len,
+                                                  const uint8_t *texts, size_t texts_len, const uint64_t *ends,
+                                                  size_t ends_len, const uint32_t *owners, size_t owners_len,
+                                                  uint64_t *answer) {
+    const struct kullneyra_range ranges[] = {
+        kullneyra_range(names, names_len, sizeof *names),
+        kullneyra_range(named, named_len, sizeof *named),
+        kullneyra_range(texts, texts_len, sizeof *texts),
+        kullneyra_range(ends, ends_len, sizeof *ends),
+        kullneyra_range(owners, owners_len, sizeof *owners),
+    };
+    if (kullneyra_shared(ranges, 0, 5, answer, sizeof *answer))
+        return KULLNEYRA_BUFFER;
+    *answer = 0;
+    return kullneyra_scan_length(objects, width, names, names_len, named, named_len, texts, texts_len, ends, ends_len,
+                                 owners, owners_len, answer, KULLNEYRA_SCAN_WORDS);
+}
+
+static inline uint32_t kullneyra_scan_into(uint32_t objects, uint32_t width, const uint8_t *names, size_t names_len,
+                                           const uint32_t *named, size_t named_len, const uint8_t *texts,
+                                           size_t texts_len, const uint64_t *ends, size_t ends_len,
+                                           const uint32_t *owners, size_t owners_len, uint32_t *from, size_t from_len,
+                                           uint32_t *to, size_t to_len) {
+    const struct kullneyra_range ranges[] = {
+        kullneyra_range(from, from_len, sizeof *from),
+        kullneyra_range(to, to_len, sizeof *to),
+        kullneyra_range(names, names_len, sizeof *names),
+        kullneyra_range(named, named_len, sizeof *named),
+        kullneyra_range(texts, texts_len, sizeof *texts),
+        kullneyra_range(ends, ends_len, sizeof *ends),
+        kullneyra_range(owners, owners_len, sizeof *owners),
+    };
+    if (kullneyra_shared(ranges, 2, 7, NULL, 0))
+        return KULLNEYRA_BUFFER;
+    return kullneyra_scan(objects, width, names, names_len, named, named_len, texts, texts_len, ends, ends_len, owners,
+                          owners_len, from, from_len, to, to_len);
 }
 
 /* Up to here. */

@@ -390,15 +390,15 @@ class Numbers(Boundary):
         self.assert_fault("[records.tally] has 4 fields, and desk::places::TALLY is another number")
 
     def test_a_new_refusal(self):
-        self.edit(REFUSALS, "        Refusal::Text => 18,\n", "        Refusal::Text => 18,\n        Refusal::Late => 19,\n")
+        self.edit(REFUSALS, "        Refusal::Names => 19,\n", "        Refusal::Names => 19,\n        Refusal::Late => 20,\n")
         self.assert_fault("crates/refusal/src/lib.rt has the cause Late, which has no row in [refusals]")
         self.edit(TABLE, "\n# The constants:", '\n[refusals.Late]\nc = "LATE"\ngo = "TooLate"\nwords = "too late"\n\n# The constants:')
         self.assertEqual(self.differing(), [HEADER, NUMBERS, GO_NUMBERS])
         self.assertEqual(self.run_tool(), (0, ""))
         for path, parts in {
-            HEADER: ("#define KULLNEYRA_LATE 19 /* too late */", 'case KULLNEYRA_LATE:\n        return "too late";'),
-            NUMBERS: ("    /// 19: too late.\n    Late,", "const NAMED: [Refusal; 17]", 'Refusal::Late => (19, "too late"),'),
-            GO_NUMBERS: ("TooLate    Refusal = 19 // too late", 'TooLate:    "too late",'),
+            HEADER: ("#define KULLNEYRA_LATE 20 /* too late */", 'case KULLNEYRA_LATE:\n        return "too late";'),
+            NUMBERS: ("    /// 20: too late.\n    Late,", "const NAMED: [Refusal; 18]", 'Refusal::Late => (20, "too late"),'),
+            GO_NUMBERS: ("TooLate    Refusal = 20 // too late", 'TooLate:    "too late",'),
         }.items():
             for part in parts:
                 self.assertTrue(part in self.text(path), part)
@@ -406,10 +406,10 @@ class Numbers(Boundary):
     def test_refusals_that_do_not_fit(self):
         kept, table = self.text(REFUSALS), self.text(TABLE)
         for old, new, told in (
-            ("Refusal::Text => 18,", "Refusal::Text => 19,", "the numbers are not 1 to 18"),
-            ("Refusal::Text => 18,", "Refusal::Text => 17,", "the numbers are not 1 to 18"),
+            ("Refusal::Names => 19,", "Refusal::Names => 20,", "the numbers are not 1 to 19"),
+            ("Refusal::Names => 19,", "Refusal::Names => 18,", "the numbers are not 1 to 19"),
             ("Refusal::Text => 18,", "Refusal::Text => 9 + 9,", "not understood: Refusal::Text => 9 + 9,"),
-            ("        Refusal::Text => 18,\n", "", "[refusals.Text]: crates/refusal/src/lib.rt has no cause Text"),
+            ("        Refusal::Names => 19,\n", "", "[refusals.Names]: crates/refusal/src/lib.rt has no cause Names"),
             ("pub fn number_of", "pub fn numbers_of", "no function number_of"),
         ):
             self.edit(REFUSALS, old, new)
@@ -461,7 +461,7 @@ class Table(Boundary):
             ('moved = "turns', 'gone = "turns', "does not say what the count moved is"),
             ("[calls.sweep]", "[calls.mark]", TABLE),
             ("\n[names]\n", "\n[nouns]\n", "is not"),
-            ("refusals = [4, 6, 7]", "refusals = [4, 6, 7, 19]", "[calls.sweep]: crates/refusal/src/lib.rt has no refusal 19"),
+            ("refusals = [4, 6, 7]", "refusals = [4, 6, 7, 20]", "[calls.sweep]: crates/refusal/src/lib.rt has no refusal 20"),
             (', go = "refusal" }', " }", "[names]: fault is said in c, rust and go"),
             ("the fields of {tally}", "the fields of {part}", "{part} has no name in rust"),
             ("[[groups.compare]]", "[[groups.compared]]", "[groups]: rust, go and compare"),

@@ -46,6 +46,7 @@ CITED = {
     "kullneyra_market_header": ("marketAnswer", "headerWords"),
     "kullneyra_import": ("Imports",),
     "kullneyra_export": ("exportFault", "bytesAfter", "Returns"),
+    "kullneyra_scan": ("ScansIn",),
 }
 
 SKIPPED = re.compile(r"""//[^\n]*|b'(?:\\.|[^\\'])'|"(?:\\.|[^\\"])*\"""")

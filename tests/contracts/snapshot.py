@@ -23,6 +23,8 @@ HEAD = (
 DEFINITIONS: dict[str, Optional[tuple[str, ...]]] = {
     "kullneyra/specs/Promise.antt": None,
     "kullneyra/specs/Calls.antt": None,
+    "kullneyra/specs/Blobs.antt": None,
+    "names/specs/Occurs.antt": None,
     "theorems/specs/Collected.antt": ("Collected",),
     "machine/specs/Demand2.antt": ("FinishedMarks", "LiveMarks", "Demand2"),
     "machine/specs/Demand3.antt": ("movedBound", "stretchBound", "fewestStretches", "handedBound", "Cut", "Demand3"),

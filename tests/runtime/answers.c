@@ -341,6 +341,25 @@ int main(void) {
     expect("owner, worker 0", 0, (uint64_t)kullneyra_owner(1, 0));
     expect("owner, worker 15", 15, (uint64_t)kullneyra_owner(16, 0));
     expect("owner, a change", (uint64_t)KULLNEYRA_BY_CHANGE, (uint64_t)kullneyra_owner(KULLNEYRA_NEWLY_LIVE, 0));
+
+    /* the names 0a, aa and ab of the objects 2, 0 and 1 in the texts 0aaa of object 1 and b of object 0 */
+    const uint8_t *names = (const uint8_t *)"0aaaab", *texts = (const uint8_t *)"0aaab";
+    const uint32_t named[3] = {2, 0, 1}, owners[2] = {1, 0};
+    const uint64_t ends[2] = {4, 5};
+    uint64_t scan_length;
+    uint32_t from[3] = {7, 7, 7}, to[3] = {7, 7, 7};
+    expect("scan_length, width 0", KULLNEYRA_NAMES, kullneyra_scan_length_into(3, 0, NULL, 0, NULL, 0, NULL, 0, NULL, 0, NULL, 0, &scan_length));
+    expect("scan_length beside a fault", 0, scan_length);
+    expect("scan_length", KULLNEYRA_OK, kullneyra_scan_length_into(3, 2, names, 6, named, 3, texts, 5, ends, 2, owners, 2, &scan_length));
+    expect("scan_length, mentions", 3, scan_length);
+    expect("scan, short list", KULLNEYRA_BUFFER, kullneyra_scan_into(3, 2, names, 6, named, 3, texts, 5, ends, 2, owners, 2, from, 3, to, 2));
+    expect("scan, ends", KULLNEYRA_GRAPH, kullneyra_scan_into(3, 2, names, 6, named, 3, texts, 4, ends, 2, owners, 2, from, 3, to, 3));
+    expect("scan, no object", KULLNEYRA_OBJECT, kullneyra_scan_into(2, 2, names, 6, named, 3, texts, 5, ends, 2, owners, 2, from, 3, to, 3));
+    expect("scan, unchanged", 7, from[0]);
+    expect("scan", KULLNEYRA_OK, kullneyra_scan_into(3, 2, names, 6, named, 3, texts, 5, ends, 2, owners, 2, from, 3, to, 3));
+    expect("scan, owner", 1, from[2]);
+    expect("scan, mentioned", 2, to[0]);
+    expect("scan, mentioned at the last place", 0, to[2]);
     refusals_in_words();
     return failed;
 }

@@ -71,7 +71,13 @@ static uint32_t import(unsigned char *at[]) {
 static uint32_t export_length(unsigned char *at[]) { return kullneyra_export_length_into(OLD(0), (uint64_t *)at[2]); }
 static uint32_t export_(unsigned char *at[]) { return kullneyra_export_into(OLD(0), BYTES(2, BYTES)); }
 
+#define SCANNED BYTES(0, 4), WORDS(1, 2), BYTES(2, 8), LONGS(3, 2), WORDS(4, 2)
+static uint32_t scan_length(unsigned char *at[]) { return kullneyra_scan_length_into(1, 2, SCANNED, (uint64_t *)at[5]); }
+static uint32_t scan(unsigned char *at[]) { return kullneyra_scan_into(1, 2, SCANNED, WORDS(5, 3), WORDS(6, 3)); }
+
 #define MARKING GRAPH, READ(uint32_t, 1), READ(uint8_t, 2), WRITTEN(uint8_t, 1), WRITTEN(uint32_t, WORK), WRITTEN(uint64_t, 4)
+
+#define NAMES READ(uint8_t, 4), READ(uint32_t, 2), READ(uint8_t, 8), READ(uint64_t, 2), READ(uint32_t, 2)
 
 static const Call calls[] = {
     {"header", header, {READ(uint8_t, BYTES), ANSWER(struct kullneyra_head, uint32_t)}, 1},
@@ -96,6 +102,8 @@ static const Call calls[] = {
      {READ(uint8_t, BYTES), NEW_GRAPH(1), WRITTEN(uint64_t, 1), ANSWER(struct kullneyra_head, uint32_t)}, 1},
     {"export_length", export_length, {GRAPH, ANSWER(uint64_t, uint64_t)}, 1},
     {"export", export_, {GRAPH, WRITTEN(uint8_t, BYTES)}, 0},
+    {"scan_length", scan_length, {NAMES, ANSWER(uint64_t, uint64_t)}, 1},
+    {"scan", scan, {NAMES, WRITTEN(uint32_t, 3), WRITTEN(uint32_t, 3)}, 0},
 };
 
 enum { FIELD = 2048, FIELDS = MOST + 2 };

@@ -1,14 +1,16 @@
-// Stores and graphs as C functions: the catalogue, an object's references, Matrix Market texts.
+// Stores and graphs as C functions: the catalogue, an object's references, Matrix Market texts, names in texts.
 ghost use mathlib.Core.Path.{_≡_};
 ghost use lib.ListN.{length};
 ghost use Rattle.desk.specs.Kept.{unlessRefused};
 ghost use Rattle.catalogue.specs.Answer.{headerRow};
 ghost use Rattle.kullneyra.specs.Calls.{headerAnswer, headerWords, partAnswer, partWords, marketAnswer};
-ghost use Rattle.kullneyra.specs.Calls.{LengthIn};
+ghost use Rattle.kullneyra.specs.Calls.{LengthIn, ScansIn};
 ghost use Rattle.kullneyra.specs.Promise.{Reads, Imports};
 ghost use Rattle.matrix.specs.Promise.{Returns};
 ghost use Rattle.matrix.specs.Import.{headRow};
 ghost use Rattle.matrix.specs.Export.{exportFault, bytesAfter, lengthFor as exportLength};
+ghost use Rattle.names.specs.Names.{namesOf};
+ghost use Rattle.names.specs.Call.{textsOf, lengthFor as scanLength};
 
 // `header`; result words: n, m, index.
 #[no_mangle]
@@ -112,4 +114,55 @@ pub extern "C" fn kullneyra_export(offsets: &[u32], targets: &[u32], out: &mut [
     ensures { λ r. ⌜ (r ≡ 0 → Returns (now (offsets .entry)) (now (targets .entry))) ⌝ }
 {
     refusal::verdict_number(market::export(offsets, targets, out)) as u32
+}
+
+// How many mentions of names texts have; one result word.
+#[no_mangle]
+pub extern "C" fn kullneyra_scan_length(
+    objects: u32,
+    width: u32,
+    names: &[u8],
+    named: &[u32],
+    texts: &[u8],
+    ends: &[u64],
+    owners: &[u32],
+    result: &mut [u64],
+) -> u32
+    ensures { λ r. ⌜ LengthIn (scanLength objects (namesOf width (now (names .entry)) (now (named .entry)))
+        (textsOf (now (texts .entry)) (now (ends .entry)) (now (owners .entry)))) (now (result .entry)) (now (result .exit)) r ⌝ }
+{
+    kullneyra::give_length(
+        scan::scan_length(objects, width, names, named, texts, ends, owners),
+        result,
+    )
+}
+
+// The mentions, as the owners of the texts and the objects that are named; there are no result words.
+#[no_mangle]
+pub extern "C" fn kullneyra_scan(
+    objects: u32,
+    width: u32,
+    names: &[u8],
+    named: &[u32],
+    texts: &[u8],
+    ends: &[u64],
+    owners: &[u32],
+    from: &mut [u32],
+    to: &mut [u32],
+) -> u32
+    ensures { λ r. ⌜ ScansIn objects (namesOf width (now (names .entry)) (now (named .entry)))
+        (textsOf (now (texts .entry)) (now (ends .entry)) (now (owners .entry)))
+        (now (from .entry)) (now (to .entry)) (now (from .exit)) (now (to .exit)) r ⌝ }
+{
+    refusal::verdict_number(scan::scan(
+        objects,
+        width,
+        names,
+        named,
+        texts,
+        ends,
+        owners,
+        from,
+        to,
+    )) as u32
 }

@@ -4,3 +4,5 @@ pub mod Saving
 pub mod Seeds
 pub mod Hops
 pub mod Updates
+pub mod Mentioning
+pub mod Blobs

@@ -34,6 +34,8 @@ use Rattle.changes.specs.Stores.{added, completed, removed, marksAfresh}
 use Rattle.changes.specs.Marking.{ListLeft}
 use Rattle.changes.specs.Promise.{AddPromise, RemovePromise}
 use Rattle.updates.specs.Call.{lengths, addFault, removeFault}
+use Rattle.names.specs.Names.{Names}
+use Rattle.names.specs.Call.{Texts, scanFault, fromAfter, toAfter}
 
 -- 7 where the result words are not as many as the call has results, else what the call answers
 abbrev pub answerIn : ℕ → List ℕ → ℕ → ℕ
@@ -120,7 +122,7 @@ pub record MarksIn (c : Call) (marks work tallies result marks′ work′ tallie
   pub fills-tallies : tallies′ ≡ pick (eqb (length result) mark-words) (talliesAfter c marks work tallies) tallies
   pub fills-result : result′ ≡ unlessRefused (answerIn mark-words result (marking c marks work tallies .number)) (markWords (marking c marks work tallies)) result
 
--- ---- saved_words, schedule_length, hop_words, update_words, export_length: the length
+-- ---- saved_words, schedule_length, hop_words, update_words, export_length, scan_length: the length
 
 -- the number answered and the result word afterwards, of a call that answers this row
 pub record LengthIn (r : LengthRow) (result result′ : List ℕ) (answer : ℕ) : Type 0 where
@@ -222,3 +224,11 @@ pub record ImportsIn (text offsets targets sizes result offsets′ targets′ si
   pub fills-sizes : sizes′ ≡ sizesAfter (importIn text offsets targets sizes result) sizes
   pub fills-result : result′ ≡ unlessRefused (answerOf (importIn text offsets targets sizes result) .refusal)
       (headerWords (answerOf (importIn text offsets targets sizes result))) result
+
+-- ---- scan: no results
+
+-- the answer is the first fault; without one the lists are the mentions, and beside a refusal they are as they were
+pub record ScansIn (n : ℕ) (N : Names) (T : Texts) (from to from′ to′ : List ℕ) (answer : ℕ) : Type 0 where
+  pub answers : answer ≡ scanFault n N T (length from) (length to)
+  pub fills-from : from′ ≡ fromAfter n N T from to
+  pub fills-to : to′ ≡ toAfter n N T from to

@@ -5,7 +5,7 @@ use native.Mathlib.Omega.{arith}
 use Rattle.refusal.specs.declared.Refusal.{Refusal}
 use Rattle.refusal.specs.declared.Verdict.{Verdict}
 use Rattle.refusal.specs.declared.Verdict.the-variants.{Fine, Faulty}
-use Rattle.refusal.specs.declared.Refusal.the-variants.{Short, Kind, Place, Count, Object, Size, Buffer, Setting, Schedule, Graph, Large, File, Starts, Saved, Cards, Seed, Marks, Text}
+use Rattle.refusal.specs.declared.Refusal.the-variants.{Short, Kind, Place, Count, Object, Size, Buffer, Setting, Schedule, Graph, Large, File, Starts, Saved, Cards, Seed, Marks, Text, Names}
 use Rattle.refusal.specs.Number.{number, numberOf}
 use Rattle.refusal.specs.Order.{first}
 
@@ -29,6 +29,7 @@ numbered Cards = omega arith
 numbered Seed = omega arith
 numbered Marks = omega arith
 numbered Text = omega arith
+numbered Names = omega arith
 
 -- a check that found no fault, and one that found one
 module _ {v : Verdict} {k : ℕ} (h : numberOf v ≡ k) where

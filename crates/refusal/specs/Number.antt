@@ -3,7 +3,7 @@ use Prim.Native.Nat.{ℕ}
 use Rattle.refusal.specs.declared.Refusal.{Refusal}
 use Rattle.refusal.specs.declared.Verdict.{Verdict}
 use Rattle.refusal.specs.declared.Verdict.the-variants.{Fine, Faulty}
-use Rattle.refusal.specs.declared.Refusal.the-variants.{Short, Kind, Place, Count, Object, Size, Buffer, Setting, Schedule, Graph, Large, File, Starts, Saved, Cards, Seed, Marks, Text}
+use Rattle.refusal.specs.declared.Refusal.the-variants.{Short, Kind, Place, Count, Object, Size, Buffer, Setting, Schedule, Graph, Large, File, Starts, Saved, Cards, Seed, Marks, Text, Names}
 
 -- the number that is returned for each cause
 abbrev pub number : Refusal → ℕ
@@ -25,6 +25,7 @@ number Cards = 15
 number Seed = 16
 number Marks = 17
 number Text = 18
+number Names = 19
 
 -- the number of what a check finds: 0 for no fault
 abbrev pub numberOf : Verdict → ℕ

@@ -40,6 +40,8 @@ pub enum Refusal {
     Marks,
     // 18: a text that is no Matrix Market file of a graph.
     Text,
+    // 19: names that do not ascend or are no lower-case hexadecimal digits, or of width 0.
+    Names,
 }
 
 // What a check finds.
@@ -71,6 +73,7 @@ pub fn number_of(r: Refusal) -> u8
         Refusal::Seed => 16,
         Refusal::Marks => 17,
         Refusal::Text => 18,
+        Refusal::Names => 19,
     }
 }
 

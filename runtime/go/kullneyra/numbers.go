@@ -38,6 +38,7 @@ const (
 	NoSeed     Refusal = 16 // the first word of a seed is 0
 	NotClosed  Refusal = 17 // a marked object has a reference to an unmarked one
 	NoMarket   Refusal = 18 // a text that is no Matrix Market file of a graph
+	Names      Refusal = 19 // names that do not ascend, are not lower-case hexadecimal, or have no bytes
 )
 
 var reasons = [...]string{
@@ -59,4 +60,5 @@ var reasons = [...]string{
 	NoSeed:     "the first word of a seed is 0",
 	NotClosed:  "a marked object has a reference to an unmarked one",
 	NoMarket:   "a text that is no Matrix Market file of a graph",
+	Names:      "names that do not ascend, or are not lower-case hexadecimal",
 }

@@ -12,6 +12,7 @@ mod hands;
 mod hops;
 mod market;
 mod measure;
+mod names;
 mod plot;
 mod table;
 mod updates;
@@ -82,6 +83,7 @@ fn main() -> io::Result<()> {
     let hops = hops::rows(&graphs, repetitions);
     let [add, remove] = updates::rows(&graphs, repetitions);
     let [imports, exports] = market::rows(&graphs, repetitions);
+    let scans = names::rows(repetitions);
     eprintln!("bench: read, swept, dealt, counted hops, updated, imported and exported");
     let marks = mark_rows(&graphs, repetitions);
     let stops = stop_rows(&graphs, repetitions);
@@ -108,6 +110,7 @@ fn main() -> io::Result<()> {
             &imports,
         ),
         table::calls("Export of one; Rust formats numbers, tuned makes the same passes", "byte", &exports),
+        table::calls("Names in texts; Rust only classifies each byte, tuned makes the same scan", "byte", &scans),
         table::stops(&stops),
         table::growth(&growth),
         table::goals(&marks),

@@ -7,7 +7,7 @@ use crate::sides::{by_hand, number_of, written, Buffers, Renewal};
 use kullneyra::{raw, Schedule, Settings};
 
 impl Call {
-    pub const CALLS: usize = 21;
+    pub const CALLS: usize = 23;
     pub const NAMES: [&'static str; Self::CALLS] = [
         "header",
         "read",
@@ -30,6 +30,8 @@ impl Call {
         "import",
         "export_length",
         "export",
+        "scan_length",
+        "scan",
     ];
     /// What each call may answer: 0, and its refusals.
     pub const ANSWERS: [&'static [u32]; Self::CALLS] = [
@@ -54,6 +56,8 @@ impl Call {
         &[0, 4, 5, 7, 18],
         &[0, 4, 7, 10],
         &[0, 4, 7, 10],
+        &[0, 4, 5, 7, 10, 19],
+        &[0, 4, 5, 7, 10, 19],
     ];
 
     pub fn place(&self) -> usize {
@@ -76,12 +80,14 @@ impl Call {
             Call::Import { .. } => 18,
             Call::ExportLength { .. } => 19,
             Call::Export { .. } => 20,
+            Call::ScanLength { .. } => 21,
+            Call::Scan { .. } => 22,
         }
     }
 
     /// The right length of the result buffer; 0 for a call that has none.
     pub fn result_words(&self) -> usize {
-        [3, 4, 2, 7, 1, 7, 7, 2, 1, 0, 1, 0, 1, 0, 1, 0, 0, 3, 3, 1, 0][self.place()]
+        [3, 4, 2, 7, 1, 7, 7, 2, 1, 0, 1, 0, 1, 0, 1, 0, 0, 3, 3, 1, 0, 1, 0][self.place()]
     }
 }
 
@@ -217,6 +223,37 @@ pub trait Side {
 
     fn export(&self, offsets: &[u32], targets: &[u32], out: &mut [u8]) -> u32 {
         plain::export(offsets, targets, out)
+    }
+
+    #[allow(clippy::too_many_arguments)]
+    fn scan_length(
+        &self,
+        objects: u32,
+        width: u32,
+        names: &[u8],
+        named: &[u32],
+        texts: &[u8],
+        ends: &[u64],
+        owners: &[u32],
+        result: &mut [u64],
+    ) -> u32 {
+        plain::scan_length(objects, width, names, named, texts, ends, owners, result)
+    }
+
+    #[allow(clippy::too_many_arguments)]
+    fn scan(
+        &self,
+        objects: u32,
+        width: u32,
+        names: &[u8],
+        named: &[u32],
+        texts: &[u8],
+        ends: &[u64],
+        owners: &[u32],
+        from: &mut [u32],
+        to: &mut [u32],
+    ) -> u32 {
+        plain::scan(objects, width, names, named, texts, ends, owners, from, to)
     }
 }
 
@@ -359,6 +396,37 @@ impl Side for Proved {
 
     fn export(&self, offsets: &[u32], targets: &[u32], out: &mut [u8]) -> u32 {
         raw::export(offsets, targets, out)
+    }
+
+    #[allow(clippy::too_many_arguments)]
+    fn scan_length(
+        &self,
+        objects: u32,
+        width: u32,
+        names: &[u8],
+        named: &[u32],
+        texts: &[u8],
+        ends: &[u64],
+        owners: &[u32],
+        result: &mut [u64],
+    ) -> u32 {
+        raw::scan_length(objects, width, names, named, texts, ends, owners, result)
+    }
+
+    #[allow(clippy::too_many_arguments)]
+    fn scan(
+        &self,
+        objects: u32,
+        width: u32,
+        names: &[u8],
+        named: &[u32],
+        texts: &[u8],
+        ends: &[u64],
+        owners: &[u32],
+        from: &mut [u32],
+        to: &mut [u32],
+    ) -> u32 {
+        raw::scan(objects, width, names, named, texts, ends, owners, from, to)
     }
 }
 
@@ -518,6 +586,39 @@ impl Side for Typed {
         let answer = kullneyra::export(offsets, targets, out);
         number_of(answer)
     }
+
+    #[allow(clippy::too_many_arguments)]
+    fn scan_length(
+        &self,
+        objects: u32,
+        width: u32,
+        names: &[u8],
+        named: &[u32],
+        texts: &[u8],
+        ends: &[u64],
+        owners: &[u32],
+        result: &mut [u64],
+    ) -> u32 {
+        let answer = kullneyra::scan_length(objects, width, names, named, texts, ends, owners);
+        written(answer.map(|word| [word]), result)
+    }
+
+    #[allow(clippy::too_many_arguments)]
+    fn scan(
+        &self,
+        objects: u32,
+        width: u32,
+        names: &[u8],
+        named: &[u32],
+        texts: &[u8],
+        ends: &[u64],
+        owners: &[u32],
+        from: &mut [u32],
+        to: &mut [u32],
+    ) -> u32 {
+        let answer = kullneyra::scan(objects, width, names, named, texts, ends, owners, from, to);
+        number_of(answer)
+    }
 }
 
 /// Writes nothing, as beside a refusal: the buffers as they were beforehand.
@@ -605,6 +706,27 @@ impl Side for Untouched {
     }
 
     fn export(&self, _: &[u32], _: &[u32], _: &mut [u8]) -> u32 {
+        WRONG_LENGTH
+    }
+
+    #[allow(clippy::too_many_arguments)]
+    fn scan_length(&self, _: u32, _: u32, _: &[u8], _: &[u32], _: &[u8], _: &[u64], _: &[u32], _: &mut [u64]) -> u32 {
+        WRONG_LENGTH
+    }
+
+    #[allow(clippy::too_many_arguments)]
+    fn scan(
+        &self,
+        _: u32,
+        _: u32,
+        _: &[u8],
+        _: &[u32],
+        _: &[u8],
+        _: &[u64],
+        _: &[u32],
+        _: &mut [u32],
+        _: &mut [u32],
+    ) -> u32 {
         WRONG_LENGTH
     }
 }

@@ -92,6 +92,32 @@ pub enum Call {
         targets: Vec<u32>,
         out: usize,
     },
+    ScanLength(Scan),
+    Scan {
+        scan: Scan,
+        from: usize,
+        to: usize,
+    },
+}
+
+/// What `scan_length` and `scan` are both given: the number of objects, names and texts.
+#[derive(Clone, Debug, PartialEq, Eq)]
+pub struct Scan {
+    pub objects: u32,
+    pub width: u32,
+    pub names: Vec<u8>,
+    pub named: Vec<u32>,
+    pub texts: Vec<u8>,
+    pub ends: Vec<u64>,
+    pub owners: Vec<u32>,
+}
+
+impl Scan {
+    /// The call, for the scan in plain Rust.
+    pub fn call(&self) -> reference::Scan<'_> {
+        let Scan { objects, width, ref names, ref named, ref texts, ref ends, ref owners } = *self;
+        reference::Scan { objects, width, names, named, texts, ends, owners }
+    }
 }
 
 /// What `add` and `remove` are both given: a graph, marks as they are beforehand, and lengths.
@@ -201,9 +227,9 @@ fn catalogue(f: &mut fmt::Formatter<'_>, bytes: &[u8]) -> fmt::Result {
 }
 
 /// A text, with its line feeds escaped.
-fn text(f: &mut fmt::Formatter<'_>, all: &[u8]) -> fmt::Result {
+fn text(f: &mut fmt::Formatter<'_>, name: &str, all: &[u8]) -> fmt::Result {
     let shown = &all[..all.len().min(SHOWN)];
-    writeln!(f, "  text ({} bytes): {}", all.len(), shown.escape_ascii())
+    writeln!(f, "  {name} ({} bytes): {}", all.len(), shown.escape_ascii())
 }
 
 fn schedule(f: &mut fmt::Formatter<'_>, bytes: &[u8]) -> fmt::Result {
@@ -235,6 +261,17 @@ impl fmt::Display for Update {
         list(f, "targets", &self.targets)?;
         list(f, "marks", &self.marks)?;
         writeln!(f, "  lengths: new offsets {new_offsets}, new targets {new_targets}, work {work}")
+    }
+}
+
+impl fmt::Display for Scan {
+    fn fmt(&self, f: &mut fmt::Formatter<'_>) -> fmt::Result {
+        writeln!(f, "  n {}, width {}", self.objects, self.width)?;
+        text(f, "names", &self.names)?;
+        list(f, "named", &self.named)?;
+        text(f, "texts", &self.texts)?;
+        list(f, "ends", &self.ends)?;
+        list(f, "owners", &self.owners)
     }
 }
 
@@ -297,9 +334,9 @@ impl fmt::Display for Case {
                 list(f, "numbers", numbers)?;
                 list(f, "starts", starts)?;
             }
-            Call::MarketHeader { text: all } => text(f, all)?,
+            Call::MarketHeader { text: all } => text(f, "text", all)?,
             Call::Import { text: all, offsets, targets, sizes } => {
-                text(f, all)?;
+                text(f, "text", all)?;
                 writeln!(f, "  lengths: offsets {offsets}, targets {targets}, sizes {sizes}")?;
             }
             Call::ExportLength { offsets, targets } => {
@@ -310,6 +347,11 @@ impl fmt::Display for Case {
                 list(f, "offsets", offsets)?;
                 list(f, "targets", targets)?;
                 writeln!(f, "  length: out {out}")?;
+            }
+            Call::ScanLength(scan) => write!(f, "{scan}")?,
+            Call::Scan { scan, from, to } => {
+                write!(f, "{scan}")?;
+                writeln!(f, "  lengths: from {from}, to {to}")?;
             }
         }
         writeln!(f, "  length: result {}", self.result)

@@ -1,6 +1,6 @@
-//! Damage to catalogues, graphs, settings, schedules and lengths.
+//! Damage to catalogues, graphs, settings, schedules, names, texts and lengths.
 
-use crate::case::Mark;
+use crate::case::{Mark, Scan};
 use crate::rng::Rng;
 use crate::store::Record;
 use reference::{LARGEST_SIZE, MOST_OBJECTS, MOST_REFERENCES, STARTS};
@@ -171,6 +171,27 @@ fn starts(rng: &mut Rng, starts: &mut Vec<u32>, n: u32) {
             let at = rng.below(starts.len());
             starts[at] = number(rng, n, n);
         }
+    }
+}
+
+/// Now and then damages one thing of a scan's call.
+pub fn scan(rng: &mut Rng, call: &mut Scan) {
+    let (width, names, texts) = (call.width as usize, call.named.len(), call.ends.len());
+    match rng.below(24) {
+        0 => call.objects = rng.pick(&[0, 1, MOST_OBJECTS as u32, MOST_OBJECTS as u32 + 1, u32::MAX]),
+        1 => call.width = rng.pick(&[0, call.width + 1, call.width - 1, u32::MAX]),
+        2 => (call.width, call.names) = (0, Vec::new()),
+        3 => call.names.resize(length(rng, call.names.len()), b'a'),
+        4 => call.named.resize(length(rng, names), 0),
+        5 => call.owners.resize(length(rng, texts), 0),
+        6 => call.texts.resize(length(rng, call.texts.len()), b'a'),
+        7 if texts > 0 => call.ends[rng.below(texts)] = rng.pick(&[0, 1, call.texts.len() as u64, u64::MAX]),
+        8 if names > 0 => call.named[rng.below(names)] = number(rng, call.objects, call.objects),
+        9 if texts > 0 => call.owners[rng.below(texts)] = number(rng, call.objects, call.objects),
+        10 if names > 0 => call.names[rng.below(names * width)] = rng.pick(b"/:`gAF\0\xff"),
+        11 if names > 1 => call.names.rotate_left(width),
+        12 if names > 1 => call.names.copy_within(..width, width),
+        _ => {}
     }
 }
 

@@ -1,7 +1,7 @@
 //! Small cases, drawn.
 
 use crate::calls::NUMBER_CALLS;
-use crate::case::{Call, Case, Mark, Update};
+use crate::case::{Call, Case, Mark, Scan, Update};
 use crate::damage;
 use crate::judge::reached;
 use crate::rng::Rng;
@@ -10,7 +10,7 @@ use crate::store::{self, Store};
 use reference::{Tally, CARD_WORKERS, LARGEST_SIZE, MOST_LEASES, MOST_OBJECTS, STARTS};
 
 /// The weights of the calls that are not of numbers; each of those has the weight 1.
-const OTHERS: usize = 50;
+const OTHERS: usize = 56;
 
 /// A small case.
 pub fn small(rng: &mut Rng) -> Case {
@@ -32,6 +32,8 @@ pub fn small(rng: &mut Rng) -> Case {
         44..=46 => import(rng),
         47 => export_length(rng),
         48 | 49 => export(rng),
+        50 | 51 => Call::ScanLength(scan(rng)),
+        52..=55 => scan_into(rng),
         behind => numbers(rng, behind - OTHERS),
     };
     let result = match call.result_words() {
@@ -207,6 +209,63 @@ fn export(rng: &mut Rng) -> Call {
     let Mark { offsets, targets, .. } = mark(rng);
     let right = reference::export_length(&offsets, &targets).unwrap_or(60) as usize;
     Call::Export { out: damage::length_once_in(rng, 8, right), offsets, targets }
+}
+
+/// Names and texts. The digits are few, so that names overlap and windows are nearly names; names stand at the first and the
+/// last byte, cut by a text's end, with a letter in upper case, and in runs of digits. Damage is of one part or none.
+fn scan(rng: &mut Rng) -> Scan {
+    let width = rng.pick(&[1, 2, 3, 4, 5, 6, 7, 9, 16, 64, 128]);
+    let objects = rng.between(1, 40) as u32;
+    let few = rng.pick(&[&b"a"[..], b"0a", b"9af", b"0123456789abcdef"]);
+    let digit = |rng: &mut Rng| rng.pick(few);
+    let mut names: Vec<Vec<u8>> = (0..rng.below(12)).map(|_| (0..width).map(|_| digit(rng)).collect()).collect();
+    names.sort();
+    names.dedup();
+    let mut texts = Vec::new();
+    let mut ends = Vec::new();
+    for _ in 0..rng.below(6) {
+        for _ in 0..rng.below(8) {
+            match rng.below(6) {
+                0 | 1 if !names.is_empty() => {
+                    let mut name = names[rng.below(names.len())].clone();
+                    match rng.below(8) {
+                        0 => name.truncate(width - 1),
+                        1 => name.make_ascii_uppercase(),
+                        2 => name[rng.below(width)] = digit(rng),
+                        _ => {}
+                    }
+                    texts.extend(name);
+                }
+                2 => texts.extend((0..rng.below(3 * width)).map(|_| digit(rng))),
+                3 => texts.extend(rng.pick(&[
+                    &b"\"digest\":\"sha256:"[..],
+                    b"\",\"size\":",
+                    b"{",
+                    b"g",
+                    b"/",
+                    b":",
+                    b"`",
+                    b"G",
+                ])),
+                4 => texts.push(rng.word() as u8),
+                _ => {}
+            }
+        }
+        ends.push(texts.len() as u64);
+    }
+    let object = |rng: &mut Rng| rng.below(objects as usize) as u32;
+    let named = names.iter().map(|_| object(rng)).collect();
+    let owners = ends.iter().map(|_| object(rng)).collect();
+    let mut scan = Scan { objects, width: width as u32, names: names.concat(), named, texts, ends, owners };
+    damage::scan(rng, &mut scan);
+    scan
+}
+
+fn scan_into(rng: &mut Rng) -> Call {
+    let scan = scan(rng);
+    let right = reference::scan_length(scan.call()).unwrap_or(3) as usize;
+    let (from, to) = (damage::length_once_in(rng, 8, right), damage::length_once_in(rng, 8, right));
+    Call::Scan { scan, from, to }
 }
 
 /// W for cards, now and then out of range or more than a card has.

@@ -1,7 +1,7 @@
 //! Lent buffers between guards, and what a call leaves in them.
 
 use crate::calls::NUMBER_CALLS;
-use crate::case::{Call, Case, Mark, Update};
+use crate::case::{Call, Case, Mark, Scan, Update};
 use crate::sides::{Buffers, Renewal, Side};
 use kullneyra::Marked;
 
@@ -211,6 +211,16 @@ pub fn after(case: &Case, side: &dyn Side) -> After {
             let mut out = bytes(*out, case.fill(1));
             let number = side.export(offsets, targets, out.part());
             After { number, buffers: vec![("out", Whole::Bytes(out.0))] }
+        }
+        Call::ScanLength(scan) => longs_only(case, |result| {
+            let Scan { objects, width, names, named, texts, ends, owners } = scan;
+            side.scan_length(*objects, *width, names, named, texts, ends, owners, result)
+        }),
+        Call::Scan { scan, from, to } => {
+            let Scan { objects, width, names, named, texts, ends, owners } = scan;
+            let (mut from, mut to) = (words(*from, case.fill(1)), words(*to, case.fill(2)));
+            let number = side.scan(*objects, *width, names, named, texts, ends, owners, from.part(), to.part());
+            After { number, buffers: vec![("from", Whole::Words(from.0)), ("to", Whole::Words(to.0))] }
         }
     }
 }

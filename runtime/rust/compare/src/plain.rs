@@ -132,3 +132,34 @@ pub fn export_length(offsets: &[u32], targets: &[u32], result: &mut [u64]) -> u3
 pub fn export(offsets: &[u32], targets: &[u32], out: &mut [u8]) -> u32 {
     number(reference::export(offsets, targets, out))
 }
+
+#[allow(clippy::too_many_arguments)]
+pub fn scan_length(
+    objects: u32,
+    width: u32,
+    names: &[u8],
+    named: &[u32],
+    texts: &[u8],
+    ends: &[u64],
+    owners: &[u32],
+    result: &mut [u64],
+) -> u32 {
+    let scan = reference::Scan { objects, width, names, named, texts, ends, owners };
+    told_one(result, || reference::scan_length(scan))
+}
+
+#[allow(clippy::too_many_arguments)]
+pub fn scan(
+    objects: u32,
+    width: u32,
+    names: &[u8],
+    named: &[u32],
+    texts: &[u8],
+    ends: &[u64],
+    owners: &[u32],
+    from: &mut [u32],
+    to: &mut [u32],
+) -> u32 {
+    let scan = reference::Scan { objects, width, names, named, texts, ends, owners };
+    number(reference::scan(scan, from, to))
+}

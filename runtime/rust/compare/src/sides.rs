@@ -94,4 +94,20 @@ impl Side for Tuned {
     fn export(&self, offsets: &[u32], targets: &[u32], out: &mut [u8]) -> u32 {
         number(tuned::export(offsets, targets, out))
     }
+
+    fn scan(
+        &self,
+        objects: u32,
+        width: u32,
+        names: &[u8],
+        named: &[u32],
+        texts: &[u8],
+        ends: &[u64],
+        owners: &[u32],
+        from: &mut [u32],
+        to: &mut [u32],
+    ) -> u32 {
+        let scan = reference::Scan { objects, width, names, named, texts, ends, owners };
+        number(tuned::scan(scan, from, to))
+    }
 }

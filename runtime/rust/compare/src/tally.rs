@@ -7,7 +7,7 @@ use std::fmt;
 #[derive(Default)]
 pub struct Tally {
     /// By call, then by answer.
-    answers: [[u64; 19]; Call::CALLS],
+    answers: [[u64; 20]; Call::CALLS],
     finished: u64,
     handed: u64,
     refused: u64,

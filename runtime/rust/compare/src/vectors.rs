@@ -22,7 +22,7 @@ enum Kind {
 use Kind::{Bytes, Longs, Numbers, UpTo, Words};
 
 /// The calls but for those of numbers, and the lists of each.
-const FORMS: [(&str, &[Kind]); 13] = [
+const FORMS: [(&str, &[Kind]); 14] = [
     ("read", &[Bytes, Words, Words, Longs, Words]),
     ("references", &[Words, Words, Numbers(1)]),
     ("mark", &[Words, Words, Words, Numbers(3), Bytes, Bytes, Words, Longs]),
@@ -36,6 +36,7 @@ const FORMS: [(&str, &[Kind]); 13] = [
     ("remove", &[Words, Words, Words, Words, Words, Words, Bytes, Words]),
     ("import", &[Bytes, Words, Words, Longs]),
     ("export", &[Words, Words, Bytes]),
+    ("scan", &[Numbers(2), Bytes, Words, Bytes, Longs, Words, Words, Words]),
 ];
 
 /// The call of numbers of this name.
@@ -325,6 +326,14 @@ fn parts(side: &dyn Side, case: &Case) -> Result<Vec<String>, String> {
             let first = side.export_length(&offsets, &targets, &mut length);
             let second = side.export(&offsets, &targets, &mut out);
             vec![told("", first, &length)?, verdict(" exported", second), shown(&out)]
+        }
+        "scan" => {
+            let [objects, width] = case.numbers(0);
+            let (names, named, texts) = (case.bytes(1), case.words(2), case.bytes(3));
+            let (ends, owners, mut from, mut to) = (case.longs(4), case.words(5), case.words(6), case.words(7));
+            let first = side.scan_length(objects, width, &names, &named, &texts, &ends, &owners, &mut length);
+            let second = side.scan(objects, width, &names, &named, &texts, &ends, &owners, &mut from, &mut to);
+            vec![told("", first, &length)?, verdict(" scanned", second), shown(&from), shown(&to)]
         }
         call => {
             let numbers = of_numbers(call).expect("a call that has a form");

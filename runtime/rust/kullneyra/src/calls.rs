@@ -421,6 +421,42 @@ pub fn export(offsets: &[u32], targets: &[u32], out: &mut [u8]) -> Result<(), Re
     answer(raw::export(offsets, targets, out))
 }
 
+/// How many mentions there are in texts: places where the bytes of a name stand, whatever stands around them. The names
+/// are `width` lower-case hexadecimal digits each, one behind the other, ascending and distinct; named[k] is the object
+/// that name k names. The texts stand one behind the other too: text i ends where ends[i] says, and owners[i] is the
+/// object that it belongs to.
+pub fn scan_length(
+    objects: u32,
+    width: u32,
+    names: &[u8],
+    named: &[u32],
+    texts: &[u8],
+    ends: &[u64],
+    owners: &[u32],
+) -> Result<u64, Refusal> {
+    let mut result = [0];
+    answer(raw::scan_length(objects, width, names, named, texts, ends, owners, &mut result))?;
+    Ok(result[0])
+}
+
+/// Writes each mention as a pair `from[i]` -> `to[i]`, by text and then by place: the owner of the text, and the object
+/// whose name stands there. Both lists have exactly as many words as [`scan_length`] says. [`add`] takes them as
+/// references.
+#[allow(clippy::too_many_arguments)]
+pub fn scan(
+    objects: u32,
+    width: u32,
+    names: &[u8],
+    named: &[u32],
+    texts: &[u8],
+    ends: &[u64],
+    owners: &[u32],
+    from: &mut [u32],
+    to: &mut [u32],
+) -> Result<(), Refusal> {
+    answer(raw::scan(objects, width, names, named, texts, ends, owners, from, to))
+}
+
 impl Seed {
     /// Draws a card: moves the two words of the seed on and answers the card of the moved words. Beside a refusal the
     /// seed is as it was.

@@ -59,12 +59,14 @@ pub enum Refusal {
     Marks,
     /// 18: a text that is no Matrix Market file of a graph.
     Text,
+    /// 19: names that do not ascend, are not lower-case hexadecimal, or have no bytes.
+    Names,
     /// A number that this crate has no name for: the library is newer than the crate.
     Other(u32),
 }
 
 /// The refusals that have a name.
-const NAMED: [Refusal; 16] = [
+const NAMED: [Refusal; 17] = [
     Refusal::Short,
     Refusal::Kind,
     Refusal::Place,
@@ -81,6 +83,7 @@ const NAMED: [Refusal; 16] = [
     Refusal::Seed,
     Refusal::Marks,
     Refusal::Text,
+    Refusal::Names,
 ];
 
 impl Refusal {
@@ -107,6 +110,7 @@ impl Refusal {
             Refusal::Seed => (16, "the first word of a seed is 0"),
             Refusal::Marks => (17, "a marked object has a reference to an unmarked one"),
             Refusal::Text => (18, "a text that is no Matrix Market file of a graph"),
+            Refusal::Names => (19, "names that do not ascend, or are not lower-case hexadecimal"),
             Refusal::Other(number) => (number, "a number newer than this crate"),
         }
     }

@@ -202,6 +202,40 @@ mod c {
             out: *mut u8,
             out_len: usize,
         ) -> u32;
+        pub fn kullneyra_scan_length(
+            objects: u32,
+            width: u32,
+            names: *const u8,
+            names_len: usize,
+            named: *const u32,
+            named_len: usize,
+            texts: *const u8,
+            texts_len: usize,
+            ends: *const u64,
+            ends_len: usize,
+            owners: *const u32,
+            owners_len: usize,
+            result: *mut u64,
+            result_len: usize,
+        ) -> u32;
+        pub fn kullneyra_scan(
+            objects: u32,
+            width: u32,
+            names: *const u8,
+            names_len: usize,
+            named: *const u32,
+            named_len: usize,
+            texts: *const u8,
+            texts_len: usize,
+            ends: *const u64,
+            ends_len: usize,
+            owners: *const u32,
+            owners_len: usize,
+            from: *mut u32,
+            from_len: usize,
+            to: *mut u32,
+            to_len: usize,
+        ) -> u32;
     }
 }
 
@@ -585,6 +619,75 @@ pub fn export(offsets: &[u32], targets: &[u32], out: &mut [u8]) -> u32 {
             targets.len(),
             out.as_mut_ptr(),
             out.len(),
+        )
+    }
+}
+
+/// [`crate::scan_length`] on words. One result word.
+#[allow(clippy::too_many_arguments)]
+pub fn scan_length(
+    objects: u32,
+    width: u32,
+    names: &[u8],
+    named: &[u32],
+    texts: &[u8],
+    ends: &[u64],
+    owners: &[u32],
+    result: &mut [u64],
+) -> u32 {
+    // SAFETY: each pointer comes with the length of its own slice, and a slice that is written overlaps no other.
+    unsafe {
+        c::kullneyra_scan_length(
+            objects,
+            width,
+            names.as_ptr(),
+            names.len(),
+            named.as_ptr(),
+            named.len(),
+            texts.as_ptr(),
+            texts.len(),
+            ends.as_ptr(),
+            ends.len(),
+            owners.as_ptr(),
+            owners.len(),
+            result.as_mut_ptr(),
+            result.len(),
+        )
+    }
+}
+
+/// [`crate::scan`] on words. There are no result words.
+#[allow(clippy::too_many_arguments)]
+pub fn scan(
+    objects: u32,
+    width: u32,
+    names: &[u8],
+    named: &[u32],
+    texts: &[u8],
+    ends: &[u64],
+    owners: &[u32],
+    from: &mut [u32],
+    to: &mut [u32],
+) -> u32 {
+    // SAFETY: each pointer comes with the length of its own slice, and a slice that is written overlaps no other.
+    unsafe {
+        c::kullneyra_scan(
+            objects,
+            width,
+            names.as_ptr(),
+            names.len(),
+            named.as_ptr(),
+            named.len(),
+            texts.as_ptr(),
+            texts.len(),
+            ends.as_ptr(),
+            ends.len(),
+            owners.as_ptr(),
+            owners.len(),
+            from.as_mut_ptr(),
+            from.len(),
+            to.as_mut_ptr(),
+            to.len(),
         )
     }
 }

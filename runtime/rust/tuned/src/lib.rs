@@ -15,10 +15,12 @@ mod check;
 mod hops;
 mod market;
 mod read;
+mod scan;
 
 pub use hops::hops;
 pub use market::{export, import};
 pub use read::read;
+pub use scan::{scan, scan_length};
 
 use reference::{Call, Outcome, Tally};
 

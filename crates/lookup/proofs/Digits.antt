@@ -1,0 +1,28 @@
+-- The two ranges of digits, each moved to 0 so that one comparison tells it.
+use mathlib.Core.Path.{_≡_}
+use mathlib.Core.Bool.{true}
+use mathlib.Core.Logic.{by-cases}
+use Prim.Native.Nat.{ℕ, _+_, _%_, _≤_, _<_}
+use native.Mathlib.Decide.{decLt}
+use native.Mathlib.Omega.{arith}
+use lib.Dec.{ltb}
+use borrow.Author.Tests.{le-leb, lt-leb, lt-ltb, le-ltb}
+use Rattle.names.specs.Names.{isDigit}
+
+pub digit-low : (b : ℕ) → b < 256 → (b + 208) % 256 < 10 → isDigit b ≡ true
+digit-low b f h = rw (le-leb 48 b (omega arith), le-leb b 57 (omega arith))
+
+-- none of 0 to 9: a to f decide
+pub digit-high : (b : ℕ) → b < 256 → 10 ≤ (b + 208) % 256 → isDigit b ≡ ltb ((b + 159) % 256) 6
+digit-high b f h =
+    by-cases (decLt b 48)
+    (λ (p : b < 48). rw (lt-leb 48 b p, lt-leb 97 b (omega arith), le-ltb ((b + 159) % 256) 6 (omega arith)))
+    (λ (p : ¬ (b < 48)).
+    let q : 57 < b = omega arith in
+    by-cases (decLt b 97)
+    (λ (r : b < 97). rw (le-leb 48 b (omega arith), lt-leb b 57 q, lt-leb 97 b r, le-ltb ((b + 159) % 256) 6 (omega arith)))
+    (λ (r : ¬ (b < 97)).
+    by-cases (decLt 102 b)
+    (λ (s : 102 < b). rw (le-leb 48 b (omega arith), lt-leb b 57 q, le-leb 97 b (omega arith), lt-leb b 102 s, le-ltb ((b + 159) % 256) 6 (omega arith)))
+    (λ (s : ¬ (102 < b)).
+    rw (le-leb 48 b (omega arith), lt-leb b 57 q, le-leb 97 b (omega arith), le-leb b 102 (omega arith), lt-ltb ((b + 159) % 256) 6 (omega arith)))))

@@ -1,0 +1,5 @@
+pub mod Digits
+pub mod Tails
+pub mod Sliding
+pub mod Searching
+pub mod Gathering

@@ -1,0 +1,345 @@
+// Names looked up (SPECIFICATION 14): digits, the order of two names, the search among ascending
+// names, and the places of a text that may hold one. Nothing but the index is written.
+use names::Order;
+use slices::bits;
+ghost use mathlib.Core.Path.{_≡_};
+ghost use Prim.Native.Nat.{_+_, _*_, _≤_, _<_};
+ghost use lib.ListN.{length};
+ghost use Rattle.laws.specs.Test.{same, all};
+ghost use Rattle.names.specs.Names.{isDigit, order};
+ghost use Rattle.lookup.specs.Index.{nibble, tailAt, index-words, Indexed};
+ghost use Rattle.lookup.specs.Places.{LastOther, Stops, NextPlace};
+ghost use Rattle.lookup.specs.Search.{Searchable, FoundIs};
+
+// The bytes at a name's end that stand for it in the index, the first of them by its lowest bit alone: one bit for each
+// value that they have, 16 KB, so that an index fits on a small stack.
+const TAIL: usize = 5;
+
+// What is left of a tail when the next byte comes.
+const REST: u32 = 8192;
+
+// The words of those bits, and behind them where names are to be sought, by the first ten bits of three digits.
+const BITS: usize = 4096;
+
+const SHARE: u32 = 4;
+
+pub const INDEX: usize = BITS + 1025;
+
+// Which way the last look at a name sent the search.
+const NOWHERE: u32 = 0;
+
+const UP: u32 = 1;
+
+const DOWN: u32 = 2;
+
+// The longest stride that is doubled.
+const LONGEST: usize = 1073741824;
+
+// Where sliding along a text ended, and whether a name may stand there.
+pub struct Stop {
+    pub at: usize,
+    pub hit: bool,
+}
+
+// Whether a byte is a digit of a name. Both ranges are looked at without a jump.
+pub fn is_digit(b: u8) -> bool
+    ensures { λ r. ⌜ r ≡ isDigit b ⌝ }
+{
+    let n = b as u32;
+    if (n + 208) % 256 < 10 {
+        return true;
+    }
+    (n + 159) % 256 < 6
+}
+
+// A digit's value; some number below 16 for any other byte.
+fn value(b: u8) -> u32
+    ensures { λ r. ⌜ (r ≡ nibble b) × (r < 16) ⌝ }
+{
+    let n = b as u32;
+    (n % 16 + 9 * (n / 64)) % 16
+}
+
+// The value of three bytes.
+fn three(bytes: &[u8], at: usize) -> u32
+    requires { ⌜ at + 3 ≤ length (now bytes) ⌝ }
+    ensures { λ r. ⌜ r < 4096 ⌝ }
+{
+    256 * value(bytes[at]) + 16 * value(bytes[at + 1]) + value(bytes[at + 2])
+}
+
+// The value of the five bytes from a place on.
+fn tail(bytes: &[u8], at: usize) -> u32
+    requires { ⌜ at + 5 ≤ length (now bytes) ⌝ }
+    ensures { λ r. ⌜ (r ≡ tailAt (now (bytes .entry)) at) × (r < 131072) ⌝ }
+{
+    let front = 256 * (value(bytes[at]) % 2) + 16 * value(bytes[at + 1]) + value(bytes[at + 2]);
+    256 * front + 16 * value(bytes[at + 3]) + value(bytes[at + 4])
+}
+
+// Whether all bytes are digits.
+pub fn all_digits(bytes: &[u8]) -> bool
+    ensures { λ r. ⌜ r ≡ all isDigit (now (bytes .entry)) ⌝ }
+{
+    // Looks at every byte, so that the loop is compiled without a jump out of it.
+    let mut wrong: u32 = 0;
+    for i in 0..bytes.len() {
+        if !is_digit(bytes[i]) {
+            wrong = 1;
+        }
+    }
+    wrong == 0
+}
+
+// Whether two names are the same.
+fn is_same(a: &[u8], b: &[u8]) -> bool
+    requires { ⌜ length (now b) ≡ length (now a) ⌝ }
+    ensures { λ r. ⌜ r ≡ same (now (a .entry)) (now (b .entry)) ⌝ }
+{
+    let mut wrong: u32 = 0;
+    for i in 0..a.len() {
+        if a[i] != b[i] {
+            wrong = 1;
+        }
+    }
+    wrong == 0
+}
+
+// The order of two names, by the first byte in which they differ.
+pub fn order_of(a: &[u8], b: &[u8]) -> Order
+    requires { ⌜ length (now b) ≡ length (now a) ⌝ }
+    ensures { λ r. ⌜ r ≡ order (now (a .entry)) (now (b .entry)) ⌝ }
+{
+    for i in 0..a.len() {
+        if a[i] < b[i] {
+            return Order::Below;
+        }
+        if b[i] < a[i] {
+            return Order::Above;
+        }
+    }
+    Order::Same
+}
+
+// The same, with a quick look for names that are the same.
+fn compare(a: &[u8], b: &[u8]) -> Order
+    requires { ⌜ length (now b) ≡ length (now a) ⌝ }
+    ensures { λ r. ⌜ r ≡ order (now (a .entry)) (now (b .entry)) ⌝ }
+{
+    if is_same(a, b) {
+        return Order::Same;
+    }
+    order_of(a, b)
+}
+
+// Where a name should stand, by its first six digits and the index; any answer is taken.
+fn guess(index: &[u32], window: &[u8]) -> usize
+    requires { ⌜ length (now index) ≡ index-words ⌝ }
+{
+    if window.len() < 6 {
+        return 0;
+    }
+    let first = three(window, 0);
+    let at = BITS + (first / SHARE) as usize;
+    let from = index[at] as u64;
+    let to = index[at + 1] as u64;
+    if to < from {
+        return 0;
+    }
+    let part = 4096 * (first % SHARE) + three(window, 3);
+    (from + (to - from) * part as u64 / 16384) as usize
+}
+
+// The next place to look at between two bounds, so far from the one where the search stands.
+fn between(low: usize, high: usize, step: usize, turn: u32) -> usize
+    requires { ⌜ low < high ⌝ }
+    ensures { λ r. ⌜ (low ≤ r) × (r < high) ⌝ }
+{
+    let last = high - low - 1;
+    if last <= step {
+        if turn == DOWN {
+            return low;
+        }
+        return high - 1;
+    }
+    if turn == DOWN {
+        return high - 1 - step;
+    }
+    low + step
+}
+
+// How far to go on: twice as far the same way, half of what is left the other way.
+fn stride(before: u32, now: u32, step: usize, left: usize) -> usize {
+    if before == NOWHERE {
+        return 0;
+    }
+    if before != now {
+        return left / 2;
+    }
+    if step < LONGEST {
+        return 2 * step + 1;
+    }
+    left / 2
+}
+
+// The number of the name that a window is, or how many names there are.
+pub fn find(names: &[u8], width: usize, count: usize, index: &[u32], window: &[u8]) -> usize
+    requires { ⌜ Searchable (now names) width count (now index) (now window) ⌝ }
+    ensures { λ r. ⌜ FoundIs (now (names .entry)) width count (now (window .entry)) r ⌝ }
+{
+    let mut low: usize = 0;
+    let mut high = count;
+    let mut step = guess(index, window);
+    let mut turn = NOWHERE;
+    while low < high {
+        let middle = between(low, high, step, turn);
+        let at = middle * width;
+        let end = at + width;
+        let found = compare(window, &names[at..end]);
+        let mut now = DOWN;
+        match found {
+            Order::Same => {
+                return middle;
+            }
+            Order::Below => {
+                high = middle;
+            }
+            Order::Above => {
+                low = middle + 1;
+                now = UP;
+            }
+        }
+        step = stride(turn, now, step, high - low);
+        turn = now;
+    }
+    count
+}
+
+// Behind the last byte that is no digit, from one place up to another; or the first place.
+fn last_other(text: &[u8], low: usize, high: usize) -> usize
+    requires { ⌜ high ≤ length (now text) ⌝ }
+    ensures { λ r. ⌜ LastOther (now (text .entry)) low high r ⌝ }
+{
+    let mut at = high;
+    while low < at {
+        if !is_digit(text[at - 1]) {
+            return at;
+        }
+        at -= 1;
+    }
+    at
+}
+
+// The first place from one on whose tail is in the index; or behind a byte that is no digit and
+// that every window up to there has; or the end.
+fn slide(text: &[u8], from: usize, width: usize, index: &[u32]) -> Stop
+    requires { ⌜ (from + width ≤ length (now text)) × (length (now index) ≡ index-words) × (0 < width) ⌝ }
+    ensures { λ r. ⌜ Stops width (now (index .entry)) (now (text .entry)) from (r .at) (r .hit) ⌝ }
+{
+    if width < TAIL {
+        return Stop {
+            at: from,
+            hit: true,
+        };
+    }
+    let mut end = from + width;
+    let mut h = tail(text, end - TAIL);
+    while end < text.len() {
+        if bits::contains(index, h) {
+            return Stop {
+                at: end - width,
+                hit: true,
+            };
+        }
+        let b = text[end];
+        if !is_digit(b) {
+            return Stop {
+                at: end + 1,
+                hit: false,
+            };
+        }
+        h = 16 * (h % REST) + value(b);
+        end += 1;
+    }
+    if bits::contains(index, h) {
+        return Stop {
+            at: end - width,
+            hit: true,
+        };
+    }
+    Stop {
+        at: end,
+        hit: false,
+    }
+}
+
+// The next place where a name may stand, or the end. The bytes up to `sure` were looked at before.
+pub fn next_place(text: &[u8], from: usize, sure: usize, width: usize, index: &[u32]) -> usize
+    requires { ⌜ (from ≤ length (now text)) × (from ≤ sure) × (length (now index) ≡ index-words) × (0 < width) ⌝ }
+    ensures { λ r. ⌜ NextPlace width (now (index .entry)) (now (text .entry)) from r ⌝ }
+{
+    let mut at = from;
+    let mut known = sure;
+    while width <= text.len() - at {
+        let end = at + width;
+        let behind = last_other(text, known, end);
+        if known < behind {
+            at = behind;
+            known = end;
+        } else {
+            let stop = slide(text, at, width, index);
+            if stop.hit {
+                return stop.at;
+            }
+            at = stop.at;
+            known = at;
+        }
+    }
+    text.len()
+}
+
+// Where names that begin alike end: those that are there, then those between them.
+fn put_hints(names: &[u8], width: usize, count: usize, index: &mut [u32])
+    requires { ⌜ (length (now names) ≡ width * count) × (length (now index) ≡ index-words) × (3 ≤ width) ⌝ }
+    ensures { λ _. ⌜ length (now (index .exit)) ≡ index-words ⌝ }
+{
+    for k in 0..count {
+        let at = BITS + 1 + (three(names, k * width) / SHARE) as usize;
+        index[at] = ((k + 1) % 4294967296) as u32;
+    }
+}
+
+fn fill_hints(index: &mut [u32])
+    requires { ⌜ length (now index) ≡ index-words ⌝ }
+    ensures { λ _. ⌜ length (now (index .exit)) ≡ index-words ⌝ }
+{
+    for i in BITS + 1..INDEX {
+        if index[i] < index[i - 1] {
+            index[i] = index[i - 1];
+        }
+    }
+}
+
+// Puts the tails of the names in.
+fn put_tails(names: &[u8], width: usize, count: usize, index: &mut [u32])
+    requires { ⌜ (length (now names) ≡ width * count) × (length (now index) ≡ index-words) × (5 ≤ width) ⌝ }
+    ensures { λ _. ⌜ Indexed (now (names .entry)) width count (now (index .exit)) ⌝ }
+{
+    for k in 0..count {
+        let end = k * width + width;
+        bits::insert(index, tail(names, end - TAIL));
+    }
+}
+
+// The index of names.
+pub fn put_index(names: &[u8], width: usize, count: usize, index: &mut [u32])
+    requires { ⌜ (length (now names) ≡ width * count) × (length (now index) ≡ index-words) ⌝ }
+    ensures { λ _. ⌜ Indexed (now (names .entry)) width count (now (index .exit)) ⌝ }
+{
+    if width < TAIL {
+        return;
+    }
+    put_hints(names, width, count, index);
+    fill_hints(index);
+    put_tails(names, width, count, index);
+}

@@ -1,0 +1,5 @@
+pub mod Orders
+pub mod Mentions
+pub mod Occurs
+pub mod Texts
+pub mod Checks

@@ -1,0 +1,5 @@
+pub mod Names
+pub mod Mentions
+pub mod Call
+pub mod Occurs
+pub mod Drawings

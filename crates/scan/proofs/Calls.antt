@@ -1,0 +1,121 @@
+-- What the two calls answer at each exit, and what is known once no check fails.
+use mathlib.Core.Path.{_≡_, refl, ap, sym, _∙_}
+use mathlib.Core.Bool.{true}
+use mathlib.Core.List.{List, [], _∷_}
+use Prim.Native.Nat.{ℕ, zero, suc, _+_, _*_, _-_, _<_}
+use native.Mathlib.Omega.{arith}
+use lib.ListN.{length, getD}
+use borrow.Author.Tests.{eq-eqb, ne-eqb}
+use Rattle.laws.specs.Test.{all}
+use Rattle.laws.proofs.Test.{both-true, up-to-each}
+use Rattle.refusal.specs.declared.Refusal.{Refusal}
+use Rattle.refusal.specs.Number.{number}
+use Rattle.refusal.proofs.Numbers.{numbered, first-found}
+use Rattle.desk.specs.declared.Length.the-variants.{Is, Refused}
+use Rattle.desk.specs.Kept.{unlessRefused}
+use Rattle.desk.specs.Length.{lengthRow, lengthWith, lengthBy}
+use Rattle.desk.proofs.Kept.{kept}
+use Rattle.names.specs.declared.Order.{Order}
+use Rattle.names.specs.declared.Order.the-variants.{Below, Same, Above}
+use Rattle.names.specs.Names.{Names, count, window, isDigit, order, isBelow, ascends}
+use Rattle.names.specs.Call.{Texts, from, to, fault, scanFault, lengthFor, fromAfter, toAfter}
+use Rattle.names.proofs.Orders.{order-trans}
+use Rattle.names.proofs.Checks.{sound}
+use Rattle.lookup.specs.Index.{Indexed}
+use Rattle.lookup.specs.Search.{Ascends}
+use Rattle.scan.specs.Passing.{Ready, CountedAll, PutAll}
+
+-- ---- names that pass check 19
+
+below-is : (o : Order) → isBelow o ≡ true → o ≡ Below
+below-is Below e = refl
+below-is Same e = let z : _≡_ {A = ℕ} 0 1 = cc in absurd (omega arith)
+below-is Above e = let z : _≡_ {A = ℕ} 0 1 = cc in absurd (omega arith)
+
+module _ (names : List ℕ) (w k : ℕ) (h : ascends names w k ≡ true) where
+  next-below : (i : ℕ) → suc i < k → order (window w names (i * w)) (window w names (suc i * w)) ≡ Below
+  unfolding ascends
+  next-below i l = below-is _ (up-to-each (λ (i : ℕ). isBelow (order (window w names (i * w)) (window w names (suc i * w)))) (k - 1) h i (omega arith))
+
+  later-below : (i d : ℕ) → i + suc d < k → order (window w names (i * w)) (window w names ((i + suc d) * w)) ≡ Below
+  later-below i zero l = let e : i + 1 ≡ suc i = omega arith in rw e (next-below i (omega arith))
+  later-below i (suc d) l =
+      let e : i + suc (suc d) ≡ suc (i + suc d) = omega arith in
+      rw e
+      (order-trans (window w names (i * w)) (window w names ((i + suc d) * w)) (window w names (suc (i + suc d) * w))
+      (later-below i d (omega arith)) (next-below (i + suc d) (omega arith)))
+
+  -- each name is below every later one
+  ascending-all : Ascends names w k
+  ascending-all i j l g = let e : i + suc (j - suc i) ≡ j = omega arith in rw e at (later-below i (j - suc i) (omega arith))
+
+digits-at : (l : List ℕ) → all isDigit l ≡ true → (i : ℕ) → i < length l → isDigit (getD l i 0) ≡ true
+unfolding all
+digits-at [] h i g = absurd (omega arith)
+digits-at (b ∷ l) h zero g = both-true (isDigit b) (all isDigit l) h .0
+digits-at (b ∷ l) h (suc i) g = digits-at l (both-true (isDigit b) (all isDigit l) h .1) i (omega arith)
+
+-- ---- no check fails
+
+pub ready : (n : ℕ) (N : Names) (T : Texts) → fault n N T ≡ 0 → {index : List ℕ} → Indexed (N .bytes) (N .width) (count N) index → Ready N index
+ready n N T z x =
+    let s = sound n N T z in
+    record {
+      some = s .some;
+      long = s .long;
+      ascends = ascending-all (N .bytes) (N .width) (count N) (s .ascends);
+      digits = digits-at (N .bytes) (s .digits);
+      indexed = x;
+    }
+
+-- ---- the length
+
+module _ (n : ℕ) (N : Names) (T : Texts) where
+  length-none : (k b : ℕ) → 0 < k → lengthWith k 0 ≡ lengthBy k b
+  length-none zero b h = absurd (omega arith)
+  length-none (suc k) b h = refl
+
+  pub length-refused : (r : Refusal) → number r ≡ fault n N T → lengthRow (Refused r) ≡ lengthFor n N T
+  length-refused r e = length-none (number r) (length (to N T)) (numbered r) ∙ ap (λ (k : ℕ). lengthBy k (length (to N T))) e
+
+  pub length-told : fault n N T ≡ 0 → {k : ℕ} → CountedAll N (T .bytes) (T .ends) k → lengthRow (Is k) ≡ lengthFor n N T
+  length-told z c = ap (lengthWith 0) (c .is) ∙ sym (ap (λ (k : ℕ). lengthBy k (length (to N T))) z)
+
+  -- ---- the lists
+
+  module _ (fs ts : List ℕ) where
+    -- a number answered, and the lists afterwards
+    abbrev pub Answers : ℕ → List ℕ → List ℕ → Type 0
+    Answers k fs′ ts′ = (k ≡ scanFault n N T (length fs) (length ts)) × ((fs′ ≡ fromAfter n N T fs ts) × (ts′ ≡ toAfter n N T fs ts))
+
+    -- by the number of the fault
+    unwritten : {k : ℕ} → suc k ≡ scanFault n N T (length fs) (length ts) → Answers (suc k) fs ts
+    unwritten e = (e, (ap (λ (k : ℕ). unlessRefused k (from N T) fs) e, ap (λ (k : ℕ). unlessRefused k (to N T) ts) e))
+
+    pub scan-refused : (r : Refusal) → number r ≡ fault n N T → Answers (number r) fs ts
+    unfolding scanFault
+    scan-refused r e =
+        let f : number r ≡ scanFault n N T (length fs) (length ts) = first-found r (fault n N T) _ e in
+        (f, (kept r (from N T) fs ∙ ap (λ (k : ℕ). unlessRefused k (from N T) fs) f, kept r (to N T) ts ∙ ap (λ (k : ℕ). unlessRefused k (to N T) ts) f))
+
+    module _ (z : fault n N T ≡ 0) {k : ℕ} (c : CountedAll N (T .bytes) (T .ends) k) where
+      pub scan-short : (length fs ≡ k → ⊥) → Answers 7 fs ts
+      unfolding scanFault
+      scan-short h = unwritten (rw (z, ne-eqb (length fs) (length (to N T)) (λ e. h (e ∙ sym (c .is)))))
+
+      pub scan-long : length fs ≡ k → (length ts ≡ k → ⊥) → Answers 7 fs ts
+      unfolding scanFault
+      scan-long f h =
+          unwritten (rw (z, eq-eqb (length fs) (length (to N T)) (f ∙ c .is), ne-eqb (length ts) (length (to N T)) (λ e. h (e ∙ sym (c .is)))))
+
+      pub scan-written : length fs ≡ k → length ts ≡ k → {fs′ ts′ : List ℕ} → PutAll N T fs′ ts′ → Answers 0 fs′ ts′
+      unfolding scanFault
+      scan-written f t p =
+          let e : 0 ≡ scanFault n N T (length fs) (length ts) =
+          rw (z, eq-eqb (length fs) (length (to N T)) (f ∙ c .is), eq-eqb (length ts) (length (to N T)) (t ∙ c .is))
+          in
+          (e, (p .sources ∙ ap (λ (k : ℕ). unlessRefused k (from N T) fs) e, p .targets ∙ ap (λ (k : ℕ). unlessRefused k (to N T) ts) e))
+
+      -- the lists are as long as the mentions
+      pub counted-as : {l : ℕ} → l ≡ k → CountedAll N (T .bytes) (T .ends) l
+      counted-as e = record { is = e ∙ c .is; few = omega (arith, c .few) }
