@@ -5,6 +5,10 @@
  * keeps nothing, allocates nothing and returns in every case. docs/SPECIFICATION.md says what each
  * call does.
  *
+ * No call takes more than 32 KB of stack: resume takes 27 KB, remove 25 KB, scan and scan_length 21 KB,
+ * deal and deal_seed 3 KB, mark and begin 2 KB, and every other call less than 1 KB, whatever the size
+ * of the store.
+ *
  * A buffer is a pointer and the number of its elements, which can be read, and written where the call
  * writes. The pointer is aligned for its element, and may be null where that number is 0, as an empty
  * C++ vector has it. No call can find out by itself whether that is so.

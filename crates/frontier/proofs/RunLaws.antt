@@ -2,20 +2,13 @@
 use mathlib.Core.Path.{_≡_, refl, sym, ap, _∙_}
 use mathlib.Core.Bool.{Bool, true, false}
 use mathlib.Core.List.{List}
-use mathlib.Core.Logic.{by-cases}
 use Prim.Native.Nat.{ℕ, suc, _+_, _-_, _≤_, _<_}
-use native.Mathlib.Decide.{decLt}
 use native.Mathlib.Numerals.{add-one}
 use native.Mathlib.Omega.{arith}
 use lib.ListN.{length, getD, drop, replicate, length-drop, length-replicate, getD-replicate}
 use lib.Seq.{getD-drop, ext-getD}
 use Rattle.laws.specs.Decides.{Decides}
-use Rattle.laws.specs.Span.{span}
-use Rattle.laws.specs.Sum.{hit}
 use Rattle.laws.proofs.Decides.{never, decides-same}
-use Rattle.laws.proofs.Passing.{span-after}
-use Rattle.laws.proofs.Span.{span-hit-in, span-hit-one}
-use Rattle.slices.specs.Bits.{bit, Inserts}
 use Rattle.graph.specs.Graph.{Graph, Leaves, references}
 use Rattle.graph.proofs.OverMarked.{after-limit}
 use Rattle.machine.specs.Sound.{Marked, Within, Whole}

@@ -3,7 +3,7 @@ use desk::places;
 use protocol::fields;
 use worker::registers;
 ghost use mathlib.Core.Path.{_≡_};
-ghost use Prim.Native.Nat.{_+_, _-_, _*_, _≤_, _<_};
+ghost use Prim.Native.Nat.{_+_, _-_, _≤_, _<_};
 ghost use lib.ListN.{length, getD, drop, replicate};
 ghost use Rattle.laws.specs.Decides.{Decides};
 ghost use Rattle.graph.specs.Graph.{graph};

@@ -12,7 +12,7 @@ use Rattle.refusal.specs.declared.Refusal.{Refusal}
 use Rattle.refusal.specs.declared.Refusal.the-variants.{Count, Buffer, Graph as NoGraph, Object, Marks}
 use Rattle.refusal.specs.declared.Verdict.{Verdict}
 use Rattle.refusal.specs.declared.Verdict.the-variants.{Fine, Faulty}
-use Rattle.refusal.specs.Number.{number, numberOf}
+use Rattle.refusal.specs.Number.{numberOf}
 use Rattle.refusal.specs.Order.{raise}
 use Rattle.refusal.proofs.None.{raise-none, first-none, or-none}
 use Rattle.refusal.proofs.Numbers.{numbered, when-fine, when-faulty}

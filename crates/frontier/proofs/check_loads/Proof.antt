@@ -1,6 +1,4 @@
 -- `frontier::check_loads` meets its contract: the stretches one by one, then the references of all of them.
-use borrow.Author.Needs.{needs}
-use native.Mathlib.Omega.{arith}
 use borrow.Author.Tests.{not-true, not-false}
 use Rattle.frontier.proofs.LoadLaws.{loaded-none, loaded-wrong, loaded-unmarked, loaded}
 use Rattle.frontier.proofs.check_loads.Statement.{statement}

@@ -1,14 +1,13 @@
 -- `marks::targets_marked` meets its contract: it holds of each object passed, and the window's references leave no others.
 use borrow.Author.Needs.{needs}
 use native.Mathlib.Omega.{arith}
-use Prim.Native.Nat.{ℕ, suc, _+_, _-_, _≤_, _<_, min, max}
+use Prim.Native.Nat.{ℕ, _+_, _-_, _≤_, _<_, min, max}
 use mathlib.Core.Path.{_≡_}
 use mathlib.Core.Logic.{⊎-elim, by-cases}
 use native.Mathlib.Decide.{decLt}
 use native.Mathlib.Numerals.{add-one}
-use lib.ListN.{length, getD}
+use lib.ListN.{getD}
 use borrow.Author.Tests.{not-true, not-false}
-use Rattle.laws.specs.Decides.{Decides}
 use Rattle.laws.proofs.Decides.{decides-no, decides-yes, refuted}
 use Rattle.machine.specs.Sound.{Marked}
 use Rattle.marks.specs.Marks.{PartMarked}

@@ -9,7 +9,7 @@ use lib.ListN.{length}
 use Rattle.slices.specs.Bits.{word-bits}
 use Rattle.graph.specs.Graph.{graph}
 use Rattle.changes.specs.Stores.{stays}
-use Rattle.changes.specs.Taking.{KeptTo, Gathered}
+use Rattle.changes.specs.Taking.{KeptTo}
 use Rattle.changes.proofs.Keeping.{offsets-climb, kept-none, window-ready, window-kept, bounds-all, places-all}
 use Rattle.remove.proofs.keep.Statement.{statement}
 use Rattle.remove.proofs.keep.Tie as tie

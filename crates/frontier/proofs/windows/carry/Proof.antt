@@ -1,7 +1,7 @@
 -- `frontier::windows::carry` meets its contract: the loop keeps `CarriedAt`, that the references passed are in the set besides.
 use borrow.Author.Needs.{needs}
 use native.Mathlib.Omega.{arith}
-use Prim.Native.Nat.{_≤_, _<_, _-_, min, max}
+use Prim.Native.Nat.{_<_, _-_, min}
 use mathlib.Core.Path.{_∙_}
 use borrow.Author.Tests.{not-true, not-false}
 use Rattle.frontier.proofs.WindowLaws.{CarriedAt, carried-start, carried-next, carried-twice, carried-end, takes-not}

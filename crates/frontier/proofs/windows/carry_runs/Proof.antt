@@ -1,7 +1,7 @@
 -- `frontier::windows::carry_runs` meets its contract: the loop keeps `TakenAt`, that what is left of the runs makes up the whole.
 use borrow.Author.Needs.{needs}
 use native.Mathlib.Omega.{arith}
-use Prim.Native.Nat.{_+_, _-_, _*_}
+use Prim.Native.Nat.{_-_}
 use mathlib.Core.Path.{_∙_}
 use borrow.Author.Tests.{not-true, not-false}
 use Rattle.frontier.proofs.StretchLaws.{runs-none, runs-out}
