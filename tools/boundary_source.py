@@ -45,6 +45,7 @@ class Record:
     go_names: Dict[str, str] = field(default_factory=dict)
     flags: Dict[str, str] = field(default_factory=dict)
     counts: Dict[str, str] = field(default_factory=dict)
+    begins: str = ""  # the record whose fields stand before its own
     of: str = ""  # the constant of the crates that is its number of fields
     moved: str = ""  # the parameter that is this record
     each: str = ""  # the parameter that has one for each worker
@@ -286,6 +287,9 @@ class Boundary:
                 raise Fault(f"{call.place}: kullneyra_{name} has no row in {TABLE}")
         self.take_counts(counts_in(text(COUNTS)))
         for record in self.records.values():
+            if record.begins:
+                self.begin_as(record)
+        for record in self.records.values():
             record.type = self.type_of(record)
             where, words = f"records.{record.name}", len(record.fields)
             if record.of and constant_in(sources, record.of, where) != words:
@@ -357,6 +361,17 @@ class Boundary:
             record.fields = {**record.fields, **record.counts}
             return
         raise Fault(f"{TABLE}: no record has the counts")
+
+    def begin_as(self, record: Record) -> None:
+        """The fields of another record stand before its own."""
+        first = self.records.get(record.begins)
+        if first is None or first.begins:
+            raise Fault(f"{TABLE}: [records.{record.name}]: no record {record.begins} to begin with")
+        for name in record.fields:
+            if name in first.fields:
+                raise Fault(f"{TABLE}: [records.{record.name}]: {record.begins} has a field {name}, too")
+        record.fields = {**first.fields, **record.fields}
+        record.flags = {**first.flags, **record.flags}
 
     def type_of(self, record: Record) -> str:
         """The type of a record's words, by the parameters that hold it."""

@@ -87,12 +87,12 @@ int main(int count, char **word) {
     uint8_t *marks = lend(KULLNEYRA_MARKS(store.n), 1);
     uint32_t *work = lend(KULLNEYRA_WORK(store.n, workers), 4), *saved = lend(saved_words, 4);
     uint64_t *tallies = lend(KULLNEYRA_TALLIES(workers), 8);
-    struct kullneyra_marked marked;
+    struct kullneyra_stopped stopped;
 #define TURNS(call, from, length)                                                                                       \
     check(kullneyra_##call##_into(offsets, KULLNEYRA_OFFSETS(store.n), targets, KULLNEYRA_TARGETS(store.m), starts,      \
                                   store.starts, workers, batch, cutoff, schedule + (from), length, marks,                \
                                   KULLNEYRA_MARKS(store.n), work, KULLNEYRA_WORK(store.n, workers), tallies,             \
-                                  KULLNEYRA_TALLIES(workers), saved, saved_words, &marked),                              \
+                                  KULLNEYRA_TALLIES(workers), saved, saved_words, &stopped),                              \
           #call)
     /* The whole order once, so that it is refused before a turn is drawn. */
     TURNS(begin, 0, schedule_len);
@@ -112,9 +112,9 @@ int main(int count, char **word) {
     words("saved", saved, saved_words);
     const size_t turns = schedule_len / 2;
     size_t turn = 0;
-    while (turn < turns && turn < most && !marked.finished) {
+    while (turn < turns && turn < most && !stopped.finished) {
         TURNS(resume, 2 * turn, 2);
-        printf("turn %u %u %u\n", (unsigned)schedule[2 * turn], (unsigned)schedule[2 * turn + 1], (unsigned)marked.finished);
+        printf("turn %u %u %u\n", (unsigned)schedule[2 * turn], (unsigned)schedule[2 * turn + 1], (unsigned)stopped.finished);
         words("saved", saved, saved_words);
         turn++;
     }
@@ -124,7 +124,7 @@ int main(int count, char **word) {
     check(kullneyra_sweep_into(marks, KULLNEYRA_MARKS(store.n), sizes, KULLNEYRA_SIZES(store.n), list,
                                KULLNEYRA_LIST(store.n), &swept),
           "sweep");
-    if (marked.finished) {
+    if (stopped.finished) {
         printf("freed %llu\n", (unsigned long long)swept.freed);
         words("dead", list, swept.count);
     }

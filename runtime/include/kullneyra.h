@@ -174,7 +174,7 @@ struct kullneyra_part {
     uint64_t length;
 };
 
-/* mark, begin, resume: what the turns did, over all calls of a collection. */
+/* mark: what the turns did. */
 struct kullneyra_marked {
     uint64_t finished; /* 1 if every worker has ended, else 0 */
     uint64_t live;     /* marked objects */
@@ -187,6 +187,18 @@ struct kullneyra_marked {
 
 /* The counts of a marking by name, in the same order: X(live) X(followed) and so on. */
 #define KULLNEYRA_COUNTS(X) X(live) X(followed) X(handed) X(refused) X(moved) X(carrying)
+
+/* begin, resume: what the turns did, over all calls of a collection, and whether what is saved can be taken up. */
+struct kullneyra_stopped {
+    uint64_t finished; /* 1 if every worker has ended, else 0 */
+    uint64_t live;     /* marked objects */
+    uint64_t followed; /* references followed */
+    uint64_t handed;   /* polls that shared */
+    uint64_t refused;  /* askers that were refused */
+    uint64_t moved;    /* turns that changed something */
+    uint64_t carrying; /* workers that carry references now */
+    uint64_t sound;    /* 1 if the saved words hold a sound collection, else 0: they will be refused */
+};
 
 /* mark: what one worker did, over its own turns. Over all workers, followed and handed add up to those of the
  * marking, and the won claims and the different starts make its live. */
@@ -223,7 +235,8 @@ struct kullneyra_drawn {
 #define KULLNEYRA_HEADER_WORDS (sizeof(struct kullneyra_head) / sizeof(uint32_t)) /* header, market_header, import */
 #define KULLNEYRA_READ_WORDS (sizeof(struct kullneyra_store) / sizeof(uint32_t)) /* read */
 #define KULLNEYRA_PART_WORDS (sizeof(struct kullneyra_part) / sizeof(uint64_t)) /* references */
-#define KULLNEYRA_MARK_WORDS (sizeof(struct kullneyra_marked) / sizeof(uint64_t)) /* mark, begin, resume */
+#define KULLNEYRA_MARK_WORDS (sizeof(struct kullneyra_marked) / sizeof(uint64_t)) /* mark */
+#define KULLNEYRA_STOP_WORDS (sizeof(struct kullneyra_stopped) / sizeof(uint64_t)) /* begin, resume */
 #define KULLNEYRA_SWEEP_WORDS (sizeof(struct kullneyra_swept) / sizeof(uint64_t)) /* sweep */
 #define KULLNEYRA_LENGTH_WORDS (sizeof(struct kullneyra_length) / sizeof(uint64_t)) /* schedule_length */
 #define KULLNEYRA_SEED_WORDS (sizeof(struct kullneyra_seed) / sizeof(uint32_t)) /* draw, deal_seed */
@@ -263,7 +276,7 @@ uint32_t kullneyra_saved_words(uint32_t objects, uint32_t workers, uint64_t *res
 
 /* As kullneyra_mark, and saves the collection: everything that is needed to go on later stands in the saved words,
  * marks too. Nobody has to keep the other buffers, but the graph, the starts and the settings are passed again. The
- * words are for this library; docs/SPECIFICATION.md, 8.1, has their layout. */
+ * words are for this library; docs/SPECIFICATION.md, 8.1, has their layout. What is saved is sound. */
 uint32_t kullneyra_begin(const uint32_t *offsets, size_t offsets_len, const uint32_t *targets, size_t targets_len,
                          const uint32_t *starts, size_t starts_len, uint32_t workers, uint32_t batch, uint32_t cutoff,
                          const uint8_t *schedule, size_t schedule_len, uint8_t *marks, size_t marks_len, uint32_t *work,
@@ -273,7 +286,9 @@ uint32_t kullneyra_begin(const uint32_t *offsets, size_t offsets_len, const uint
 /* Takes a saved collection up with more turns, and saves it again. A collection that was begun with the same graph,
  * starts and settings ends as one call with all the turns would have ended it, counts and tallies included. Marks,
  * work and tallies need not hold anything before. Saved words that hold no sound collection are KULLNEYRA_UNSOUND.
- * Whoever wrote them: a collection that is finished has marked all that lives. */
+ * Whoever wrote them: a collection that is finished has marked all that lives. The answer's sound tells whether
+ * kullneyra_resume would take up what is saved now: it is 0 only where somebody else wrote the words, and turns took
+ * moved or handed above its bound. */
 uint32_t kullneyra_resume(const uint32_t *offsets, size_t offsets_len, const uint32_t *targets, size_t targets_len,
                           const uint32_t *starts, size_t starts_len, uint32_t workers, uint32_t batch, uint32_t cutoff,
                           const uint8_t *schedule, size_t schedule_len, uint8_t *marks, size_t marks_len,
@@ -494,7 +509,7 @@ static inline uint32_t kullneyra_begin_into(const uint32_t *offsets, size_t offs
                                             uint32_t workers, uint32_t batch, uint32_t cutoff, const uint8_t *schedule,
                                             size_t schedule_len, uint8_t *marks, size_t marks_len, uint32_t *work,
                                             size_t work_len, uint64_t *tallies, size_t tallies_len, uint32_t *saved,
-                                            size_t saved_len, struct kullneyra_marked *answer) {
+                                            size_t saved_len, struct kullneyra_stopped *answer) {
     const struct kullneyra_range ranges[] = {
         kullneyra_range(marks, marks_len, sizeof *marks),
         kullneyra_range(work, work_len, sizeof *work),
@@ -507,10 +522,10 @@ static inline uint32_t kullneyra_begin_into(const uint32_t *offsets, size_t offs
     };
     if (kullneyra_shared(ranges, 4, 8, answer, sizeof *answer))
         return KULLNEYRA_BUFFER;
-    uint64_t words[KULLNEYRA_MARK_WORDS] = {0};
+    uint64_t words[KULLNEYRA_STOP_WORDS] = {0};
     const uint32_t number = kullneyra_begin(offsets, offsets_len, targets, targets_len, starts, starts_len, workers,
                                             batch, cutoff, schedule, schedule_len, marks, marks_len, work, work_len,
-                                            tallies, tallies_len, saved, saved_len, words, KULLNEYRA_MARK_WORDS);
+                                            tallies, tallies_len, saved, saved_len, words, KULLNEYRA_STOP_WORDS);
     memcpy(answer, words, sizeof *answer);
     return number;
 }
@@ -520,7 +535,7 @@ static inline uint32_t kullneyra_resume_into(const uint32_t *offsets, size_t off
                                              uint32_t workers, uint32_t batch, uint32_t cutoff, const uint8_t *schedule,
                                              size_t schedule_len, uint8_t *marks, size_t marks_len, uint32_t *work,
                                              size_t work_len, uint64_t *tallies, size_t tallies_len, uint32_t *saved,
-                                             size_t saved_len, struct kullneyra_marked *answer) {
+                                             size_t saved_len, struct kullneyra_stopped *answer) {
     const struct kullneyra_range ranges[] = {
         kullneyra_range(marks, marks_len, sizeof *marks),
         kullneyra_range(work, work_len, sizeof *work),
@@ -533,10 +548,10 @@ static inline uint32_t kullneyra_resume_into(const uint32_t *offsets, size_t off
     };
     if (kullneyra_shared(ranges, 4, 8, answer, sizeof *answer))
         return KULLNEYRA_BUFFER;
-    uint64_t words[KULLNEYRA_MARK_WORDS] = {0};
+    uint64_t words[KULLNEYRA_STOP_WORDS] = {0};
     const uint32_t number = kullneyra_resume(offsets, offsets_len, targets, targets_len, starts, starts_len, workers,
                                              batch, cutoff, schedule, schedule_len, marks, marks_len, work, work_len,
-                                             tallies, tallies_len, saved, saved_len, words, KULLNEYRA_MARK_WORDS);
+                                             tallies, tallies_len, saved, saved_len, words, KULLNEYRA_STOP_WORDS);
     memcpy(answer, words, sizeof *answer);
     return number;
 }

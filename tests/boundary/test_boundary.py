@@ -299,13 +299,22 @@ class Counts(Boundary):
             HEADER: ("uint64_t moved;    /* turns that changed something */\n    uint64_t parked;   /* workers that wait */", "X(moved) X(parked) X(carrying)"),
             RAW: ("moved, parked, carrying.",),
             TYPED: ("    /// Workers that wait.\n    pub parked: u64,", '"moved", "parked", "carrying"', "pub const WORDS: usize = 8;", "u64::from(finished), live, followed, handed, refused, moved, parked, carrying]"),
-            COMPARE: ("[3, 4, 2, 8, 1, 8, 8,",),
+            COMPARE: ("[3, 4, 2, 8, 1, 9, 9,",),
             GO: ("Parked   uint64 // workers that wait", "Parked:   uint64(a.parked),"),
         }.items():
             for part in parts:
                 self.assertTrue(part in self.text(path), part)
         # The C example prints every count by the header's list.
         self.compiles(TOP / "runtime/c/collect.c")
+
+    def test_fields_that_stand_before_others(self):
+        kept = self.text(TABLE)
+        for new in ("marking", "stopped"):
+            self.edit(TABLE, 'begins = "marked"', f'begins = "{new}"')
+            self.assert_fault(f"[records.stopped]: no record {new} to begin with")
+            (self.top / TABLE).write_text(kept, encoding="utf-8")
+        self.edit(TABLE, 'fields = { sound = "1 if', 'fields = { live = "1 if')
+        self.assert_fault("[records.stopped]: marked has a field live, too")
 
     def test_many_counts_fit(self):
         names = [f"count_{number}" for number in range(12)]

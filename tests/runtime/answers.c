@@ -68,12 +68,13 @@ int main(void) {
     uint8_t marks[KULLNEYRA_MARKS(2)];
     uint32_t work[KULLNEYRA_WORK(2, 1)];
     uint64_t tallies[KULLNEYRA_TALLIES(1)];
-    uint32_t saved[KULLNEYRA_SAVED(2, 1)];
+    uint32_t saved[KULLNEYRA_SAVED(2, 1)], foreign[KULLNEYRA_SAVED(2, 1)];
     uint64_t saved_words;
     struct kullneyra_head head;
     struct kullneyra_store store;
     struct kullneyra_part part;
     struct kullneyra_marked marked;
+    struct kullneyra_stopped stopped;
     struct kullneyra_tally tally;
     struct kullneyra_swept swept;
     struct kullneyra_length length;
@@ -171,38 +172,55 @@ int main(void) {
     REFUSED("begin, short saved words", KULLNEYRA_BUFFER,
             kullneyra_begin_into(offsets, 3, targets, 1, &head.index, 1, 1, 1, 1, turns, 4, marks, 2, work,
                                  KULLNEYRA_WORK(2, 1), tallies, KULLNEYRA_TALLIES(1), saved, KULLNEYRA_SAVED(2, 1) - 1,
-                                 &marked),
-            marked);
+                                 &stopped),
+            stopped);
     ACCEPTED("begin",
              kullneyra_begin_into(offsets, 3, targets, 1, &head.index, 1, 1, 1, 1, turns, 4, marks, 2, work,
                                   KULLNEYRA_WORK(2, 1), tallies, KULLNEYRA_TALLIES(1), saved, KULLNEYRA_SAVED(2, 1),
-                                  &marked),
-             marked);
-    expect("begin, unfinished", 0, marked.finished);
-    expect("begin, moved", 2, marked.moved);
+                                  &stopped),
+             stopped);
+    expect("begin, unfinished", 0, stopped.finished);
+    expect("begin, sound", 1, stopped.sound);
+    expect("begin, moved", 2, stopped.moved);
+    /* Somebody else's words, with moved at its bound 7m + W: a turn more, and they cannot be taken up again. */
+    memcpy(foreign, saved, sizeof saved);
+    foreign[9] = 8;
+    ACCEPTED("resume, moved at its bound",
+             kullneyra_resume_into(offsets, 3, targets, 1, &head.index, 1, 1, 1, 1, turns, 2, marks, 2, work,
+                                   KULLNEYRA_WORK(2, 1), tallies, KULLNEYRA_TALLIES(1), foreign, KULLNEYRA_SAVED(2, 1),
+                                   &stopped),
+             stopped);
+    expect("resume, moved above its bound", 9, stopped.moved);
+    expect("resume, a dead end", 0, stopped.sound);
+    REFUSED("resume, behind a dead end", KULLNEYRA_UNSOUND,
+            kullneyra_resume_into(offsets, 3, targets, 1, &head.index, 1, 1, 1, 1, turns, 2, marks, 2, work,
+                                  KULLNEYRA_WORK(2, 1), tallies, KULLNEYRA_TALLIES(1), foreign, KULLNEYRA_SAVED(2, 1),
+                                  &stopped),
+            stopped);
     memset(marks, 7, sizeof marks);
     memset(work, 7, sizeof work);
     memset(tallies, 7, sizeof tallies);
     REFUSED("resume, half a turn", KULLNEYRA_SCHEDULE,
             kullneyra_resume_into(offsets, 3, targets, 1, &head.index, 1, 1, 1, 1, turns, 1, marks, 2, work,
                                   KULLNEYRA_WORK(2, 1), tallies, KULLNEYRA_TALLIES(1), saved, KULLNEYRA_SAVED(2, 1),
-                                  &marked),
-            marked);
+                                  &stopped),
+            stopped);
     REFUSED("resume, another start", KULLNEYRA_UNSOUND,
             kullneyra_resume_into(offsets, 3, targets, 1, starts + 1, 1, 1, 1, 1, turns, 2, marks, 2, work,
                                   KULLNEYRA_WORK(2, 1), tallies, KULLNEYRA_TALLIES(1), saved, KULLNEYRA_SAVED(2, 1),
-                                  &marked),
-            marked);
+                                  &stopped),
+            stopped);
     expect("resume, nothing is written beside a refusal", 7, marks[0]);
     ACCEPTED("resume",
              kullneyra_resume_into(offsets, 3, targets, 1, &head.index, 1, 1, 1, 1, turns, 2, marks, 2, work,
                                    KULLNEYRA_WORK(2, 1), tallies, KULLNEYRA_TALLIES(1), saved, KULLNEYRA_SAVED(2, 1),
-                                   &marked),
-             marked);
-    expect("resume, finished", 1, marked.finished);
-    expect("resume, live", 1, marked.live);
-    expect("resume, followed", 1, marked.followed);
-    expect("resume, moved", 3, marked.moved);
+                                   &stopped),
+             stopped);
+    expect("resume, finished", 1, stopped.finished);
+    expect("resume, live", 1, stopped.live);
+    expect("resume, followed", 1, stopped.followed);
+    expect("resume, moved", 3, stopped.moved);
+    expect("resume, sound", 1, stopped.sound);
     expect("resume, the index's mark", 1, marks[0]);
     expect("resume, nobody's mark", 0, marks[1]);
     expect("resume, the tally", 1, kullneyra_tally_of(tallies, 0).followed);
@@ -210,8 +228,8 @@ int main(void) {
     REFUSED("resume, all zeros", KULLNEYRA_UNSOUND,
             kullneyra_resume_into(offsets, 3, targets, 1, &head.index, 1, 1, 1, 1, turns, 2, marks, 2, work,
                                   KULLNEYRA_WORK(2, 1), tallies, KULLNEYRA_TALLIES(1), saved, KULLNEYRA_SAVED(2, 1),
-                                  &marked),
-            marked);
+                                  &stopped),
+            stopped);
 
     REFUSED("sweep, long list", KULLNEYRA_BUFFER, kullneyra_sweep_into(marks, 2, sizes, 2, list, 3, &swept), swept);
     ACCEPTED("sweep", kullneyra_sweep_into(marks, 2, sizes, 2, list, 2, &swept), swept);

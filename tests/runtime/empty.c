@@ -16,7 +16,8 @@ int main(void) {
     static const uint32_t alone[2] = {0, 0};
     uint32_t head[KULLNEYRA_HEADER_WORDS] = {7, 7, 7}, store[KULLNEYRA_READ_WORDS] = {7, 7, 7, 7};
     uint32_t work[KULLNEYRA_WORK(1, 1)];
-    uint64_t part[KULLNEYRA_PART_WORDS] = {7, 7}, counts[KULLNEYRA_MARK_WORDS], swept[KULLNEYRA_SWEEP_WORDS];
+    uint64_t part[KULLNEYRA_PART_WORDS] = {7, 7}, counts[KULLNEYRA_MARK_WORDS], stopped[KULLNEYRA_STOP_WORDS];
+    uint64_t swept[KULLNEYRA_SWEEP_WORDS];
     uint64_t tallies[KULLNEYRA_TALLIES(1)] = {7, 7, 7, 7};
     uint32_t saved[KULLNEYRA_SAVED(1, 1)];
     uint8_t marks[KULLNEYRA_MARKS(1)];
@@ -54,27 +55,27 @@ int main(void) {
                           NULL, 0, counts, KULLNEYRA_MARK_WORDS));
     expect("no result words, saved_words", KULLNEYRA_BUFFER, kullneyra_saved_words(1, 1, NULL, 0));
     expect("no graph, begin", KULLNEYRA_COUNT,
-           kullneyra_begin(NULL, 0, NULL, 0, NULL, 0, 1, 1, 1, NULL, 0, NULL, 0, NULL, 0, NULL, 0, NULL, 0, counts,
-                           KULLNEYRA_MARK_WORDS));
+           kullneyra_begin(NULL, 0, NULL, 0, NULL, 0, 1, 1, 1, NULL, 0, NULL, 0, NULL, 0, NULL, 0, NULL, 0, stopped,
+                           KULLNEYRA_STOP_WORDS));
     expect("no result words, begin", KULLNEYRA_BUFFER,
            kullneyra_begin(NULL, 0, NULL, 0, NULL, 0, 1, 1, 1, NULL, 0, NULL, 0, NULL, 0, NULL, 0, NULL, 0, NULL, 0));
     expect("no saved words, begin", KULLNEYRA_BUFFER,
            kullneyra_begin(alone, KULLNEYRA_OFFSETS(1), NULL, 0, alone, 1, 1, 1, 1, NULL, 0, marks, KULLNEYRA_MARKS(1),
-                           work, KULLNEYRA_WORK(1, 1), tallies, KULLNEYRA_TALLIES(1), NULL, 0, counts,
-                           KULLNEYRA_MARK_WORDS));
+                           work, KULLNEYRA_WORK(1, 1), tallies, KULLNEYRA_TALLIES(1), NULL, 0, stopped,
+                           KULLNEYRA_STOP_WORDS));
     expect("no targets and no turns, begin", KULLNEYRA_OK,
            kullneyra_begin(alone, KULLNEYRA_OFFSETS(1), NULL, 0, alone, 1, 1, 1, 1, NULL, 0, marks, KULLNEYRA_MARKS(1),
                            work, KULLNEYRA_WORK(1, 1), tallies, KULLNEYRA_TALLIES(1), saved, KULLNEYRA_SAVED(1, 1),
-                           counts, KULLNEYRA_MARK_WORDS));
+                           stopped, KULLNEYRA_STOP_WORDS));
     expect("no graph, resume", KULLNEYRA_COUNT,
-           kullneyra_resume(NULL, 0, NULL, 0, NULL, 0, 1, 1, 1, NULL, 0, NULL, 0, NULL, 0, NULL, 0, NULL, 0, counts,
-                            KULLNEYRA_MARK_WORDS));
+           kullneyra_resume(NULL, 0, NULL, 0, NULL, 0, 1, 1, 1, NULL, 0, NULL, 0, NULL, 0, NULL, 0, NULL, 0, stopped,
+                            KULLNEYRA_STOP_WORDS));
     expect("no result words, resume", KULLNEYRA_BUFFER,
            kullneyra_resume(NULL, 0, NULL, 0, NULL, 0, 1, 1, 1, NULL, 0, NULL, 0, NULL, 0, NULL, 0, NULL, 0, NULL, 0));
     expect("no targets and no turns, resume", KULLNEYRA_OK,
            kullneyra_resume(alone, KULLNEYRA_OFFSETS(1), NULL, 0, alone, 1, 1, 1, 1, NULL, 0, marks,
                             KULLNEYRA_MARKS(1), work, KULLNEYRA_WORK(1, 1), tallies, KULLNEYRA_TALLIES(1), saved,
-                            KULLNEYRA_SAVED(1, 1), counts, KULLNEYRA_MARK_WORDS));
+                            KULLNEYRA_SAVED(1, 1), stopped, KULLNEYRA_STOP_WORDS));
     expect("no objects, sweep", KULLNEYRA_COUNT,
            kullneyra_sweep(NULL, 0, NULL, 0, NULL, 0, swept, KULLNEYRA_SWEEP_WORDS));
     expect("no result words, sweep", KULLNEYRA_BUFFER, kullneyra_sweep(NULL, 0, NULL, 0, NULL, 0, NULL, 0));

@@ -43,11 +43,11 @@ static uint32_t mark(unsigned char *at[]) {
 }
 static uint32_t begin(unsigned char *at[]) {
     return kullneyra_begin_into(OLD(0), WORDS(2, 1), 1, 1, 1, BYTES(3, 2), BYTES(4, 1), WORDS(5, WORK), LONGS(6, 4),
-                                WORDS(7, SAVED), INTO(8, marked));
+                                WORDS(7, SAVED), INTO(8, stopped));
 }
 static uint32_t resume(unsigned char *at[]) {
     return kullneyra_resume_into(OLD(0), WORDS(2, 1), 1, 1, 1, BYTES(3, 2), BYTES(4, 1), WORDS(5, WORK), LONGS(6, 4),
-                                 WORDS(7, SAVED), INTO(8, marked));
+                                 WORDS(7, SAVED), INTO(8, stopped));
 }
 static uint32_t sweep(unsigned char *at[]) {
     return kullneyra_sweep_into(BYTES(0, 1), LONGS(1, 1), WORDS(2, 1), INTO(3, swept));
@@ -86,8 +86,8 @@ static const Call calls[] = {
       ANSWER(struct kullneyra_store, uint32_t)}, 1},
     {"references", references, {GRAPH, ANSWER(struct kullneyra_part, uint64_t)}, 1},
     {"mark", mark, {MARKING, ANSWER(struct kullneyra_marked, uint64_t)}, 1},
-    {"begin", begin, {MARKING, WRITTEN(uint32_t, SAVED), ANSWER(struct kullneyra_marked, uint64_t)}, 1},
-    {"resume", resume, {MARKING, WRITTEN(uint32_t, SAVED), ANSWER(struct kullneyra_marked, uint64_t)}, 1},
+    {"begin", begin, {MARKING, WRITTEN(uint32_t, SAVED), ANSWER(struct kullneyra_stopped, uint64_t)}, 1},
+    {"resume", resume, {MARKING, WRITTEN(uint32_t, SAVED), ANSWER(struct kullneyra_stopped, uint64_t)}, 1},
     {"sweep", sweep, {READ(uint8_t, 1), READ(uint64_t, 1), WRITTEN(uint32_t, 1), ANSWER(struct kullneyra_swept, uint64_t)}, 1},
     {"deal", deal, {READ(uint32_t, 1), WRITTEN(uint8_t, 2)}, 0},
     {"draw", draw, {ANSWER(struct kullneyra_seed, uint32_t), ANSWER(struct kullneyra_drawn, uint32_t)}, 1},

@@ -169,11 +169,11 @@ static uint32_t saved_words(struct input *s) {
     return kullneyra_saved_words_into(s->n, s->workers, &a);
 }
 static uint32_t begin(struct input *s) {
-    struct kullneyra_marked a;
+    struct kullneyra_stopped a;
     return kullneyra_begin_into(RUN(s), SAVED(s), &a);
 }
 static uint32_t resume(struct input *s) {
-    struct kullneyra_marked a;
+    struct kullneyra_stopped a;
     return kullneyra_resume_into(RUN(s), SAVED(s), &a);
 }
 static uint32_t sweep(struct input *s) {

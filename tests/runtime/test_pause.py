@@ -187,6 +187,18 @@ class Pause(unittest.TestCase):
             self.assertEqual(self.saved(), kept)
         self.assertNotEqual(self.run_program("pause"), "refusal 14\n")
 
+    def test_dead_end(self):
+        """Words of somebody else with moved at its bound are taken up; what is kept then is told to be a dead end, and is refused."""
+        self.run_program("pause", "5")
+        kept = bytearray(self.saved()[:-32])
+        workers = (self.folder / "order.run").read_bytes()[0]
+        # The head, the form, and four counts of two words come before moved.
+        struct.pack_into("<Q", kept, 92 + 4 + 4 * 8, 7 * 150 + workers)
+        (self.folder / SAVED).write_bytes(kept + hashlib.sha256(kept).digest())
+        self.assertNotIn("dead end", self.run_program("pause", "0"))
+        self.assertRegex(self.run_program("pause", "200"), r"\ncarrying \d+\ndead end\nbox 0 ")
+        self.refused("its words hold no sound collection")
+
     def test_as_text(self):
         """A stopped collection told as text is the same file, and can be written by hand."""
         self.run_program("pause", "500")

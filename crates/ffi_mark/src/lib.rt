@@ -78,7 +78,7 @@ pub extern "C" fn kullneyra_begin(
         (now (marks .entry)) (now (work .entry)) (now (tallies .entry)) (now (saved .entry)) (now (result .entry))
         (now (marks .exit)) (now (work .exit)) (now (tallies .exit)) (now (saved .exit)) (now (result .exit)) r ⌝ }
 {
-    if result.len() != kullneyra::MARK_WORDS {
+    if result.len() != kullneyra::STOP_WORDS {
         return kullneyra::BUFFER;
     }
     let answer = begin::begin(
@@ -96,7 +96,7 @@ pub extern "C" fn kullneyra_begin(
         tallies,
         saved,
     );
-    kullneyra::give_marked(answer, result)
+    kullneyra::give_stopped(answer, true, result)
 }
 
 // Takes a saved collection up, and saves it again.
@@ -119,10 +119,10 @@ pub extern "C" fn kullneyra_resume(
         (now (marks .entry)) (now (work .entry)) (now (tallies .entry)) (now (saved .entry)) (now (result .entry))
         (now (marks .exit)) (now (work .exit)) (now (tallies .exit)) (now (saved .exit)) (now (result .exit)) r ⌝ }
 {
-    if result.len() != kullneyra::MARK_WORDS {
+    if result.len() != kullneyra::STOP_WORDS {
         return kullneyra::BUFFER;
     }
-    let answer = resume::resume(
+    let resumed = resume::resume(
         offsets,
         targets,
         starts,
@@ -137,7 +137,8 @@ pub extern "C" fn kullneyra_resume(
         tallies,
         saved,
     );
-    kullneyra::give_marked(answer, result)
+    let answer = resumed.marked;
+    kullneyra::give_stopped(answer, resumed.sound, result)
 }
 
 // The sweep; result words: count, freed.

@@ -1,6 +1,7 @@
 -- From what a call below promises to what its exported function promises: the answer is the row's number, and without a fault the result
 -- words are the row's.
 use mathlib.Core.Path.{_≡_, refl, sym, _∙_, ap}
+use mathlib.Core.Bool.{Bool, true}
 use mathlib.Core.List.{List}
 use mathlib.Core.Logic.{_↔_}
 use Prim.Native.Nat.{ℕ, zero, suc}
@@ -24,7 +25,7 @@ use Rattle.seed.specs.declared.Seed.{Seed}
 use Rattle.seed.specs.declared.Dealt.the-variants.{Moved}
 use Rattle.seed.specs.Deal.{Deals}
 use Rattle.matrix.specs.Promise.{Accepts}
-use Rattle.kullneyra.specs.Calls.{readWords, markWords, sweptWords, headerWords}
+use Rattle.kullneyra.specs.Calls.{readWords, markWords, stopWords, sweptWords, headerWords}
 use Rattle.kullneyra.specs.Promise.{ReadPromise, MarkPromise, BeginPromise, ResumePromise, SweepPromise, DealPromise, ImportPromise}
 
 -- the result words of a call without a fault
@@ -78,36 +79,48 @@ module _ (result : List ℕ) {result′ : List ℕ} (r : Marked) {answer : ℕ}
         collected = a .promise none;
       }
 
-  module _ {saved saved′ : List ℕ} where
-    pub begin-promise : Begun c marks work tallies saved r marks′ work′ tallies′ saved′ → answer ≡ 0
-        → BeginPromise c marks′ work′ tallies′ saved′ result′
-    begin-promise a z =
-        let k = beginFault c (length marks) (length work) (length tallies) (length saved) in
-        let none : k ≡ 0 = sym (answer-is e (a .answers .row-is) (saved-number (final c) k)) ∙ z in
-        record { row = row r; told = words-told (markWords (row r)) result e w z; afresh = a .afresh none; joined = a .joined none }
+-- the calls that save
+module _ (result : List ℕ) {result′ : List ℕ} (r : Marked) {sound : Bool} {answer : ℕ}
+    (e : answer ≡ row r .number) (w : result′ ≡ unlessRefused (row r .number) (stopWords (row r) sound) result)
+    {c : Call} {marks work tallies marks′ work′ tallies′ saved saved′ : List ℕ} where
+  pub begin-promise : Begun c marks work tallies saved r marks′ work′ tallies′ saved′ → sound ≡ true → answer ≡ 0
+      → BeginPromise c marks′ work′ tallies′ saved′ result′
+  begin-promise a t z =
+      let k = beginFault c (length marks) (length work) (length tallies) (length saved) in
+      let none : k ≡ 0 = sym (answer-is e (a .answers .row-is) (saved-number (final c) k)) ∙ z in
+      record {
+        row = row r;
+        sound = sound;
+        told = words-told (stopWords (row r) sound) result e w z;
+        sound-is = t ∙ sym (a .afresh none .sound);
+        afresh = a .afresh none;
+        joined = a .joined none;
+      }
 
-    module _ (a : Continued c marks work tallies saved r marks′ work′ tallies′ saved′) where
-      resume-number : answer ≡ resumeFault c (length marks) (length work) (length tallies) saved
-      resume-number =
-          let k = resumeFault c (length marks) (length work) (length tallies) saved in
-          answer-is e (a .answers .row-is) (saved-number (resumed c saved) k)
+  module _ (a : Continued c marks work tallies saved r sound marks′ work′ tallies′ saved′) where
+    resume-number : answer ≡ resumeFault c (length marks) (length work) (length tallies) saved
+    resume-number =
+        let k = resumeFault c (length marks) (length work) (length tallies) saved in
+        answer-is e (a .answers .row-is) (saved-number (resumed c saved) k)
 
-      pub resume-exactly : beginFault c (length marks) (length work) (length tallies) (length saved) ≡ 0
-          → (answer ≡ 0) ↔ ((s : State) × SavedRun (graphOf c) (c .starts) (c .workers) (settingOf c) saved s)
-      resume-exactly b = (λ z. a .exactly b .0 (sym resume-number ∙ z), λ x. resume-number ∙ a .exactly b .1 x)
+    pub resume-exactly : beginFault c (length marks) (length work) (length tallies) (length saved) ≡ 0
+        → (answer ≡ 0) ↔ ((s : State) × SavedRun (graphOf c) (c .starts) (c .workers) (settingOf c) saved s)
+    resume-exactly b = (λ z. a .exactly b .0 (sym resume-number ∙ z), λ x. resume-number ∙ a .exactly b .1 x)
 
-      pub resume-promise : answer ≡ 0 → ResumePromise c saved marks′ work′ tallies′ saved′ result′
-      unfolding resumeFault
-      resume-promise z =
-          let none = sym resume-number ∙ z in
-          record {
-            row = row r;
-            told = words-told (markWords (row r)) result e w z;
-            all-marked = a .all-marked none;
-            waits = a .waits none;
-            joined = a .joined none;
-            afresh = λ xs q. a .afresh xs q (first-none _ _ none .0);
-          }
+    pub resume-promise : answer ≡ 0 → ResumePromise c saved marks′ work′ tallies′ saved′ result′
+    unfolding resumeFault
+    resume-promise z =
+        let none = sym resume-number ∙ z in
+        record {
+          row = row r;
+          sound = sound;
+          told = words-told (stopWords (row r) sound) result e w z;
+          sound-is = a .tells none;
+          all-marked = a .all-marked none;
+          waits = a .waits none;
+          joined = a .joined none;
+          afresh = λ xs q. a .afresh xs q (first-none _ _ none .0);
+        }
 
 -- ---- deal_seed
 

@@ -3,7 +3,7 @@
 use mathlib.Core.Path.{_≡_}
 use Prim.Native.Nat.{ℕ, suc}
 use mathlib.Core.Bool.{Bool, true, false}
-use mathlib.Core.List.{List, [], _∷_}
+use mathlib.Core.List.{List, [], _∷_, _++_}
 use lib.ListN.{length, getD, replicate}
 use lib.Dec.{eqb}
 use Rattle.laws.specs.Choice.{pick}
@@ -19,9 +19,10 @@ use Rattle.machine.specs.declared.Counts.{Counts}
 use Rattle.machine.specs.Row.{Row as MarkRow, countWords}
 use Rattle.machine.specs.Tally.{talliesWords}
 use Rattle.machine.specs.Machine.{State, memory}
-use Rattle.machine.specs.Call.{Call, graphOf, final, marking, marksAfter, workAfter, talliesAfter}
+use Rattle.machine.specs.Call.{Call, graphOf, settingOf, final, marking, marksAfter, workAfter, talliesAfter}
 use Rattle.sweep.specs.Sweep.{Row as SweepRow, sweeping, listAfter}
 use Rattle.saved.specs.Layout.{savedWords}
+use Rattle.saved.specs.Test.{saved?}
 use Rattle.saved.specs.Calls.{beginFault, resumeFault, resumed, rowFor}
 use Rattle.seed.specs.declared.Seed.{Seed}
 use Rattle.seed.specs.Draw.{next, drawn, drawRow}
@@ -129,16 +130,26 @@ pub record LengthIn (r : LengthRow) (result result′ : List ℕ) (answer : ℕ)
   pub answers : answer ≡ answerIn 1 result (r .number)
   pub fills-result : result′ ≡ unlessRefused (answerIn 1 result (r .number)) (r .long ∷ []) result
 
--- ---- begin and resume: the words of mark, and the saved ones
+-- ---- begin and resume: the words of mark, whether what is saved is sound, and the saved words
+
+abbrev pub stop-words : ℕ
+stop-words = suc mark-words
+
+abbrev pub stopWords : MarkRow → Bool → List ℕ
+stopWords r sound = markWords r ++ (flag sound ∷ [])
+
+-- whether these words of a state are sound, by the test of the next call
+abbrev pub soundFor : Call → State → Bool
+soundFor c s = saved? (graphOf c) (c .starts) (c .workers) (settingOf c) (savedWords (objects (graphOf c)) s)
 
 -- the number answered and every lent byte and word afterwards, where k is the number of the call's fault and s the state that it reaches
 pub record SavesIn (c : Call) (k : ℕ) (s : State) (marks work tallies w result marks′ work′ tallies′ w′ result′ : List ℕ) (answer : ℕ) : Type 0 where
-  pub answers : answer ≡ answerIn mark-words result (rowFor k s .number)
-  pub fills-marks : marks′ ≡ pick (eqb (length result) mark-words) (unlessRefused k (s .marks) marks) marks
-  pub fills-work : work′ ≡ pick (eqb (length result) mark-words) (unlessRefused k (memory (objects (graphOf c)) (s .workers)) work) work
-  pub fills-tallies : tallies′ ≡ pick (eqb (length result) mark-words) (unlessRefused k (talliesWords (s .tallies)) tallies) tallies
-  pub fills-saved : w′ ≡ pick (eqb (length result) mark-words) (unlessRefused k (savedWords (objects (graphOf c)) s) w) w
-  pub fills-result : result′ ≡ unlessRefused (answerIn mark-words result (rowFor k s .number)) (markWords (rowFor k s)) result
+  pub answers : answer ≡ answerIn stop-words result (rowFor k s .number)
+  pub fills-marks : marks′ ≡ pick (eqb (length result) stop-words) (unlessRefused k (s .marks) marks) marks
+  pub fills-work : work′ ≡ pick (eqb (length result) stop-words) (unlessRefused k (memory (objects (graphOf c)) (s .workers)) work) work
+  pub fills-tallies : tallies′ ≡ pick (eqb (length result) stop-words) (unlessRefused k (talliesWords (s .tallies)) tallies) tallies
+  pub fills-saved : w′ ≡ pick (eqb (length result) stop-words) (unlessRefused k (savedWords (objects (graphOf c)) s) w) w
+  pub fills-result : result′ ≡ unlessRefused (answerIn stop-words result (rowFor k s .number)) (stopWords (rowFor k s) (soundFor c s)) result
 
 -- a collection begun, and one taken up from its saved words
 abbrev pub BeginsIn : Call → List ℕ → List ℕ → List ℕ → List ℕ → List ℕ → List ℕ → List ℕ → List ℕ → List ℕ → List ℕ → ℕ → Type 0

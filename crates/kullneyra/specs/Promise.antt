@@ -1,7 +1,7 @@
 -- What users are promised of the calls that they link: the numbers and words of `Calls`, and of the words that a call leaves the demands
 -- and what the notes say. deal and export cite the promise of the call below, and hops, add and remove have it in `Calls`.
 use mathlib.Core.Path.{_≡_}
-use mathlib.Core.Bool.{true}
+use mathlib.Core.Bool.{Bool, true}
 use mathlib.Core.List.{List, _++_}
 use mathlib.Core.Logic.{_↔_}
 use Prim.Native.Nat.{ℕ, _<_}
@@ -22,6 +22,7 @@ use Rattle.sweep.specs.Sweep.{Row as SweepRow}
 use Rattle.sweep.specs.Collection.{Collection}
 use Rattle.saved.specs.Layout.{savedWords}
 use Rattle.saved.specs.Sound.{SavedRun}
+use Rattle.saved.specs.Test.{saved?}
 use Rattle.saved.specs.Calls.{beginFault, resumed, resumedBy, Afresh, Joined}
 use Rattle.cards.specs.Hand.{Rounds}
 use Rattle.seed.specs.declared.Seed.{Seed}
@@ -29,7 +30,7 @@ use Rattle.seed.specs.declared.Drawn.the-variants.{Card}
 use Rattle.seed.specs.Draw.{drawn}
 use Rattle.seed.specs.Deal.{afterDraws, handOf}
 use Rattle.matrix.specs.Promise.{Accepts}
-use Rattle.kullneyra.specs.Calls.{readWords, mark-words, markWords, sweptWords, headerWords, ReadsIn, MarksIn, BeginsIn, ResumesIn, ImportsIn}
+use Rattle.kullneyra.specs.Calls.{readWords, markWords, stop-words, stopWords, sweptWords, headerWords, ReadsIn, MarksIn, BeginsIn, ResumesIn, ImportsIn}
 
 -- ---- read
 
@@ -63,7 +64,10 @@ pub record Marks (c : Call) (marks work tallies result marks′ work′ tallies�
 -- without a fault: a collection begun afresh, which may be taken up in parts
 pub record BeginPromise (c : Call) (marks work tallies saved result : List ℕ) : Type 0 where
   pub row : Row
-  pub told : result ≡ markWords row
+  pub sound : Bool
+  pub told : result ≡ stopWords row sound
+  -- whether the saved words are sound, by the test of the next call
+  pub sound-is : sound ≡ saved? (graphOf c) (c .starts) (c .workers) (settingOf c) saved
   pub afresh : Afresh c (entries (c .schedule)) row marks work tallies saved
   pub joined : Joined c (λ (l : List ℕ). final (scheduledBy l c))
 
@@ -76,7 +80,10 @@ pub record Begins (c : Call) (marks work tallies w result marks′ work′ talli
 -- without a fault, of the saved words w
 pub record ResumePromise (c : Call) (w marks work tallies saved result : List ℕ) : Type 0 where
   pub row : Row
-  pub told : result ≡ markWords row
+  pub sound : Bool
+  pub told : result ≡ stopWords row sound
+  -- whether the saved words are sound, by the test of the next call
+  pub sound-is : sound ≡ saved? (graphOf c) (c .starts) (c .workers) (settingOf c) saved
   -- finished, every object to which a chain leads is marked, whoever wrote the words
   pub all-marked : row .finished ≡ true → (v : ℕ) → Reach (graphOf c) (c .starts) v → Marked marks v
   pub waits : (k : ℕ) → Waits (graphOf c) (c .workers) (settingOf c) (resumedBy c w (take k (entries (c .schedule))))
@@ -89,7 +96,7 @@ pub record ResumePromise (c : Call) (w marks work tallies saved result : List �
 pub record Resumes (c : Call) (marks work tallies w result marks′ work′ tallies′ w′ result′ : List ℕ) (answer : ℕ) : Type 0 where
   pub words : ResumesIn c marks work tallies w result marks′ work′ tallies′ w′ result′ answer
   -- where there is no other fault, exactly the words that hold a sound collection are taken up
-  pub exactly : length result ≡ mark-words → beginFault c (length marks) (length work) (length tallies) (length w) ≡ 0
+  pub exactly : length result ≡ stop-words → beginFault c (length marks) (length work) (length tallies) (length w) ≡ 0
       → (answer ≡ 0) ↔ ((s : State) × SavedRun (graphOf c) (c .starts) (c .workers) (settingOf c) w s)
   pub promise : answer ≡ 0 → ResumePromise c w marks′ work′ tallies′ w′ result′
 

@@ -17,13 +17,16 @@ ghost use Rattle.desk.specs.Kept.{unlessRefused};
 ghost use Rattle.catalogue.specs.Answer.{row, foundRow};
 ghost use Rattle.marker.specs.Answer.{row as markRow};
 ghost use Rattle.kullneyra.specs.Calls.{headerWords, readWords};
-ghost use Rattle.kullneyra.specs.Calls.{LengthIn, mark-words, resultWords, markWords, seedWords};
+ghost use Rattle.kullneyra.specs.Calls.{LengthIn, mark-words, resultWords, markWords, stop-words, stopWords, flag as flagWord, seedWords};
 
 // The number of a buffer that is not as long as it must be.
 pub const BUFFER: u32 = 7;
 
 // Result words of the marker: finished, and the counts.
 pub const MARK_WORDS: usize = 1 + COUNTS;
+
+// Those of a call that saves: one more, whether what is saved is sound.
+pub const STOP_WORDS: usize = MARK_WORDS + 1;
 
 // The first three result words of the catalogue's calls.
 fn give_head(n: u32, m: u32, index: u32, result: &mut [u32])
@@ -97,6 +100,26 @@ pub fn give_marked(answer: Marked, result: &mut [u64]) -> u32
         }
         Marked::Refused(refusal) => refusal::number_of(refusal) as u32,
     }
+}
+
+// A flag as a word.
+fn word_of(flag: bool) -> u64
+    ensures { λ r. ⌜ r ≡ flagWord flag ⌝ }
+{
+    if flag { 1 } else { 0 }
+}
+
+// An answer of a call that saves, and whether what it saved is sound.
+pub fn give_stopped(answer: Marked, sound: bool, result: &mut [u64]) -> u32
+    requires { ⌜ length (now result) ≡ stop-words ⌝ }
+    ensures { λ r. ⌜ r ≡ markRow answer .number ⌝ }
+    ensures { λ r. ⌜ now (result .exit) ≡ unlessRefused (markRow answer .number) (stopWords (markRow answer) sound) (now (result .entry)) ⌝ }
+{
+    let number = give_marked(answer, &mut result[..MARK_WORDS]);
+    if number == 0 {
+        result[MARK_WORDS] = word_of(sound);
+    }
+    number
 }
 
 // The answer of a call for a length: its number, and the length in the result word.

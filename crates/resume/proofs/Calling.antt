@@ -14,7 +14,8 @@ use Rattle.refusal.specs.declared.Verdict.{Verdict}
 use Rattle.refusal.specs.declared.Verdict.the-variants.{Fine, Faulty}
 use Rattle.refusal.proofs.None.{raise-none}
 use Rattle.refusal.proofs.Numbers.{numbered, when-fine, when-faulty, first-found}
-use Rattle.graph.specs.Graph.{objects}
+use Rattle.graph.specs.Graph.{objects, references}
+use Rattle.machine.specs.declared.Counts.{Counts}
 use Rattle.machine.specs.Row.{Row}
 use Rattle.machine.specs.Machine.{State, Entry, entries}
 use Rattle.machine.specs.Accepted.{Accepted}
@@ -28,22 +29,29 @@ use Rattle.step.specs.declared.Setup.{Setup}
 use Rattle.step.specs.Held.{Memory}
 use Rattle.marker.specs.declared.Marked.{Marked}
 use Rattle.marker.specs.declared.Marked.the-variants.{Refused}
-use Rattle.marker.specs.Answer.{Finds}
+use Rattle.marker.specs.Answer.{Finds, row}
 use Rattle.marker.specs.Stages.{scheduled, setupOf, Leaves}
 use Rattle.marker.proofs.Stages.{registers-long, passed}
 use Rattle.saved.specs.Layout.{savedWords, stateOf}
-use Rattle.saved.specs.Sound.{SavedRun}
+use Rattle.saved.specs.Sound.{SavedSound, SavedRun}
 use Rattle.saved.specs.Test.{saved?}
 use Rattle.saved.specs.Calls.{savingLengths, savedFault, resumeFault, resumed}
-use Rattle.saved.proofs.Kept.{from-saved, to-saved, fresh-run, saved-waits}
+use Rattle.saved.proofs.Kept.{from-saved, to-saved, fresh-run, saved-waits, shaped, told-back}
+use Rattle.saved.proofs.RoundTrip.{saved-length}
 use Rattle.saved.proofs.Joined.{afresh, joined, resumed-afresh, sound-finished}
 use Rattle.validate.specs.Checked as validated
 use Rattle.begin.specs.Answer.{Answers}
 use Rattle.begin.proofs.Calling.{long, answers-refused}
-use Rattle.resume.specs.Answer.{Continued}
+use Rattle.resume.specs.Answer.{Continued, Low}
 use Rattle.checkpoint.specs.Restoring.{Resumable}
 use Rattle.checkpoint.specs.Saving.{Savable, Saves}
 use Rattle.begin.proofs.Finishing.{save-ready, state-saved}
+
+-- two answers that decide the same fact are the same
+decided-as : (a b : Bool) {P : Type 0} → Decides a P → (P → b ≡ true) → (b ≡ true → P) → a ≡ b
+decided-as true b d f g = sym (f (d .right refl))
+decided-as false true d f g = d .known (g refl)
+decided-as false false d f g = refl
 
 pub testable : {c : Call} {marks work tallies : ℕ} (w : List ℕ) → Checked c (savingLengths marks work tallies (length w))
     → validated.Checked (graphOf c) (c .starts) (c .workers) (settingOf c) w
@@ -114,7 +122,7 @@ module _ {c : Call} {marks work tallies w : List ℕ} (x : Checked c (savingLeng
 
 module _ {c : Call} {marks work tallies w : List ℕ} {v : Verdict}
     (found : Finds v c (savingLengths (length marks) (length work) (length tallies) (length w))) where
-  pub continued-refused : {cause : Refusal} → v ≡ Faulty cause → Continued c marks work tallies w (Refused cause) marks work tallies w
+  pub continued-refused : {cause : Refusal} → v ≡ Faulty cause → Continued c marks work tallies w (Refused cause) false marks work tallies w
   unfolding resumeFault
   continued-refused {cause} e =
       let k = when-faulty (found .number-is) e in
@@ -122,6 +130,7 @@ module _ {c : Call} {marks work tallies w : List ℕ} {v : Verdict}
       record {
         answers = answers-refused cause _ i;
         exactly = λ z. absurd (omega (arith, numbered cause, k, z));
+        tells = λ z. absurd (omega (arith, numbered cause, i, z));
         all-marked = λ z. absurd (omega (arith, numbered cause, i, z));
         waits = λ z. absurd (omega (arith, numbered cause, i, z));
         joined = λ z. absurd (omega (arith, numbered cause, i, z));
@@ -129,7 +138,8 @@ module _ {c : Call} {marks work tallies w : List ℕ} {v : Verdict}
       }
 
   module _ (e : v ≡ Fine) {r : Marked} {marks′ work′ tallies′ w′ : List ℕ}
-      (d : Answers c (savedFault c w) (resumed c w) marks work tallies w r marks′ work′ tallies′ w′) where
+      (d : Answers c (savedFault c w) (resumed c w) marks work tallies w r marks′ work′ tallies′ w′) {sound : Bool}
+      (low : savedFault c w ≡ 0 → Decides sound (Low (references (graphOf c)) (c .workers) (c .cutoff) (row r .counts))) where
     abbrev A : Accepted (graphOf c) (c .starts) (c .workers) (settingOf c)
     A = passed found e .accepted
 
@@ -153,11 +163,28 @@ module _ {c : Call} {marks work tallies w : List ℕ} {v : Verdict}
     abbrev so-far : List Entry → State
     so-far xs = outcome (graphOf c) (c .starts) (c .workers) (settingOf c) xs
 
-    pub continued-fine : Continued c marks work tallies w r marks′ work′ tallies′ w′
+    -- the state that is saved keeps all conditions but for the bounds of moved and handed, so these decide
+    sound-tells : savedFault c w ≡ 0 → sound ≡ saved? (graphOf c) (c .starts) (c .workers) (settingOf c) w′
+    sound-tells f =
+        let a = reached f in
+        let S = sound-turns A (run-of f .saved .sound) (entries (c .schedule)) in
+        let counts : row r .counts ≡ resumed c w .counts = ap (λ (t : Row). t .counts) (a .row-is) in
+        let limits = subst (λ (t : Counts). Decides sound (Low (references (graphOf c)) (c .workers) (c .cutoff) t)) counts (low f) in
+        rw (a .saved-is)
+        (decided-as sound _ limits
+        (λ (x : Low (references (graphOf c)) (c .workers) (c .cutoff) (resumed c w .counts)).
+        to-saved A (record { words-are = refl; saved = record { sound = S; moved-limit = x .moved-limit; handed-limit = x .handed-limit } }))
+        (λ (t : saved? (graphOf c) (c .starts) (c .workers) (settingOf c) (savedWords (objects (graphOf c)) (resumed c w)) ≡ true).
+        let X = from-saved A (savedWords (objects (graphOf c)) (resumed c w)) (saved-length (shaped A S)) t in
+        let Y = subst (λ (s : State). SavedSound (graphOf c) (c .starts) (c .workers) (settingOf c) s) (told-back A S) (X .saved) in
+        record { moved-limit = Y .moved-limit; handed-limit = Y .handed-limit }))
+
+    pub continued-fine : Continued c marks work tallies w r sound marks′ work′ tallies′ w′
     continued-fine =
         record {
           answers = rw same-fault d;
           exactly = λ z. rw same-fault ((λ f. (stateOf (objects (graphOf c)) (c .workers) w, run-of f)), λ y. no-fault (y .0) (y .1));
+          tells = λ z. sound-tells (sym same-fault ∙ z);
           all-marked = λ z done v reach.
               let f = sym same-fault ∙ z in
               let a = reached f in

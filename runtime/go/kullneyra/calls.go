@@ -52,7 +52,7 @@ static struct saved_words_answer saved_words_of(uint32_t objects, uint32_t worke
     return a;
 }
 
-struct begin_answer { uint32_t number; struct kullneyra_marked answer; };
+struct begin_answer { uint32_t number; struct kullneyra_stopped answer; };
 static struct begin_answer begin_of(const uint32_t *offsets, size_t offsets_len, const uint32_t *targets,
                                     size_t targets_len, const uint32_t *starts, size_t starts_len, uint32_t workers,
                                     uint32_t batch, uint32_t cutoff, const uint8_t *schedule, size_t schedule_len,
@@ -65,7 +65,7 @@ static struct begin_answer begin_of(const uint32_t *offsets, size_t offsets_len,
     return a;
 }
 
-struct resume_answer { uint32_t number; struct kullneyra_marked answer; };
+struct resume_answer { uint32_t number; struct kullneyra_stopped answer; };
 static struct resume_answer resume_of(const uint32_t *offsets, size_t offsets_len, const uint32_t *targets,
                                       size_t targets_len, const uint32_t *starts, size_t starts_len, uint32_t workers,
                                       uint32_t batch, uint32_t cutoff, const uint8_t *schedule, size_t schedule_len,
@@ -217,7 +217,7 @@ func storeOf(a C.struct_kullneyra_store) Store {
 	}
 }
 
-// Marked, of Mark, Begin, Resume: what the turns did, over all calls of a collection.
+// Marked, of Mark: what the turns did.
 type Marked struct {
 	Finished bool   // every worker has ended: the marks are exactly the reachable objects
 	Live     uint64 // marked objects
@@ -237,6 +237,32 @@ func markedOf(a C.struct_kullneyra_marked) Marked {
 		Refused:  uint64(a.refused),
 		Moved:    uint64(a.moved),
 		Carrying: uint64(a.carrying),
+	}
+}
+
+// Stopped, of Begin, Resume: what the turns did, over all calls of a collection, and whether what is saved can be taken
+// up.
+type Stopped struct {
+	Finished bool   // every worker has ended: the marks are exactly the reachable objects
+	Live     uint64 // marked objects
+	Followed uint64 // references followed
+	Handed   uint64 // polls that shared
+	Refused  uint64 // askers that were refused
+	Moved    uint64 // turns that changed something
+	Carrying uint64 // workers that carry references now
+	Sound    bool   // the saved words hold a sound collection, as those of one begun here always do; else they will be refused
+}
+
+func stoppedOf(a C.struct_kullneyra_stopped) Stopped {
+	return Stopped{
+		Finished: a.finished != 0,
+		Live:     uint64(a.live),
+		Followed: uint64(a.followed),
+		Handed:   uint64(a.handed),
+		Refused:  uint64(a.refused),
+		Moved:    uint64(a.moved),
+		Carrying: uint64(a.carrying),
+		Sound:    a.sound != 0,
 	}
 }
 
@@ -319,8 +345,8 @@ func SavedWords(objects, workers uint32) (uint64, error) {
 
 // Begin does as Mark, and saves the collection: everything that is needed to go on later stands in the saved words,
 // marks too. Nobody has to keep the other buffers, but the graph, the starts and the settings are passed again. The
-// words are for this library; docs/SPECIFICATION.md, 8.1, has their layout.
-func Begin(g Graph, starts []uint32, s Settings, schedule []byte, b Buffers, saved []uint32) (Marked, error) {
+// words are for this library; docs/SPECIFICATION.md, 8.1, has their layout. What is saved is sound.
+func Begin(g Graph, starts []uint32, s Settings, schedule []byte, b Buffers, saved []uint32) (Stopped, error) {
 	offsetsAt, offsetsLen := u32s(g.Offsets)
 	targetsAt, targetsLen := u32s(g.Targets)
 	startsAt, startsLen := u32s(starts)
@@ -332,14 +358,16 @@ func Begin(g Graph, starts []uint32, s Settings, schedule []byte, b Buffers, sav
 	a := C.begin_of(offsetsAt, offsetsLen, targetsAt, targetsLen, startsAt, startsLen, C.uint32_t(s.Workers),
 		C.uint32_t(s.Batch), C.uint32_t(s.Cutoff), scheduleAt, scheduleLen, marksAt, marksLen, workAt, workLen,
 		talliesAt, talliesLen, savedAt, savedLen)
-	return markedOf(a.answer), refused(uint32(a.number))
+	return stoppedOf(a.answer), refused(uint32(a.number))
 }
 
 // Resume takes a saved collection up with more turns, and saves it again. A collection that was begun with the same
 // graph, starts and settings ends as one call with all the turns would have ended it, counts and tallies included.
 // Marks, work and tallies need not hold anything before. Saved words that hold no sound collection are Unsound. Whoever
-// wrote them: a collection that is finished has marked all that lives.
-func Resume(g Graph, starts []uint32, s Settings, schedule []byte, b Buffers, saved []uint32) (Marked, error) {
+// wrote them: a collection that is finished has marked all that lives. The answer's sound tells whether Resume would
+// take up what is saved now: it is 0 only where somebody else wrote the words, and turns took moved or handed above its
+// bound.
+func Resume(g Graph, starts []uint32, s Settings, schedule []byte, b Buffers, saved []uint32) (Stopped, error) {
 	offsetsAt, offsetsLen := u32s(g.Offsets)
 	targetsAt, targetsLen := u32s(g.Targets)
 	startsAt, startsLen := u32s(starts)
@@ -351,7 +379,7 @@ func Resume(g Graph, starts []uint32, s Settings, schedule []byte, b Buffers, sa
 	a := C.resume_of(offsetsAt, offsetsLen, targetsAt, targetsLen, startsAt, startsLen, C.uint32_t(s.Workers),
 		C.uint32_t(s.Batch), C.uint32_t(s.Cutoff), scheduleAt, scheduleLen, marksAt, marksLen, workAt, workLen,
 		talliesAt, talliesLen, savedAt, savedLen)
-	return markedOf(a.answer), refused(uint32(a.number))
+	return stoppedOf(a.answer), refused(uint32(a.number))
 }
 
 // Sweep lists the objects whose mark is 0, upwards, then zeros; answers how many they are and what their sizes add up

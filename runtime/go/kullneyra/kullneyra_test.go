@@ -100,12 +100,12 @@ func ExampleResume() {
 	words, _ := kullneyra.SavedWords(6, 2)
 	saved, b := make([]uint32, words), buffers(6, 2)
 	settings := kullneyra.Settings{Workers: 2, Batch: 1, Cutoff: 1}
-	marked, err := kullneyra.Begin(storeS, []uint32{0}, settings, []byte{0, 0, 1, 0, 0, 0}, b, saved)
-	fmt.Println(marked.Finished, marked.Moved, err)
-	for !marked.Finished {
-		marked, err = kullneyra.Resume(storeS, []uint32{0}, settings, []byte{0, 1, 1, 0}, b, saved)
+	stopped, err := kullneyra.Begin(storeS, []uint32{0}, settings, []byte{0, 0, 1, 0, 0, 0}, b, saved)
+	fmt.Println(stopped.Finished, stopped.Moved, err)
+	for !stopped.Finished && stopped.Sound {
+		stopped, err = kullneyra.Resume(storeS, []uint32{0}, settings, []byte{0, 1, 1, 0}, b, saved)
 	}
-	fmt.Println(marked.Live, marked.Followed, err)
+	fmt.Println(stopped.Live, stopped.Followed, err)
 	// Output:
 	// false 3 <nil>
 	// 4 5 <nil>
@@ -330,10 +330,10 @@ func TestCalls(t *testing.T) {
 		{"Mark", say(b.Marks, kullneyra.TallyOf(b.Tallies, 0)), "[1 1 1 1 0 0] {5 3 0 0}"},
 		{"SavedWords", say(kullneyra.SavedWords(6, 1)), "50 <nil>"},
 		{"SavedWords", say(kullneyra.SavedWords(6, 17)), "0 refusal 8"},
-		{"Begin", say(kullneyra.Begin(storeS, from, settings, make([]byte, 22), b, saved)), "{false 4 5 0 0 11 0} <nil>"},
-		{"Begin", say(kullneyra.Begin(storeS, from, settings, nil, b, saved[1:])), "{false 0 0 0 0 0 0} refusal 7"},
-		{"Resume", say(kullneyra.Resume(storeS, from, settings, make([]byte, 2), b, saved)), "{true 4 5 0 0 12 0} <nil>"},
-		{"Resume", say(kullneyra.Resume(storeS, from, settings, nil, b, make([]uint32, 50))), "{false 0 0 0 0 0 0} refusal 14"},
+		{"Begin", say(kullneyra.Begin(storeS, from, settings, make([]byte, 22), b, saved)), "{false 4 5 0 0 11 0 true} <nil>"},
+		{"Begin", say(kullneyra.Begin(storeS, from, settings, nil, b, saved[1:])), "{false 0 0 0 0 0 0 false} refusal 7"},
+		{"Resume", say(kullneyra.Resume(storeS, from, settings, make([]byte, 2), b, saved)), "{true 4 5 0 0 12 0 true} <nil>"},
+		{"Resume", say(kullneyra.Resume(storeS, from, settings, nil, b, make([]uint32, 50))), "{false 0 0 0 0 0 0 false} refusal 14"},
 		{"Resume", say(b.Marks, saved[:3], saved[9:10]), "[1 1 1 1 0 0] [2 4 0] [12]"},
 		{"Sweep", say(kullneyra.Sweep(b.Marks, sizes, list)), "{2 1100} <nil>"},
 		{"Sweep", say(kullneyra.Sweep(b.Marks[1:], sizes, list)), "{0 0} refusal 7"},

@@ -1,7 +1,8 @@
--- By the result words' length (`not-made`, `begins-in`): with as many as there are results the call's promise holds and `give_marked` writes its answer.
+-- By the result words' length (`not-made`, `begins-in`): with as many as there are results the call's promise holds and `give_stopped` writes its answer.
+use mathlib.Core.Path.{refl}
 use native.Mathlib.Omega.{arith}
 use lib.ListN.{length}
-use Rattle.kullneyra.specs.Calls.{mark-words}
+use Rattle.kullneyra.specs.Calls.{stop-words}
 use Rattle.kullneyra.proofs.Promise.{begin-promise}
 use Rattle.kullneyra.proofs.Saving.{not-made, begins-in}
 use borrow.Author.Tests.{eq-eqb, ne-eqb}
@@ -13,21 +14,21 @@ returns : tie.Need-returns
 returns c =
     let start = c .before .before .before .before .before .before .before .before .before .before in
     record {
-      words = not-made (ne-eqb (length (start .args .result .now)) mark-words (c .if1 .taken));
+      words = not-made (ne-eqb (length (start .args .result .now)) stop-words (c .if1 .taken));
       promise = λ z. absurd (omega (arith, z));
     }
 
 returns-2 : tie.Need-returns-2
 returns-2 c =
-    let at-give-marked = c .before .before in
-    let at-call = at-give-marked .before .before .before .before .before .before .before .before .before .before in
+    let at-give = c .before .before in
+    let at-call = at-give .before .before .before .before .before .before .before .before .before .before in
     let at-if1 = at-call .before .before .before .before .before in
     let start = at-if1 .before .before .before .before .before .before .before .before .before .before in
-    let given = at-give-marked .give-marked .ensures in
+    let given = at-give .give-stopped .ensures in
     record {
       words =
-          begins-in (eq-eqb (length (start .args .result .now)) mark-words (at-if1 .if1 .left)) (given .0) (given .1) (at-call .begin .ensures);
-      promise = begin-promise _ _ (given .0) (given .1) (at-call .begin .ensures);
+          begins-in (eq-eqb (length (start .args .result .now)) stop-words (at-if1 .if1 .left)) (given .0) (given .1) (at-call .begin .ensures) refl;
+      promise = begin-promise _ _ (given .0) (given .1) (at-call .begin .ensures) refl;
     }
 
 pub kullneyra-begin-spec : {M : Type 1} → statement M

@@ -64,8 +64,9 @@ returns-2 c =
     let tested = c .before in
     let t = tested .before .before in
     let finds = found (t .before .before) in
+    let wrong = test-wrong (passed finds (t .enum-told .given .1)) (tested .is-sound .ensures) (not-true _ (c .if1 .taken)) in
     continued-fine finds (t .enum-told .given .1)
-    (answers-refused Saved _ (test-wrong (passed finds (t .enum-told .given .1)) (tested .is-sound .ensures) (not-true _ (c .if1 .taken))))
+    (answers-refused Saved _ wrong) (λ z. absurd (omega (arith, z, wrong)))
 
 sub-setup-of : tie.Need-sub-setup-of
 sub-setup-of c = let t = told c in omega (arith, passed (found (t .before .before)) (t .enum-told .given .1) .offsets-some)
@@ -132,10 +133,21 @@ answer-requires : tie.Need-answer-requires
 answer-requires c κs =
     let saved = c .before .before .before .before in save-requires (saved .before) (saved .save .lifetimes) .countable
 
+-- what the turns reach: the place where it is saved, from behind the answer
+abbrev saved-at : tie.After-answer → tie.After-save
+saved-at c = c .before .before .before .before .before
+
+answer-low-requires : tie.Need-answer-low-requires
+answer-low-requires c κs =
+    let t = told (made (taken (turned (settled (saved-at c .before) .before) .before) .before) .before) in
+    let x = passed (found (t .before .before)) (t .enum-told .given .1) in
+    let a = x .accepted in
+    (x .references-limit, record { workers-limit = a .workers-limit; some-cutoff = omega (arith, a .some-cutoff); cutoff-limit = a .cutoff-limit })
+
 returns-3 : tie.Need-returns-3
 unfolding restore-requires resumable resume-ready take-turns-requires
 returns-3 c =
-    let saved = c .before .before .before .before .before in
+    let saved = saved-at (c .before) in
     let s = settled (saved .before) in
     let u = turned (s .before) in
     let m = made (taken (u .before) .before) in
@@ -148,23 +160,24 @@ returns-3 c =
     resume-leaves x X (m .setup-of .ensures)
     (leaves (take-turns-requires (u .before) (u .take-turns .lifetimes)) (u .take-turns .ensures) (s .settle .ensures)) in
     continued-fine finds (t .enum-told .given .1)
-    (answers-fine (test-right x X) l (resume-saved x X l (saved .save .ensures)) (c .answer .result) (c .answer .ensures))
+    (answers-fine (test-right x X) l (resume-saved x X l (saved .save .ensures)) (c .before .answer .result) (c .before .answer .ensures))
+    (λ z. c .answer-low .ensures)
 
 -- the buffers' lengths stay
 same-length-2 : tie.Need-same-length-2
 same-length-2 c =
-    let u = turned (settled (c .before .before .before .before .before .before) .before) in
+    let u = turned (settled (saved-at (c .before) .before) .before) in
     omega (arith, taken (u .before) .restore .kept .1 .1 .1 .0, u .take-turns .kept .1 .1 .1 .1 .0)
 
 same-length-3 : tie.Need-same-length-3
 same-length-3 c =
-    let s = settled (c .before .before .before .before .before .before) in
+    let s = settled (saved-at (c .before) .before) in
     let u = turned (s .before) in
     omega (arith, taken (u .before) .restore .kept .1 .1 .1 .1 .0, u .take-turns .kept .1 .1 .1 .1 .1 .0, s .settle .kept .1 .0)
 
 same-length-4 : tie.Need-same-length-4
 same-length-4 c =
-    let u = turned (settled (c .before .before .before .before .before .before) .before) in
+    let u = turned (settled (saved-at (c .before) .before) .before) in
     omega (arith, taken (u .before) .restore .kept .1 .1 .1 .1 .1 .0, u .take-turns .kept .1 .1 .1 .1 .1 .1 .0)
 
 pub resume-spec : {M : Type 1} → statement M
@@ -172,4 +185,4 @@ resume-spec =
     tie.close
     (tie.spec (λ c κs. search needs) (λ c κs. search needs) (λ c. search needs) returns (λ c. search needs) is-sound-requires (λ c. search needs) returns-2
     sub-setup-of setup-of-requires cast-size mul-size array-borrow-prefix-registers slice-aggregate-regs restore-requires take-turns-requires
-    settle-requires save-requires answer-requires same-length-2 same-length-3 same-length-4 (λ c. search needs) returns-3)
+    settle-requires save-requires answer-requires answer-low-requires same-length-2 same-length-3 same-length-4 (λ c. search needs) returns-3)

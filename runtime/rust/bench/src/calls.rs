@@ -3,7 +3,7 @@
 use crate::graphs::Graph;
 use crate::measure::{medians, Medians};
 use kullneyra::{Schedule, Settings};
-use reference::{Call, Outcome};
+use reference::{Call, Outcome, Stopped};
 use std::cell::RefCell;
 use std::hint::black_box;
 
@@ -224,8 +224,11 @@ pub const PARTS: usize = 100;
 /// The buffers with the saved words.
 type Saving = (Buffers, Vec<u32>);
 
-/// One proved call that saves: the collection begun, or taken up. The counts as words.
-fn run_part(graph: &Graph, settings: Settings, part: &[u8], fresh: bool, (b, saved): &mut Saving) -> [u64; 7] {
+/// The result words of a call that saves.
+type Words = [u64; Stopped::WORDS];
+
+/// One proved call that saves: the collection begun, or taken up. The result words.
+fn run_part(graph: &Graph, settings: Settings, part: &[u8], fresh: bool, (b, saved): &mut Saving) -> Words {
     let Graph { offsets, targets, .. } = graph;
     let Buffers { marks, work, tallies, .. } = b;
     let run = if fresh { kullneyra::begin } else { kullneyra::resume };
@@ -234,25 +237,26 @@ fn run_part(graph: &Graph, settings: Settings, part: &[u8], fresh: bool, (b, sav
 }
 
 /// The same in plain Rust.
-fn run_reference_part(graph: &Graph, settings: Settings, part: &[u8], fresh: bool, saving: &mut Saving) -> [u64; 7] {
+fn run_reference_part(graph: &Graph, settings: Settings, part: &[u8], fresh: bool, saving: &mut Saving) -> Words {
     let (Buffers { marks, work, tallies, .. }, saved) = saving;
     let run = if fresh { reference::begin } else { reference::resume };
     run(call(graph, settings, part), marks, work, tallies, saved).expect("a call").words()
 }
 
 /// A call that saves, on one of the sides.
-type Part = fn(&Graph, Settings, &[u8], bool, &mut Saving) -> [u64; 7];
+type Part = fn(&Graph, Settings, &[u8], bool, &mut Saving) -> Words;
 
 /// Taking up beside a fresh call's checks, 100 calls beside one, and both beside plain Rust.
 pub fn stops(graph: &Graph, settings: Settings, repetitions: usize) -> Stops {
     let workers = settings.workers as usize;
     let mut buffers = Buffers::new(graph, workers);
     let turns = schedule(graph, settings, &mut buffers);
-    let wanted = run_proved(graph, settings, &turns, &mut buffers).words();
+    let marked = run_proved(graph, settings, &turns, &mut buffers).words();
+    let wanted: Words = std::array::from_fn(|k| marked.get(k).copied().unwrap_or(1));
     let mut saving = (buffers, vec![1; kullneyra::lengths::saved(graph.n(), workers)]);
     let each = 2 * (turns.len() / 2).div_ceil(PARTS);
     let in_parts = |run: Part, saving: &mut Saving| {
-        let mut last = [0; 7];
+        let mut last = [0; Stopped::WORDS];
         for (k, part) in turns.chunks(each).enumerate() {
             last = run(graph, settings, part, k == 0, saving);
         }

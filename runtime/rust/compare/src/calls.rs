@@ -87,7 +87,7 @@ impl Call {
 
     /// The right length of the result buffer; 0 for a call that has none.
     pub fn result_words(&self) -> usize {
-        [3, 4, 2, 7, 1, 7, 7, 2, 1, 0, 1, 0, 1, 0, 1, 0, 0, 3, 3, 1, 0, 1, 0][self.place()]
+        [3, 4, 2, 7, 1, 8, 8, 2, 1, 0, 1, 0, 1, 0, 1, 0, 0, 3, 3, 1, 0, 1, 0][self.place()]
     }
 }
 
@@ -487,7 +487,7 @@ impl Side for Typed {
             lent.tallies,
             lent.saved,
         );
-        written(answer.map(kullneyra::Marked::words), lent.result)
+        written(answer.map(kullneyra::Stopped::words), lent.result)
     }
 
     fn resume(&self, call: &Mark, lent: &mut Buffers<'_>) -> u32 {
@@ -502,7 +502,7 @@ impl Side for Typed {
             lent.tallies,
             lent.saved,
         );
-        written(answer.map(kullneyra::Marked::words), lent.result)
+        written(answer.map(kullneyra::Stopped::words), lent.result)
     }
 
     fn sweep(&self, marks: &[u8], sizes: &[u64], list: &mut [u32], result: &mut [u64]) -> u32 {

@@ -32,10 +32,16 @@ fn same_in_parts(case: &Case, side: &dyn Side, parts: &[Mark], whole: &After) ->
 
 /// What is begun is marked as `mark` does it, beside the saved words.
 fn same_as_marked(case: &Case, side: &dyn Side, mark: &Mark, begun: &After) -> Result<(), String> {
-    let marked = after(&Case { call: Call::Mark(mark.clone()), ..case.clone() }, side);
-    let mut unsaved = begun.clone();
-    unsaved.buffers.retain(|(name, _)| *name != "saved");
-    difference(&unsaved, &marked).map_or(Ok(()), Err)
+    let marked = after(&Case { call: Call::Mark(mark.clone()), result: Marked::WORDS, ..case.clone() }, side);
+    if (marked.number, marked.marked()) != (begun.number, begun.marked()) {
+        return Err(format!("{:?} against {:?}", begun.marked(), marked.marked()));
+    }
+    let unsaved = |all: &After| {
+        let mut all = all.clone();
+        all.buffers.retain(|(name, _)| !["saved", "result"].contains(name));
+        all
+    };
+    difference(&unsaved(begun), &unsaved(&marked)).map_or(Ok(()), Err)
 }
 
 /// What a side answers and leaves, if it is what is wanted.
@@ -139,7 +145,11 @@ fn resumed_demands(call: &Mark, got: &After) -> Result<(), String> {
     }
     // The bounds of demand 3 may be left behind where the words were written by hand.
     let saved: Vec<u32> = got.lent(3).into_iter().map(|word| word as u32).collect();
-    match reference::unsound(call.call(), &saved).into_iter().find(|number| ![20, 21].contains(number)) {
+    let unsound = reference::unsound(call.call(), &saved);
+    if got.stopped().sound != unsound.is_empty() {
+        return Err(format!("sound is {} beside the conditions {unsound:?}", got.stopped().sound));
+    }
+    match unsound.into_iter().find(|number| ![20, 21].contains(number)) {
         Some(number) => Err(format!("condition {number} does not hold of what is saved")),
         None => Ok(()),
     }

@@ -3,7 +3,7 @@
 use crate::calls::NUMBER_CALLS;
 use crate::case::{Call, Case, Mark, Scan, Update};
 use crate::sides::{Buffers, Renewal, Side};
-use kullneyra::Marked;
+use kullneyra::{Marked, Stopped};
 
 /// Elements on either side of a lent buffer that no call may touch.
 const GUARD: usize = 3;
@@ -109,10 +109,16 @@ impl After {
         (GUARD..all.len() - GUARD).map(|i| all.at(i)).collect()
     }
 
-    /// The result words of an accepted marking, by name.
+    /// The result words of an accepted marking, by name; a call that saves has them first.
     pub fn marked(&self) -> Marked {
         let words = self.lent(self.buffers.len() - 1);
-        Marked::from_words(words.try_into().expect("as many words as a marking has"))
+        Marked::from_words(words[..Marked::WORDS].try_into().expect("as many words as a marking has"))
+    }
+
+    /// Those of an accepted call that saves.
+    pub fn stopped(&self) -> Stopped {
+        let words = self.lent(self.buffers.len() - 1);
+        Stopped::from_words(words.try_into().expect("as many words as a call that saves has"))
     }
 }
 

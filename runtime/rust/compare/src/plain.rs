@@ -3,7 +3,7 @@
 
 use crate::case::Mark;
 use crate::sides::{Buffers, Renewal};
-use reference::{Contents, Header, Outcome, Seed};
+use reference::{Contents, Header, Outcome, Seed, Stopped};
 
 /// A lent buffer is not as long as it must be.
 pub const WRONG_LENGTH: u32 = 7;
@@ -70,12 +70,12 @@ pub fn mark(call: &Mark, marks: &mut [u8], work: &mut [u32], tallies: &mut [u64]
 
 pub fn begin(call: &Mark, lent: &mut Buffers<'_>) -> u32 {
     let Buffers { marks, work, tallies, saved, result } = lent;
-    told(result, || reference::begin(call.call(), marks, work, tallies, saved).map(Outcome::words))
+    told(result, || reference::begin(call.call(), marks, work, tallies, saved).map(Stopped::words))
 }
 
 pub fn resume(call: &Mark, lent: &mut Buffers<'_>) -> u32 {
     let Buffers { marks, work, tallies, saved, result } = lent;
-    told(result, || reference::resume(call.call(), marks, work, tallies, saved).map(Outcome::words))
+    told(result, || reference::resume(call.call(), marks, work, tallies, saved).map(Stopped::words))
 }
 
 pub fn sweep(marks: &[u8], sizes: &[u64], list: &mut [u32], result: &mut [u64]) -> u32 {

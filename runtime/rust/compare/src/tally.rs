@@ -13,6 +13,8 @@ pub struct Tally {
     refused: u64,
     /// Parts of collections that were made in parts, too.
     parts: u64,
+    /// Collections taken up whose saved words are sound no more.
+    dead_ends: u64,
     /// How often each condition of SPECIFICATION 8.2 failed; at 0, words that hold no state.
     unsound: [u64; 29],
 }
@@ -29,6 +31,7 @@ impl Tally {
         }
         match &case.call {
             Call::Begin { cuts, .. } if after.number == 0 => self.parts += cuts.len() as u64 + 1,
+            Call::Resume { .. } if after.number == 0 => self.dead_ends += u64::from(!after.stopped().sound),
             Call::Resume { mark, saved } if after.number == 14 => {
                 reference::unsound(mark.call(), saved)
                     .into_iter()
@@ -51,6 +54,9 @@ impl Tally {
         if cases < 100_000 {
             return Ok(());
         }
+        if self.dead_ends == 0 {
+            return Err("no collection that was taken up came to a dead end".into());
+        }
         match (0..self.unsound.len()).find(|number| ![5, 18].contains(number) && self.unsound[*number] == 0) {
             Some(number) => Err(format!("no saved words failed condition {number}")),
             None => Ok(()),
@@ -70,6 +76,7 @@ impl fmt::Display for Tally {
         let Tally { finished, handed, refused, .. } = self;
         writeln!(f, "  of the marker's: {finished} finished, {handed} with hand-overs, {refused} with refused asks")?;
         writeln!(f, "  collections begun were also made in {} parts", self.parts)?;
+        writeln!(f, "  collections taken up that came to a dead end: {}", self.dead_ends)?;
         write!(f, "  saved words by the condition that they fail:")?;
         for (number, count) in self.unsound.iter().enumerate().filter(|(_, &count)| count > 0) {
             write!(f, " {number}: {count}")?;

@@ -4,7 +4,7 @@
 use crate::calls::{NumberCall, NUMBER_CALLS};
 use crate::case::{Call, Mark};
 use crate::sides::{Buffers, Proved, Reference, Renewal, Side, Tuned, Typed};
-use reference::Outcome;
+use reference::{Outcome, Stopped};
 use std::collections::{BTreeMap, BTreeSet};
 
 /// What the numbers of a list are.
@@ -204,7 +204,8 @@ fn told<T: Copy + Into<u64>>(word: &str, number: u32, result: &[T]) -> Result<St
     }
 }
 
-/// What the marker answered: its first result word tells whether it finished.
+/// What the marker answered: its first result word tells whether it finished. A call that saves tells behind the counts
+/// whether what it saved is sound.
 fn marked(number: u32, result: &[u64]) -> Result<String, String> {
     match (number, result) {
         (0, [1, counts @ ..]) => told(" finished", 0, counts),
@@ -249,7 +250,7 @@ fn parts(side: &dyn Side, case: &Case) -> Result<Vec<String>, String> {
             vec![marked(number, &result)?, shown(&marks), shown(&work), shown(&tallies)]
         }
         "begin" | "resume" => {
-            let (call, mut result) = (marking(case), unwritten::<u64, { Outcome::WORDS }>());
+            let (call, mut result) = (marking(case), unwritten::<u64, { Stopped::WORDS }>());
             let (mut marks, mut work, mut tallies, mut saved) =
                 (case.bytes(5), case.words(6), case.longs(7), case.words(8));
             let mut lent = Buffers {

@@ -69,7 +69,7 @@ impl Store {
     }
 }
 
-/// [`mark`], [`begin`], [`resume`]: what the turns did, over all calls of a collection.
+/// [`mark`]: what the turns did.
 #[derive(Clone, Copy, Debug, Default, PartialEq, Eq)]
 #[non_exhaustive]
 pub struct Marked {
@@ -107,6 +107,50 @@ impl Marked {
     pub fn words(self) -> [u64; Self::WORDS] {
         let Marked { finished, live, followed, handed, refused, moved, carrying } = self;
         [u64::from(finished), live, followed, handed, refused, moved, carrying]
+    }
+}
+
+/// [`begin`], [`resume`]: what the turns did, over all calls of a collection, and whether what is saved can be taken
+/// up.
+#[derive(Clone, Copy, Debug, Default, PartialEq, Eq)]
+#[non_exhaustive]
+pub struct Stopped {
+    /// Every worker has ended: the marks are exactly the reachable objects.
+    pub finished: bool,
+    /// Marked objects.
+    pub live: u64,
+    /// References followed.
+    pub followed: u64,
+    /// Polls that shared.
+    pub handed: u64,
+    /// Askers that were refused.
+    pub refused: u64,
+    /// Turns that changed something.
+    pub moved: u64,
+    /// Workers that carry references now.
+    pub carrying: u64,
+    /// The saved words hold a sound collection, as those of one begun here always do; else they will be refused.
+    pub sound: bool,
+}
+
+impl Stopped {
+    /// How many words it has.
+    pub const WORDS: usize = 8;
+
+    /// The names of its words, in their order.
+    pub const NAMES: [&'static str; Self::WORDS] =
+        ["finished", "live", "followed", "handed", "refused", "moved", "carrying", "sound"];
+
+    /// These words by name.
+    pub fn from_words(words: [u64; Self::WORDS]) -> Self {
+        let [finished, live, followed, handed, refused, moved, carrying, sound] = words;
+        Stopped { finished: finished == 1, live, followed, handed, refused, moved, carrying, sound: sound == 1 }
+    }
+
+    /// Its words.
+    pub fn words(self) -> [u64; Self::WORDS] {
+        let Stopped { finished, live, followed, handed, refused, moved, carrying, sound } = self;
+        [u64::from(finished), live, followed, handed, refused, moved, carrying, u64::from(sound)]
     }
 }
 
@@ -240,8 +284,8 @@ pub fn saved_words(objects: u32, workers: u32) -> Result<u64, Refusal> {
 
 /// As [`mark`], and saves the collection: everything that is needed to go on later stands in the saved words, marks
 /// too. Nobody has to keep the other buffers, but the graph, the starts and the settings are passed again. The words
-/// are for this library; docs/SPECIFICATION.md, 8.1, has their layout. There are [`lengths::saved`] of them, which may
-/// hold anything before.
+/// are for this library; docs/SPECIFICATION.md, 8.1, has their layout. What is saved is sound. There are
+/// [`lengths::saved`] of them, which may hold anything before.
 #[allow(clippy::too_many_arguments)]
 pub fn begin(
     offsets: &[u32],
@@ -253,8 +297,8 @@ pub fn begin(
     work: &mut [u32],
     tallies: &mut [u64],
     saved: &mut [u32],
-) -> Result<Marked, Refusal> {
-    let mut result = [0; Marked::WORDS];
+) -> Result<Stopped, Refusal> {
+    let mut result = [0; Stopped::WORDS];
     answer(raw::begin(
         offsets,
         targets,
@@ -269,13 +313,15 @@ pub fn begin(
         saved,
         &mut result,
     ))?;
-    Ok(Marked::from_words(result))
+    Ok(Stopped::from_words(result))
 }
 
 /// Takes a saved collection up with more turns, and saves it again. A collection that was begun with the same graph,
 /// starts and settings ends as one call with all the turns would have ended it, counts and tallies included. Marks,
 /// work and tallies need not hold anything before. Saved words that hold no sound collection are [`Refusal::Saved`].
-/// Whoever wrote them: a collection that is finished has marked all that lives.
+/// Whoever wrote them: a collection that is finished has marked all that lives. The answer's sound tells whether
+/// [`resume`] would take up what is saved now: it is 0 only where somebody else wrote the words, and turns took moved
+/// or handed above its bound.
 #[allow(clippy::too_many_arguments)]
 pub fn resume(
     offsets: &[u32],
@@ -287,8 +333,8 @@ pub fn resume(
     work: &mut [u32],
     tallies: &mut [u64],
     saved: &mut [u32],
-) -> Result<Marked, Refusal> {
-    let mut result = [0; Marked::WORDS];
+) -> Result<Stopped, Refusal> {
+    let mut result = [0; Stopped::WORDS];
     answer(raw::resume(
         offsets,
         targets,
@@ -303,7 +349,7 @@ pub fn resume(
         saved,
         &mut result,
     ))?;
-    Ok(Marked::from_words(result))
+    Ok(Stopped::from_words(result))
 }
 
 /// Lists the objects whose mark is 0, upwards, then zeros; answers how many they are and what their sizes add up to.

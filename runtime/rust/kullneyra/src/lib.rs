@@ -76,14 +76,15 @@
 //! let first = Schedule::new(first);
 //! let stopped =
 //!     begin(&offsets, &targets, &starts, settings, first, &mut marks, &mut work, &mut words, &mut saved)?;
-//! assert!(!stopped.finished);
+//! assert!(!stopped.finished && stopped.sound);
 //!
 //! // An hour later. Only the saved words were kept.
 //! (marks, work, words) = ([7; 3], [7; lengths::work(3, 1)], [7; lengths::tallies(1)]);
 //! let later = Schedule::new(later);
 //! let done =
 //!     resume(&offsets, &targets, &starts, settings, later, &mut marks, &mut work, &mut words, &mut saved)?;
-//! assert_eq!((done, marks), (whole, [1, 1, 1]));
+//! assert_eq!((&done.words()[..7], marks), (&whole.words()[..], [1, 1, 1]));
+//! assert!(done.sound);
 //!
 //! // Words of another collection are refused, and left as they are.
 //! let none = Schedule::new(&[]);
@@ -382,11 +383,12 @@ mod tests {
         let none = Schedule::new(&[]);
         let marked = mark(&[0, 0], &[], &[0], settings, none, &mut [0], &mut [], &mut []).unwrap_or_default();
         assert_eq!(marked.words(), [0; Marked::WORDS]);
-        let marked = begin(&[0, 0], &[], &[0], settings, none, &mut [0], &mut [], &mut [], &mut []).unwrap_or_default();
-        assert_eq!(marked.words(), [0; Marked::WORDS]);
-        let marked =
+        let stopped =
+            begin(&[0, 0], &[], &[0], settings, none, &mut [0], &mut [], &mut [], &mut []).unwrap_or_default();
+        assert_eq!(stopped.words(), [0; Stopped::WORDS]);
+        let stopped =
             resume(&[0, 0], &[], &[0], settings, none, &mut [0], &mut [], &mut [], &mut []).unwrap_or_default();
-        assert_eq!(marked.words(), [0; Marked::WORDS]);
+        assert_eq!(stopped.words(), [0; Stopped::WORDS]);
         assert_eq!(saved_words(0, 0).unwrap_or_default(), 0);
         assert_eq!(Tally::default().words(), [0; Tally::WORDS]);
         assert_eq!(sweep(&[], &[], &mut []).unwrap_or_default(), Swept { count: 0, freed: 0 });
@@ -396,6 +398,8 @@ mod tests {
     fn words_and_back() {
         let words = core::array::from_fn(|i| i as u64 + 1);
         assert_eq!(Marked::from_words(words).words(), words);
+        let words = [1, 2, 3, 4, 5, 6, 7, 1];
+        assert_eq!(Stopped::from_words(words).words(), words);
         let words = [1, 2, 3, 4];
         assert_eq!(Tally::from_words(words).words(), words);
         assert_eq!(tallies(&[0, 0, 0, 0, 1, 2, 3, 4]).nth(1), Some(Tally::from_words(words)));
@@ -457,9 +461,9 @@ mod tests {
         let empty = resume(&[0, 0], &[], &[0], settings, none, &mut marks, &mut work, &mut words, &mut zeros);
         assert_eq!((empty, marks, work, words, zeros), (Err(Refusal::Saved), [7], [7; 6], [7; 4], [0; WORDS]));
         let begun = begin(&[0, 0], &[], &[0], settings, none, &mut marks, &mut work, &mut words, saved);
-        assert_eq!(begun.map(|marked| (marked.finished, marked.live)), Ok((false, 1)));
+        assert_eq!(begun.map(|stopped| (stopped.finished, stopped.live, stopped.sound)), Ok((false, 1, true)));
         let taken = resume(&[0, 0], &[], &[0], settings, one, &mut marks, &mut work, &mut words, saved);
-        assert_eq!(taken.map(|marked| (marked.finished, marked.moved)), Ok((true, 1)));
+        assert_eq!(taken.map(|stopped| (stopped.finished, stopped.moved, stopped.sound)), Ok((true, 1, true)));
     }
 
     #[test]

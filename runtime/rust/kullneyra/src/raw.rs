@@ -336,7 +336,7 @@ pub fn saved_words(objects: u32, workers: u32, result: &mut [u64]) -> u32 {
     unsafe { c::kullneyra_saved_words(objects, workers, result.as_mut_ptr(), result.len()) }
 }
 
-/// [`crate::begin`] on words. Result words: finished, live, followed, handed, refused, moved, carrying.
+/// [`crate::begin`] on words. Result words: finished, live, followed, handed, refused, moved, carrying, sound.
 #[allow(clippy::too_many_arguments)]
 pub fn begin(
     offsets: &[u32],
@@ -380,7 +380,7 @@ pub fn begin(
     }
 }
 
-/// [`crate::resume`] on words. Result words: finished, live, followed, handed, refused, moved, carrying.
+/// [`crate::resume`] on words. Result words: finished, live, followed, handed, refused, moved, carrying, sound.
 #[allow(clippy::too_many_arguments)]
 pub fn resume(
     offsets: &[u32],

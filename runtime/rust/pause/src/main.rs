@@ -1,7 +1,8 @@
 //! A collection that is stopped and goes on: `pause TURNS` makes so many further turns of the order in the current
 //! folder, all that are left where no number is given, and keeps the collection in `collection.saved`.
 //!
-//! It reads `store.cat` and `order.run` and prints what `collect` prints. The kept file is written beside, brought to the
+//! It reads `store.cat` and `order.run` and prints what `collect` prints, and a line `dead end` where it took up words
+//! that it did not write itself, and what it keeps now will be refused. The kept file is written beside, brought to the
 //! disk and renamed, so a crash leaves the old one or the new one; whichever it is, the next call goes on from there. Only
 //! one `pause` works in a folder at a time.
 
@@ -9,7 +10,7 @@ mod kept;
 
 use kept::{Files, Kept};
 use kullneyra::{begin, header, lengths, read, resume, sweep, tallies};
-use kullneyra::{Marked, Refusal, Schedule, Settings, Tally, MOST_SETTING, MOST_WORKERS, STARTS};
+use kullneyra::{Refusal, Schedule, Settings, Stopped, Tally, MOST_SETTING, MOST_WORKERS, STARTS};
 use std::fmt::Write as _;
 use std::fs::{self, File, OpenOptions, TryLockError};
 use std::io::{self, ErrorKind, Write as _};
@@ -87,10 +88,13 @@ fn keep(folder: &File, bytes: &[u8]) -> io::Result<()> {
     folder.sync_all()
 }
 
-fn lines(marked: Marked, words: &[u64]) -> String {
-    let mut text = String::from(if marked.finished { "finished\n" } else { "unfinished\n" });
-    for (name, count) in Marked::NAMES.iter().zip(marked.words()).skip(1) {
+fn lines(stopped: Stopped, words: &[u64]) -> String {
+    let mut text = String::from(if stopped.finished { "finished\n" } else { "unfinished\n" });
+    for (name, count) in Stopped::NAMES.iter().zip(stopped.words()).skip(1).filter(|(name, _)| **name != "sound") {
         let _ = writeln!(text, "{name} {count}");
+    }
+    if !stopped.sound {
+        text.push_str("dead end\n");
     }
     for (b, tally) in tallies(words).enumerate() {
         let _ = write!(text, "box {b}");
@@ -143,7 +147,7 @@ fn collect(turns: usize) -> Result<String, Stop> {
     let fresh = found.is_none();
     let mut saved = found.map_or_else(|| vec![0; lengths::saved(n, w)], |found| found.saved);
     let call = if fresh { begin } else { resume };
-    let marked = call(&offsets, &targets, starts, settings, part, &mut marks, &mut work, &mut words, &mut saved)
+    let stopped = call(&offsets, &targets, starts, settings, part, &mut marks, &mut work, &mut words, &mut saved)
         .map_err(|refusal| {
             if refusal == Refusal::Saved {
                 unsound("its words hold no sound collection")
@@ -154,8 +158,8 @@ fn collect(turns: usize) -> Result<String, Stop> {
     let kept = Kept { made: (end / 2) as u64, saved };
     keep(&folder, &files.bytes(&kept)).map_err(|error| Stop::Failed("the collection was not kept", error))?;
 
-    let mut text = lines(marked, &words);
-    if marked.finished {
+    let mut text = lines(stopped, &words);
+    if stopped.finished {
         let mut list = vec![0; n];
         let dead = sweep(&marks, &sizes, &mut list)?;
         for &object in &list[..dead.count as usize] {
@@ -201,22 +205,26 @@ fn main() -> ExitCode {
 mod tests {
     use super::*;
 
-    /// Every word of the answer and of each tally has its line or its place in one, in their order.
+    /// Every word of the answer and of each tally has its line or its place in one, in their order; sound has one only
+    /// where what was saved is not.
     #[test]
     fn every_count_is_printed() {
-        let counts: [u64; Marked::WORDS] = std::array::from_fn(|i| i as u64 + 1);
+        let mut counts: [u64; Stopped::WORDS] = std::array::from_fn(|i| i as u64 + 1);
+        counts[Stopped::WORDS - 1] = 0;
         let words: Vec<u64> = (10..10 + 2 * Tally::WORDS as u64).collect();
-        let text = lines(Marked::from_words(counts), &words);
+        let text = lines(Stopped::from_words(counts), &words);
         let told: Vec<&str> = text.lines().collect();
-        assert_eq!(told.len(), Marked::WORDS + 2);
-        assert_eq!(told[0], "finished");
-        for (i, name) in Marked::NAMES.iter().enumerate().skip(1) {
+        assert_eq!(told.len(), Stopped::WORDS + 2);
+        assert_eq!((told[0], told[Stopped::WORDS - 1]), ("finished", "dead end"));
+        for (i, name) in Stopped::NAMES.iter().enumerate().take(Stopped::WORDS - 1).skip(1) {
             assert_eq!(told[i], format!("{name} {}", counts[i]));
         }
+        counts[Stopped::WORDS - 1] = 1;
+        assert_eq!(lines(Stopped::from_words(counts), &words), text.replace("dead end\n", ""));
         for (b, tally) in words.chunks(Tally::WORDS).enumerate() {
             let named: String =
                 Tally::NAMES.iter().zip(tally).map(|(name, count)| format!(" {name} {count}")).collect();
-            assert_eq!(told[Marked::WORDS + b], format!("box {b}{named}"));
+            assert_eq!(told[Stopped::WORDS + b], format!("box {b}{named}"));
         }
     }
 }

@@ -291,6 +291,24 @@ fn save(machine: &Machine<'_>, saved: &mut [u32]) {
     }
 }
 
+/// What a call that saves answers: what the turns did, and whether the words that it saved are sound.
+#[derive(Clone, Copy, Debug, PartialEq, Eq)]
+pub struct Stopped {
+    pub outcome: Outcome,
+    pub sound: bool,
+}
+
+impl Stopped {
+    /// How many result words the C function has.
+    pub const WORDS: usize = Outcome::WORDS + 1;
+
+    /// The result words of the C function.
+    pub fn words(self) -> [u64; Self::WORDS] {
+        let outcome = self.outcome.words();
+        std::array::from_fn(|k| outcome.get(k).copied().unwrap_or(u64::from(self.sound)))
+    }
+}
+
 /// The marker's call that saves what it leaves.
 pub fn begin(
     call: Call<'_>,
@@ -298,12 +316,13 @@ pub fn begin(
     work: &mut [u32],
     tallies: &mut [u64],
     saved: &mut [u32],
-) -> Result<Outcome, u8> {
+) -> Result<Stopped, u8> {
     check(call, marks.len(), work.len(), tallies.len(), saved.len() == Places::of(call).all())?;
     let mut machine = Machine::start(call, marks);
     machine.run(call.schedule);
     save(&machine, saved);
-    Ok(machine.leave(work, tallies))
+    let outcome = machine.leave(work, tallies);
+    Ok(Stopped { outcome, sound: unsound(call, saved).is_empty() })
 }
 
 /// The call that takes a saved collection up.
@@ -313,7 +332,7 @@ pub fn resume(
     work: &mut [u32],
     tallies: &mut [u64],
     saved: &mut [u32],
-) -> Result<Outcome, u8> {
+) -> Result<Stopped, u8> {
     let places = Places::of(call);
     check(call, marks.len(), work.len(), tallies.len(), saved.len() == places.all())?;
     if !unsound(call, saved).is_empty() {
@@ -329,7 +348,8 @@ pub fn resume(
         Machine { offsets, targets, batch, cutoff, marks, workers, token, followed, handed, refused, moved };
     machine.run(schedule);
     save(&machine, saved);
-    Ok(machine.leave(work, tallies))
+    let outcome = machine.leave(work, tallies);
+    Ok(Stopped { outcome, sound: unsound(call, saved).is_empty() })
 }
 
 #[cfg(test)]
@@ -349,7 +369,7 @@ mod tests {
     }
 
     /// Store S and case A's settings: these turns in these parts.
-    fn run(parts: &[&[u8]]) -> (Outcome, Vec<u8>, Vec<u32>, Vec<u64>, Vec<u32>) {
+    fn run(parts: &[&[u8]]) -> (Stopped, Vec<u8>, Vec<u32>, Vec<u64>, Vec<u32>) {
         let (mut marks, mut work, mut tallies, mut saved) = (vec![7; 6], vec![9; 32], vec![5; 8], vec![3; 78]);
         let mut outcome = None;
         for turns in parts {
@@ -361,6 +381,7 @@ mod tests {
             };
             outcome = Some(made.unwrap());
             assert_eq!(unsound(call, &saved), []);
+            assert!(outcome.unwrap().sound);
         }
         (outcome.unwrap(), marks, work, tallies, saved)
     }
