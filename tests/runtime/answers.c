@@ -50,8 +50,8 @@ static const size_t count_names = KULLNEYRA_COUNTS(ONE) 0;
 
 /* Each number has its own words, and one that no call answers has some, too. */
 static void refusals_in_words(void) {
-    for (uint32_t number = KULLNEYRA_OK; number <= KULLNEYRA_TEXT; number++) {
-        for (uint32_t other = number + 1; other <= KULLNEYRA_TEXT + 1; other++) {
+    for (uint32_t number = KULLNEYRA_OK; number <= KULLNEYRA_NAMES; number++) {
+        for (uint32_t other = number + 1; other <= KULLNEYRA_NAMES + 1; other++) {
             expect("refusal_text, the same words", 1,
                    strcmp(kullneyra_refusal_text(number), kullneyra_refusal_text(other)) != 0);
         }

@@ -89,5 +89,16 @@ int main(void) {
         expect("one above it", KULLNEYRA_SIZE,
                kullneyra_sweep(&dead, 1, &size, 1, list, 1, swept, KULLNEYRA_SWEEP_WORDS));
     }
+    {
+        uint64_t length[1];
+        expect("no names and no texts, scan_length", KULLNEYRA_OK,
+               kullneyra_scan_length(1, 64, NULL, 0, NULL, 0, NULL, 0, NULL, 0, NULL, 0, length, 1));
+        expect("no result word, scan_length", KULLNEYRA_BUFFER,
+               kullneyra_scan_length(1, 64, NULL, 0, NULL, 0, NULL, 0, NULL, 0, NULL, 0, NULL, 0));
+        expect("no names and no texts, scan", KULLNEYRA_OK,
+               kullneyra_scan(1, 64, NULL, 0, NULL, 0, NULL, 0, NULL, 0, NULL, 0, NULL, 0, NULL, 0));
+        expect("names of no bytes, scan", KULLNEYRA_NAMES,
+               kullneyra_scan(1, 0, NULL, 0, NULL, 0, NULL, 0, NULL, 0, NULL, 0, NULL, 0, NULL, 0));
+    }
     return failed;
 }

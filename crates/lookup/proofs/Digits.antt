@@ -1,5 +1,5 @@
--- The two ranges of digits, each moved to 0 so that one comparison tells it.
-use mathlib.Core.Path.{_≡_}
+-- The two ranges of digits, each moved to 0 so that one comparison tells it; and both by one comparison of the lesser.
+use mathlib.Core.Path.{_≡_, sym, _∙_}
 use mathlib.Core.Bool.{true}
 use mathlib.Core.Logic.{by-cases}
 use Prim.Native.Nat.{ℕ, _+_, _%_, _≤_, _<_}
@@ -9,11 +9,11 @@ use lib.Dec.{ltb}
 use borrow.Author.Tests.{le-leb, lt-leb, lt-ltb, le-ltb}
 use Rattle.names.specs.Names.{isDigit}
 
-pub digit-low : (b : ℕ) → b < 256 → (b + 208) % 256 < 10 → isDigit b ≡ true
+digit-low : (b : ℕ) → b < 256 → (b + 208) % 256 < 10 → isDigit b ≡ true
 digit-low b f h = rw (le-leb 48 b (omega arith), le-leb b 57 (omega arith))
 
 -- none of 0 to 9: a to f decide
-pub digit-high : (b : ℕ) → b < 256 → 10 ≤ (b + 208) % 256 → isDigit b ≡ ltb ((b + 159) % 256) 6
+digit-high : (b : ℕ) → b < 256 → 10 ≤ (b + 208) % 256 → isDigit b ≡ ltb ((b + 159) % 256) 6
 digit-high b f h =
     by-cases (decLt b 48)
     (λ (p : b < 48). rw (lt-leb 48 b p, lt-leb 97 b (omega arith), le-ltb ((b + 159) % 256) 6 (omega arith)))
@@ -26,3 +26,21 @@ digit-high b f h =
     (λ (s : 102 < b). rw (le-leb 48 b (omega arith), lt-leb b 57 q, le-leb 97 b (omega arith), lt-leb b 102 s, le-ltb ((b + 159) % 256) 6 (omega arith)))
     (λ (s : ¬ (102 < b)).
     rw (le-leb 48 b (omega arith), lt-leb b 57 q, le-leb 97 b (omega arith), le-leb b 102 (omega arith), lt-ltb ((b + 159) % 256) 6 (omega arith)))))
+
+-- the lesser of the two decides, be it the one or the other
+pub digit-by-digit : (b : ℕ) → b < 256 → (b + 208) % 256 < (b + 159) % 256 + 4 → ltb ((b + 208) % 256) 10 ≡ isDigit b
+digit-by-digit b f h =
+    by-cases (decLt ((b + 208) % 256) 10)
+    (λ (p : (b + 208) % 256 < 10). rw (lt-ltb ((b + 208) % 256) 10 p) (sym (digit-low b f p)))
+    (λ (p : ¬ ((b + 208) % 256 < 10)).
+    rw (le-ltb ((b + 208) % 256) 10 (omega arith))
+    (sym (digit-high b f (omega arith) ∙ le-ltb ((b + 159) % 256) 6 (omega arith))))
+
+pub digit-by-letter : (b : ℕ) → b < 256 → (b + 159) % 256 + 4 ≤ (b + 208) % 256 → ltb ((b + 159) % 256 + 4) 10 ≡ isDigit b
+digit-by-letter b f h =
+    by-cases (decLt ((b + 159) % 256) 6)
+    (λ (p : (b + 159) % 256 < 6).
+    rw (lt-ltb ((b + 159) % 256 + 4) 10 (omega arith)) (sym (digit-high b f (omega arith) ∙ lt-ltb ((b + 159) % 256) 6 p)))
+    (λ (p : ¬ ((b + 159) % 256 < 6)).
+    rw (le-ltb ((b + 159) % 256 + 4) 10 (omega arith))
+    (sym (digit-high b f (omega arith) ∙ le-ltb ((b + 159) % 256) 6 (omega arith))))

@@ -32,24 +32,22 @@ const UP: u32 = 1;
 
 const DOWN: u32 = 2;
 
-// The longest stride that is doubled.
-const LONGEST: usize = 1073741824;
-
 // Where sliding along a text ended, and whether a name may stand there.
 pub struct Stop {
     pub at: usize,
     pub hit: bool,
 }
 
-// Whether a byte is a digit of a name. Both ranges are looked at without a jump.
+// Whether a byte is a digit of a name. Both ranges are moved to end at 10, and the lesser number is
+// compared, so that there is one comparison and no jump between the two.
 pub fn is_digit(b: u8) -> bool
     ensures { λ r. ⌜ r ≡ isDigit b ⌝ }
 {
     let n = b as u32;
-    if (n + 208) % 256 < 10 {
-        return true;
-    }
-    (n + 159) % 256 < 6
+    let digit = (n + 208) % 256;
+    let letter = (n + 159) % 256 + 4;
+    let least = if digit < letter { digit } else { letter };
+    least < 10
 }
 
 // A digit's value; some number below 16 for any other byte.
@@ -82,7 +80,7 @@ pub fn all_digits(bytes: &[u8]) -> bool
     ensures { λ r. ⌜ r ≡ all isDigit (now (bytes .entry)) ⌝ }
 {
     // Looks at every byte, so that the loop is compiled without a jump out of it.
-    let mut wrong: u32 = 0;
+    let mut wrong: u8 = 0;
     for i in 0..bytes.len() {
         if !is_digit(bytes[i]) {
             wrong = 1;
@@ -96,7 +94,7 @@ fn is_same(a: &[u8], b: &[u8]) -> bool
     requires { ⌜ length (now b) ≡ length (now a) ⌝ }
     ensures { λ r. ⌜ r ≡ same (now (a .entry)) (now (b .entry)) ⌝ }
 {
-    let mut wrong: u32 = 0;
+    let mut wrong: u8 = 0;
     for i in 0..a.len() {
         if a[i] != b[i] {
             wrong = 1;
@@ -168,7 +166,7 @@ fn between(low: usize, high: usize, step: usize, turn: u32) -> usize
     low + step
 }
 
-// How far to go on: twice as far the same way, half of what is left the other way.
+// How far to go on: twice as far the same way, as long as that is within what is left, and else half of that.
 fn stride(before: u32, now: u32, step: usize, left: usize) -> usize {
     if before == NOWHERE {
         return 0;
@@ -176,7 +174,7 @@ fn stride(before: u32, now: u32, step: usize, left: usize) -> usize {
     if before != now {
         return left / 2;
     }
-    if step < LONGEST {
+    if step < left / 2 {
         return 2 * step + 1;
     }
     left / 2

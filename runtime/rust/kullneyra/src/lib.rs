@@ -154,6 +154,21 @@
 //! assert_eq!(out, b"%%MatrixMarket matrix coordinate pattern general\n2 2 2\n1 2\n2 1\n");
 //! # Ok::<(), kullneyra::Refusal>(())
 //! ```
+//!
+//! # Names in texts
+//!
+//! ```
+//! use kullneyra::{scan, scan_length};
+//!
+//! // Three names of two digits, of the objects 2, 0 and 1, and two texts: one of object 1, one of object 0.
+//! let (names, named) = (b"0aaaab", [2, 0, 1]);
+//! let (texts, ends, owners) = (b"{\"0aab\"}ab", [8, 10], [1, 0]);
+//! let length = scan_length(3, 2, names, &named, texts, &ends, &owners)? as usize;
+//! let (mut from, mut to) = (vec![0; length], vec![0; length]);
+//! scan(3, 2, names, &named, texts, &ends, &owners, &mut from, &mut to)?;
+//! assert_eq!((from, to), (vec![1, 1, 1, 0], vec![2, 0, 1, 1]));
+//! # Ok::<(), kullneyra::Refusal>(())
+//! ```
 #![no_std]
 #![deny(missing_docs)]
 

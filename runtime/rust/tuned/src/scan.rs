@@ -111,7 +111,7 @@ impl Names<'_> {
             }
             step = match turn {
                 None => 0,
-                before if before == now => 2 * step + 1,
+                before if before == now && step < (high - low) / 2 => 2 * step + 1,
                 _ => (high - low) / 2,
             };
             turn = now;
