@@ -1,12 +1,13 @@
 # `make test` is the gate; `make run` builds what it needs and runs the main job on the sample store.
-# `make install PREFIX=/usr/local DESTDIR=` installs program, library, header and kullneyra.pc.
+# `make install PREFIX=/usr/local DESTDIR=` installs program, library, header and kullneyra.pc, and kullneyra-oci where Go is.
 # `make compare CASES=n SEED=s` compares the library with the reference for longer than the gate does.
 # `make oci` builds target/bin/kullneyra-oci, the command over an OCI image layout.
+# `make oci-stress` runs 600 pushes beside prunes and 200 kills, some minutes.
 # `make course` opens the page that draws a run, turn by turn.
 # `make deal` builds what deals the cards and seeds of a case, for tools/case.py.
 # `make pause` builds target/bin/pause, the program that stops a collection and goes on.
 # `make bench` measures; its table and plots go to target/bench/.
-.PHONY: test run library oci steps deal course pause install compare bench
+.PHONY: test run library oci oci-stress steps deal course pause install install-oci compare bench
 
 CASES ?= 5000000
 SEED ?= 2
@@ -39,9 +40,12 @@ library: target/staticlib/libkullneyra.a
 target/staticlib/libkullneyra.a: tools/library crates.txt $(shell find crates -type f)
 	@tools/library
 
-# The command over an OCI image layout; needs Go and Debian's golang-github-opencontainers-*-dev packages (tests/go/run).
+# The command over an OCI image layout; needs Go and the Debian packages that tests/go/packages lists.
 oci: library
 	@. tools/go-env && cd runtime/go && go build -o ../../target/bin/kullneyra-oci ./cmd/kullneyra-oci
+
+oci-stress: oci
+	@PYTHONDONTWRITEBYTECODE=1 tests/go/stress
 
 # The programs behind the course: `steps` takes the turns of a case one by one, `deal` deals its cards and seeds.
 steps: target/course/steps
@@ -69,6 +73,17 @@ install: library
 	install -m 644 runtime/include/kullneyra.h "$(INSTALLED)/include/kullneyra.h"
 	sed 's|@PREFIX@|$(PREFIX)|' runtime/kullneyra.pc.in >target/kullneyra.pc
 	install -m 644 target/kullneyra.pc "$(INSTALLED)/lib/pkgconfig/kullneyra.pc"
+	@if command -v go >/dev/null && [ -d /usr/share/gocode/src/github.com/spf13/cobra ]; then \
+	    $(MAKE) --no-print-directory install-oci; \
+	else \
+	    echo "kullneyra-oci is not installed: it needs what tests/go/packages lists" >&2; \
+	fi
+
+# The command over an OCI image layout, and its man pages.
+install-oci: oci
+	install -d "$(INSTALLED)/bin" "$(INSTALLED)/share/man/man1"
+	install -m 755 target/bin/kullneyra-oci "$(INSTALLED)/bin/kullneyra-oci"
+	"$(INSTALLED)/bin/kullneyra-oci" man "$(INSTALLED)/share/man/man1"
 
 compare: library
 	$(CARGO) build $(RELEASE) --package compare

@@ -1,12 +1,17 @@
 #!/usr/bin/env python3
-"""Prints the table of docs/OCI.md: kullneyra-oci prune beside umoci gc on copies of the same layouts (make oci first).
+"""Prints the tables of docs/OCI.md: kullneyra-oci prune beside umoci gc on copies of the same layouts (make oci first).
 
-    tests/go/beside_umoci.py
+    tests/go/beside_umoci.py [SCALE]
+
+SCALE divides the numbers of blobs of the second table, 1 by default.
 """
 
+import json
+import os
 import shutil
 import subprocess
-import time
+import sys
+import tempfile
 from pathlib import Path
 
 import test_layouts as made
@@ -29,37 +34,88 @@ def removed(case):
     made.unlist(case.layout, "two")
 
 
-def large(case):
-    case.many(2500)
-
-
 def damaged(case):
     made.unlist(case.layout, "two")
     one = case.entry("one")
     made.blob_path(case.layout, one["digest"]).write_text('{"schemaVersion": 2, "config"')
 
 
+def exchanged(case):
+    removed(case)
+    made.blob_path(case.layout, case.entry("one")["digest"]).write_bytes(made.blob_path(case.layout, case.entry("three")["digest"]).read_bytes())
+
+
+def linked(case):
+    removed(case)
+    path = made.blob_path(case.layout, case.entry("one")["digest"])
+    path.rename(case.layout / "elsewhere")
+    path.symlink_to("../../elsewhere")
+
+
+def absent(case):
+    removed(case)
+    made.blob_path(case.layout, case.entry("one")["digest"]).unlink()
+
+
+def otherwise(case):
+    index = json.loads((case.layout / "index.json").read_text())
+    for one in index["manifests"]:
+        one["mediaType"] = made.LAYER
+    (case.layout / "index.json").write_text(json.dumps(index))
+
+
+def shared(case):
+    removed(case)
+    (case.layout / "blobs").rename(case.layout / "elsewhere")
+    (case.layout / "blobs").symlink_to("elsewhere")
+
+
+def damaged_dead(case):
+    path = made.blob_path(case.layout, case.entry("two")["digest"])
+    removed(case)
+    path.write_text(path.read_text()[:-40])
+
+
 CASES = [
     ("a tag removed", removed),
     ("an image with Docker's media types", docker),
     ("a signature that the index does not list", signature),
+    ("all entries listed under a layer's type", otherwise),
     ("a stray file below blobs/, a tag removed", stray),
-    ("a damaged manifest, a tag removed", damaged),
-    ("10,000 blobs, half of them dead", large),
+    ("a live manifest cut off, a tag removed", damaged),
+    ("another manifest in the place of a live one, a tag removed", exchanged),
+    ("a dead manifest cut off", damaged_dead),
+    ("a live manifest is a link, a tag removed", linked),
+    ("a live manifest is absent, a tag removed", absent),
+    ("blobs/ is a link, a tag removed", shared),
 ]
 
 
+def names(layout):
+    return {path.name for path in (layout / "blobs").glob("*/*")} if (layout / "blobs").exists() else set()
+
+
+# The memory of a process counts from before it became the command, so a small one starts it.
+MEASURE = """import json, os, sys
+_, status, used = os.wait4(os.posix_spawnp(sys.argv[1], sys.argv[1:], os.environ), 0)
+print(json.dumps([os.waitstatus_to_exitcode(status), 1000 * (used.ru_utime + used.ru_stime), used.ru_maxrss / 1024]), file=sys.stderr)"""
+
+
 def collect(words, layout):
-    """Deleted blobs, exit status, and milliseconds."""
-    before, began = made.blobs(layout), time.perf_counter()
-    done = subprocess.run([*words, str(layout)], capture_output=True)
-    took = 1000 * (time.perf_counter() - began)
-    return before - made.blobs(layout), done.returncode, took
+    """Deleted blobs, exit status, milliseconds of the processors, and MiB of memory."""
+    before = names(layout)
+    done = subprocess.run([sys.executable, "-SEc", MEASURE, *words, str(layout)], stdout=subprocess.DEVNULL, stderr=subprocess.PIPE, check=True)
+    return before - names(layout), *json.loads(done.stderr.splitlines()[-1])
 
 
-def main():
-    print("| Layout | `umoci gc` deletes | status | ms | `kullneyra-oci prune` deletes | status | ms |")
-    print("|---|--:|--:|--:|--:|--:|--:|")
+UMOCI = ["umoci", "gc", "--layout"]
+PRUNE = [str(made.COMMAND), "prune", *made.NOW]
+PLAN = [str(made.COMMAND), "plan", "--grace", "0"]
+
+
+def first():
+    print("| Layout | `umoci gc` deletes | status | `kullneyra-oci prune` deletes | status |")
+    print("|---|--:|--:|--:|--:|")
     made.Layouts.setUpClass()
     try:
         for name, change in CASES:
@@ -69,15 +125,49 @@ def main():
                 change(case)
                 other = case.folder / "other"
                 shutil.copytree(case.layout, other, symlinks=True)
-                theirs = collect(["umoci", "gc", "--layout"], other)
-                ours = collect([str(made.COMMAND), "prune"], case.layout)
+                theirs, ours = collect(UMOCI, other), collect(PRUNE, case.layout)
             finally:
                 shutil.rmtree(case.folder)
-            row = [f"{len(gone)} | {status} | {took:.0f}" for gone, status, took in (theirs, ours)]
-            print(f"| {name} | {' | '.join(row)} |")
+            row = [f"{len(gone)} | {status}" for gone, status, *_ in (theirs, ours)]
+            print(f"| {name} | {' | '.join(row)} |", flush=True)
     finally:
         made.Layouts.tearDownClass()
 
 
+def large(layout, count):
+    made.fill(layout, count // 4)
+
+
+def layers(layout, count):
+    made.fill(layout, 4)
+    for number in range(count):
+        made.put(layout, b"\x1f\x8b" + number.to_bytes(4, "big") * (1 << 20))
+
+
+def second(scale):
+    print("| Layout | `umoci gc`: ms | MiB | `prune`: ms | MiB | with `--retention 0`: ms | MiB | `plan`: ms | MiB |")
+    print("|---|--:|--:|--:|--:|--:|--:|--:|--:|")
+    for name, fill, count in (("1,000 blobs, half of them dead", large, 1000), ("10,000 blobs, half of them dead", large, 10000),
+                              ("50,000 blobs, half of them dead", large, 50000), ("200 dead layers of 4 MiB", layers, 200)):
+        folder = Path(tempfile.mkdtemp())
+        try:
+            row = []
+            for words in (UMOCI, PRUNE[:-2], PRUNE, PLAN):
+                layout = folder / "layout"
+                layout.mkdir()
+                (layout / "oci-layout").write_text('{"imageLayoutVersion":"1.0.0"}')
+                (layout / "index.json").write_text('{"schemaVersion":2,"manifests":[]}')
+                fill(layout, count // scale)
+                _, status, took, memory = collect(words, layout)
+                assert status == 0, (name, words)
+                row.append(f"{took:.0f} | {memory:.0f}")
+                shutil.rmtree(layout)
+            print(f"| {name} | {' | '.join(row)} |", flush=True)
+        finally:
+            shutil.rmtree(folder)
+
+
 if __name__ == "__main__":
-    main()
+    first()
+    print()
+    second(int(sys.argv[1]) if len(sys.argv) > 1 else 1)

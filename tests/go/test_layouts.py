@@ -17,6 +17,7 @@ sys.path.insert(0, str(TOP / "tools"))
 import course  # noqa: E402
 import course_draw as draw  # noqa: E402
 import course_run as play  # noqa: E402
+import races  # noqa: E402
 
 COMMAND = TOP / "target" / "bin" / "kullneyra-oci"
 DOCKER = "application/vnd.docker.distribution.manifest.v2+json"
@@ -38,8 +39,12 @@ def oci(*words, status=0):
     return run(COMMAND, *words, status=status)
 
 
+# What nobody writes to: nothing is too young, and nothing is kept.
+NOW = ("--grace", "0", "--retention", "0")
+
+
 def plan(layout, *words):
-    return json.loads(oci("plan", "--json", *words, layout).stdout)
+    return json.loads(oci("plan", "--json", "--grace", "0", *words, layout).stdout)
 
 
 def blob_path(layout, digest):
@@ -74,6 +79,19 @@ def unlist(layout, tag):
 
 def blobs(layout):
     return {path.name for path in (layout / "blobs").glob("*/*")}
+
+
+def fill(layout, count):
+    """So many images of four blobs each, every other one listed."""
+    entries = []
+    for number in range(count):
+        config = {**put(layout, {"os": "linux", "number": number}), "mediaType": "application/vnd.oci.image.config.v1+json"}
+        layers = [{**put(layout, b"\x1f\x8b%d %d" % (number, k)), "mediaType": LAYER} for k in range(2)]
+        manifest = {"schemaVersion": 2, "mediaType": MANIFEST, "config": config, "layers": layers}
+        entry = {**put(layout, manifest), "mediaType": MANIFEST}
+        if number % 2:
+            entries.append(entry)
+    listed(layout, *entries)
 
 
 class Layouts(unittest.TestCase):
@@ -116,7 +134,7 @@ class Layouts(unittest.TestCase):
         """Prunes, and says which blobs went."""
         before, told = blobs(self.layout), plan(self.layout, *words)
         self.assertEqual(blobs(self.layout), before)
-        oci("prune", *words, self.layout)
+        oci("prune", *NOW, *words, self.layout)
         gone = before - blobs(self.layout)
         self.assertEqual(gone, {one["digest"].split(":")[1] for one in told["dead"]})
         self.assertEqual(plan(self.layout, *words)["dead"], [])
@@ -191,8 +209,8 @@ class Layouts(unittest.TestCase):
             path.parent.mkdir(exist_ok=True)
             path.write_text("stray")
         unlist(self.layout, "three")
-        said = oci("prune", self.layout).stderr
-        for name in ("notes.txt", ".download", "g" * 64, "other"):
+        said = oci("prune", *NOW, self.layout).stderr
+        for name in ("notes.txt", ".download", "g" * 64):
             self.assertIn(name, said)
         self.assertTrue((self.layout / "blobs" / "sha256" / "notes.txt").exists())
         self.works()
@@ -201,9 +219,12 @@ class Layouts(unittest.TestCase):
         """A fault: status 1, told, and nothing deleted."""
         before = blobs(self.layout)
         for command in ("plan", "prune"):
-            said = oci(command, *words, self.layout, status=1)
+            said = oci(command, "--grace", "0", *words, self.layout, status=1)
             self.assertEqual(said.stdout, "")
-            self.assertTrue(said.stderr.startswith("kullneyra-oci: "))
+            self.assertIn("kullneyra-oci: ", said.stderr)
+            told = json.loads(oci(command, "--grace", "0", "--json", *words, self.layout, status=1).stdout)
+            self.assertEqual((told["schemaVersion"], told["status"], told["command"]), (1, 1, command))
+            self.assertIn(told["error"], said.stderr)
         self.assertEqual(blobs(self.layout), before)
         return said.stderr
 
@@ -224,15 +245,32 @@ class Layouts(unittest.TestCase):
         oci("plan", self.layout)
         self.assertIn(manifest["layers"][-1]["digest"], self.refused("--verify"))
 
+    def test_kept_by_tag(self):
+        self.assertEqual(self.pruned("--keep", "one"), set())
+        self.assertIn("no such tag", self.refused("--keep", "four"))
+
     def test_kept_is_not_there(self):
         self.assertIn("0" * 64, self.refused("--keep", "sha256:" + "0" * 64))
 
     def test_usage(self):
-        for words in ((), ("plan",), ("plan", "a", "b"), ("remove", "a"), ("plan", "--keep", "x", "a"), ("plan", "--what", "a"),
-                      ("catalogue", "a"), ("catalogue", "--boxes", "17", "a", "b"), ("catalogue", "--turns", "1", "--seed", "1,0", "a", "b")):
-            self.assertIn("usage:", oci(*words, status=2).stderr)
-        self.assertIn("usage:", oci("--help").stdout)
+        for words, told in (((), "command"), (("plan",), "LAYOUT"), (("plan", "a", "b"), '"b"'), (("remove", "a"), "remove"),
+                            (("plan", "--what", "a"), "--what"), (("plan", "--grace", "x", "a"), "--grace"), (("catalogue", "a"), "FOLDER"),
+                            (("catalogue", "--boxes", "17", "a", "b"), "--boxes"), (("why", "x", "a"), '"x"'),
+                            (("catalogue", "--turns", "1", "--seed", "1,0", "a", "b"), "--turns")):
+            said = oci(*words, status=2).stderr
+            self.assertIn("usage:", said)
+            self.assertIn(told, said)
+        for words in (("--help",), ("prune", "--help"), ("help", "prune")):
+            self.assertIn("Usage:", oci(*words).stdout)
+        self.assertIn("version", oci("--version").stdout)
         oci("plan", self.folder / "nowhere", status=1)
+        # Options may stand behind the layout.
+        self.assertEqual(json.loads(oci("plan", self.layout, "--json", "--grace=0").stdout)["dead"], [])
+
+    def test_man_pages(self):
+        oci("man", self.folder)
+        self.assertIn("retention", (self.folder / "kullneyra-oci-prune.1").read_text())
+        self.assertEqual(list(self.folder.glob("*completion*")), [])
 
     def test_locked(self):
         import fcntl
@@ -256,6 +294,122 @@ class Layouts(unittest.TestCase):
         self.assertEqual(oci("catalogue", "--seed", "0,1", self.layout, folder, status=1).stderr.split(":")[1].strip(), "refusal 16")
         oci("catalogue", "--turns", "1", self.layout, folder)
         self.assertEqual(run(TOP / "target" / "bin" / "collect", cwd=folder).stdout.splitlines()[0], "unfinished")
+
+    def test_manifest_is_a_link(self):
+        """skopeo reads a manifest through a link; what it names stays."""
+        path = blob_path(self.layout, self.entry("two")["digest"])
+        path.rename(self.folder / "elsewhere")
+        path.symlink_to(self.folder / "elsewhere")
+        for tag in ("one", "three"):
+            unlist(self.layout, tag)
+        self.assertEqual(len(self.pruned()), 5)  # three's three; one's manifest and configuration
+        self.assertTrue(path.is_symlink())
+        self.works()
+
+    def test_shared_folder(self):
+        """blobs/ is a link that two layouts share: a plan is made, and nothing is moved."""
+        other = self.folder / "other"
+        shutil.copytree(self.layout, other)
+        shutil.rmtree(other / "blobs")
+        (other / "blobs").symlink_to(self.layout / "blobs")
+        unlist(other, "two")
+        self.assertEqual(len(plan(other)["dead"]), 3)
+        before = blobs(self.layout)
+        self.assertIn("blobs is a link", oci("prune", *NOW, other, status=1).stderr)
+        self.assertEqual(blobs(self.layout), before)
+        self.works()
+
+    def test_listed_and_absent(self):
+        one = self.entry("one")
+        unlist(self.layout, "two")
+        blob_path(self.layout, one["digest"]).unlink()
+        self.assertIn(one["digest"], self.refused())
+        oci("plan", "--allow-missing", self.layout)
+        blob_path(self.layout, one["digest"]).mkdir()
+        self.assertIn(one["digest"], self.refused())
+
+    def test_tag_moved(self):
+        """A tag that skopeo moved three times: what the older entries hold is told, and freed with --untagged."""
+        target = self.folder / "moved"
+        for tag in ("one", "two", "three"):
+            run("skopeo", "copy", "--insecure-policy", f"oci:{self.layout}:{tag}", f"oci:{target}:latest")
+        said = oci("prune", *NOW, target)
+        self.assertIn("2 entries of index.json have no tag", said.stderr)
+        self.assertEqual(len(blobs(target)), 9)
+        oci("prune", *NOW, "--untagged", target)
+        self.assertEqual(len(blobs(target)), 4)  # three's manifest, configuration and two layers
+        run("skopeo", "copy", "--insecure-policy", f"oci:{target}:latest", f"oci:{self.folder}/again:latest")
+
+    def test_kept_for_a_day(self):
+        """What is dead is moved, not deleted; restore puts back what is named again, and so does the next prune."""
+        two, index = self.entry("two"), (self.layout / "index.json").read_text()
+        unlist(self.layout, "two")
+        self.assertEqual(len(json.loads(oci("prune", "--json", self.layout).stdout)["moved"]), 0)  # younger than an hour
+        before = blobs(self.layout)
+        for again in (("restore",), ("prune", "--grace", "0")):
+            told = json.loads(oci("prune", "--json", "--grace", "0", self.layout).stdout)
+            self.assertEqual((len(told["moved"]), len(told["deleted"])), (3, 0))
+            self.assertFalse(blob_path(self.layout, two["digest"]).exists())
+            (self.layout / "index.json").write_text(index)
+            self.assertEqual(len(plan(self.layout)["movedAndNamed"]), 3)
+            self.assertEqual(len(json.loads(oci(*again, "--json", self.layout).stdout)["putBack"]), 3)
+            self.assertEqual(blobs(self.layout), before)
+            self.works_again()
+            unlist(self.layout, "two")
+
+    def works_again(self):
+        run("skopeo", "copy", "--insecure-policy", f"oci:{self.layout}:two", f"oci:{self.folder}/again:two")
+
+    def test_why(self):
+        one = self.entry("one")
+        layer = json.loads(blob_path(self.layout, one["digest"]).read_text())["layers"][0]["digest"]
+        self.assertEqual(oci("why", layer, self.layout).stdout.split()[0], "index.json")
+        chain = json.loads(oci("why", "--json", layer, self.layout).stdout)["chain"]
+        self.assertEqual((chain[0], chain[-1], len(chain)), ("", layer, 3))
+        loose = put(self.layout, b"loose")["digest"]
+        self.assertIn("younger than 1h", oci("why", loose, self.layout).stdout)
+        self.assertIn("it is dead", oci("why", "--grace", "0", loose, self.layout).stdout)
+        oci("why", "sha256:" + "0" * 64, self.layout, status=1)
+
+    def test_control_characters(self):
+        (self.layout / "blobs" / "sha256" / "a\x1b[31m\nb").write_text("stray")
+        said = oci("plan", self.layout).stderr
+        self.assertIn("a\\x1b[31m\\nb", said)
+        self.assertNotIn("\x1b", said)
+
+    def test_not_allowed(self):
+        """Nothing may be written: nothing is done, and a plan is made. One folder may not: the rest is done."""
+        if os.getuid() != 0:
+            self.skipTest("needs another user")
+        unlist(self.layout, "two")
+        data = b"\x1f\x8bof another algorithm"
+        stuck = self.layout / "blobs" / "sha512" / hashlib.sha512(data).hexdigest()
+        stuck.parent.mkdir()
+        stuck.write_bytes(data)
+        before = blobs(self.layout)
+        command = shutil.copy(COMMAND, self.folder / "command")
+        nobody = ("setpriv", "--reuid=65534", "--regid=65534", "--clear-groups", command)
+        for path in (self.folder, command, self.layout, *self.layout.rglob("*")):
+            os.chmod(path, 0o755)
+        self.assertEqual(len(json.loads(run(*nobody, "plan", "--json", "--grace", "0", self.layout).stdout)["dead"]), 4)
+        told = json.loads(run(*nobody, "prune", "--json", *NOW, self.layout, status=1).stdout)
+        self.assertIn("permission denied", told["error"])
+        self.assertEqual(blobs(self.layout), before)
+        for path in (self.layout, self.layout / "blobs", self.layout / "blobs" / "sha256"):
+            os.chmod(path, 0o777)
+        told = json.loads(run(*nobody, "prune", "--json", *NOW, self.layout, status=3).stdout)
+        self.assertEqual((told["status"], len(told["deleted"]), [one["digest"] for one in told["failed"]]), (3, 3, ["sha512:" + stuck.name]))
+        self.assertTrue(stuck.exists())
+        self.works()
+
+    def test_pushes_beside_prune(self):
+        """Some pushes beside prunes: after one further prune no finished push lacks a blob (tests/go/stress has more)."""
+        for number, (reused, way) in enumerate(((False, "beside_one"), (True, "beside_one"), (True, "beside_loop"))):
+            race = races.Race(self.folder / f"race{number}", races.PRUNE, reused)
+            finished, _ = getattr(race, way)(6)
+            self.assertGreater(finished, 0)
+            race.collect()
+            self.assertEqual(race.broken(), [])
 
     def test_drawn(self):
         """The course's page draws a layout: the same objects are dead, and a large one is summed up."""
@@ -283,8 +437,15 @@ class Layouts(unittest.TestCase):
         run("skopeo", "copy", "--insecure-policy", f"oci:{self.layout}:one", f"oci:{target}:one")
         self.layout = target
         self.assertEqual(self.pruned(), set())  # the older image is still an entry, without a tag
-        unlist(target, None)
-        self.assertEqual(len(self.pruned()), 3)
+        told = plan(target)["untagged"]
+        self.assertEqual(told["entries"], 1)
+        freed = plan(target, "--untagged")["freed"]
+        self.assertEqual(told["bytes"], freed)
+        self.assertGreater(freed, 0)
+        before = blobs(target)
+        oci("prune", *NOW, "--untagged", target)
+        self.assertEqual(len(before - blobs(target)), 3)
+        self.assertEqual({one["annotations"]["org.opencontainers.image.ref.name"] for one in listed(target)}, {"app", "one"})
         for tag in ("app", "one"):
             run("skopeo", "copy", "--insecure-policy", f"oci:{target}:{tag}", f"oci:{self.folder}/again:{tag}")
 
@@ -294,16 +455,7 @@ class Layouts(unittest.TestCase):
         return path
 
     def many(self, count):
-        """So many images of four blobs each, every other one listed."""
-        entries = []
-        for number in range(count):
-            config = {**put(self.layout, {"os": "linux", "number": number}), "mediaType": "application/vnd.oci.image.config.v1+json"}
-            layers = [{**put(self.layout, b"\x1f\x8b%d %d" % (number, k)), "mediaType": LAYER} for k in range(2)]
-            manifest = {"schemaVersion": 2, "mediaType": MANIFEST, "config": config, "layers": layers}
-            entry = {**put(self.layout, manifest), "mediaType": MANIFEST}
-            if number % 2:
-                entries.append(entry)
-        listed(self.layout, *entries)
+        fill(self.layout, count)
 
     def test_ten_thousand_blobs(self):
         self.many(2500)
@@ -316,13 +468,13 @@ class Layouts(unittest.TestCase):
         told = plan(self.layout)
         live = blobs(self.layout) - {one["digest"].split(":")[1] for one in told["dead"]}
         for number in range(12):
-            work = subprocess.Popen([COMMAND, "prune", str(self.layout)], stdout=subprocess.DEVNULL, stderr=subprocess.DEVNULL)
+            work = subprocess.Popen([COMMAND, "prune", *NOW, str(self.layout)], stdout=subprocess.DEVNULL, stderr=subprocess.DEVNULL)
             time.sleep(0.004 * number)
             work.send_signal(signal.SIGKILL)
             work.wait()
             self.assertTrue(live <= blobs(self.layout))
             self.assertEqual(plan(self.layout)["missing"], [])
-        oci("prune", self.layout)
+        oci("prune", *NOW, self.layout)
         self.assertEqual(blobs(self.layout), live)
         self.works()
 

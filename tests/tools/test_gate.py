@@ -9,7 +9,7 @@ from pathlib import Path
 
 TOP = Path(__file__).resolve().parents[2]
 GREEN = "3 passed, 0 failed"
-MADE = "made library steps deal"
+MADE = "made library steps deal oci"
 
 
 class Gate(unittest.TestCase):

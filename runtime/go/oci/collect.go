@@ -1,13 +1,12 @@
 package oci
 
 import (
+	"context"
 	"encoding/binary"
 	"errors"
 	"fmt"
-	"os"
-	"path/filepath"
 	"sort"
-	"syscall"
+	"time"
 
 	digest "github.com/opencontainers/go-digest"
 	"kullneyra.example/go/kullneyra"
@@ -22,22 +21,46 @@ const (
 	subjectKind, subjectLength     = 5, 12
 )
 
-// Catalogue is the layout as store.cat, with leases on these digests. A digest that is not there is an error.
-func (l *Layout) Catalogue(keep []digest.Digest) ([]byte, error) {
+// limits of one graph; tests make them small.
+type limits struct{ objects, references int }
+
+var graphLimits = limits{kullneyra.MostObjects, kullneyra.MostReferences}
+
+// ErrTooLarge says that a layout does not fit, not even in slices.
+var ErrTooLarge = errors.New("the layout is too large")
+
+// slice is a part of a layout: every object with an arrow out of it, and some of the others. Nothing goes out of those
+// others, so what is dead in a slice is dead in the whole, and what lives lives.
+type slice struct {
+	objects    []int // the layout's numbers, ascending; the first is index.json
+	references []Reference
+}
+
+// places are the numbers of objects within the slice.
+func (s slice) places(objects []int) []int {
+	all := make([]int, len(objects))
+	for k, number := range objects {
+		all[k] = sort.SearchInts(s.objects, number)
+	}
+	return all
+}
+
+// catalogue is the slice as store.cat, with leases on these objects.
+func (l *Layout) catalogue(s slice, keep []int) []byte {
 	var out []byte
 	record := func(kind, length uint16) {
 		out = binary.LittleEndian.AppendUint16(binary.LittleEndian.AppendUint16(out, length), kind)
 	}
 	word := func(number int) { out = binary.LittleEndian.AppendUint32(out, uint32(number)) }
 	record(headerKind, headerLength)
-	word(len(l.Blobs))
-	word(len(l.References))
+	word(len(s.objects))
+	word(len(s.references))
 	word(0)
-	for _, blob := range l.Blobs {
+	for _, number := range s.objects {
 		record(objectKind, objectLength)
-		out = binary.LittleEndian.AppendUint64(out, uint64(blob.Size))
+		out = binary.LittleEndian.AppendUint64(out, uint64(l.Blobs[number].Size))
 	}
-	for _, reference := range l.References {
+	for _, reference := range s.references {
 		kind := uint16(referenceKind)
 		if reference.Subject {
 			kind = subjectKind
@@ -46,23 +69,154 @@ func (l *Layout) Catalogue(keep []digest.Digest) ([]byte, error) {
 		word(reference.From)
 		word(reference.To)
 	}
-	for _, name := range keep {
-		number, there := l.numbers[name]
-		if !there {
-			return nil, &Fault{name, errors.New("is to be kept and is not there")}
-		}
+	for _, number := range keep {
 		record(leaseKind, leaseLength)
 		word(number)
 	}
-	return out, nil
+	return out
+}
+
+// kept are the numbers of digests that are to be kept.
+func (l *Layout) kept(keep []digest.Digest) ([]int, error) {
+	var all []int
+	for _, name := range keep {
+		number, there := l.Number(name)
+		if !there {
+			return nil, &Fault{name, errors.New("is to be kept and is not there")}
+		}
+		all = append(all, number)
+	}
+	return all, nil
+}
+
+// Tags are the digests that index.json lists under a tag.
+func (l *Layout) Tags(tag string) []digest.Digest {
+	var all []digest.Digest
+	for _, one := range l.entries {
+		if tagOf(one) == tag {
+			all = append(all, one.Digest)
+		}
+	}
+	return all
+}
+
+// whole is the layout as one slice.
+func (l *Layout) whole() slice {
+	s := slice{objects: make([]int, len(l.Blobs)), references: l.References}
+	for number := range s.objects {
+		s.objects[number] = number
+	}
+	return s
+}
+
+// Catalogue is the layout as store.cat, with leases on these digests. A digest that is not there is an error.
+func (l *Layout) Catalogue(keep []digest.Digest) ([]byte, error) {
+	numbers, err := l.kept(keep)
+	if err != nil {
+		return nil, err
+	}
+	return l.catalogue(l.whole(), numbers), nil
+}
+
+// slices cuts the graph of these references so that each part fits.
+func (l *Layout) slices(references []Reference, keep []int, most limits) ([]slice, error) {
+	if len(l.Blobs) <= most.objects && len(references) <= most.references {
+		s := l.whole()
+		s.references = references
+		return []slice{s}, nil
+	}
+	// What has an arrow out of it is in every slice, and so is what is kept.
+	inner := make([]bool, len(l.Blobs))
+	inner[0] = true
+	for _, reference := range references {
+		if reference.Subject {
+			inner[reference.To] = true
+		} else {
+			inner[reference.From] = true
+		}
+	}
+	for _, number := range keep {
+		inner[number] = true
+	}
+	var common []int
+	named := make([]int, len(l.Blobs)) // references to what has none
+	between := 0
+	for _, reference := range references {
+		switch {
+		case inner[reference.From] && inner[reference.To]:
+			between++
+		case inner[reference.From]:
+			named[reference.To]++
+		default:
+			named[reference.From]++
+		}
+	}
+	for number, is := range inner {
+		if is {
+			common = append(common, number)
+		}
+	}
+	refused := func(count int, what string, limit int) error {
+		return fmt.Errorf("%w: %d %s, where one collection takes %d; split the layout, or take tags out of it and prune in steps", ErrTooLarge, count, what, limit)
+	}
+	if len(common) >= most.objects {
+		return nil, refused(len(common), "manifests and indexes", most.objects-1)
+	}
+	if between > most.references {
+		return nil, refused(between, "references between manifests and indexes", most.references)
+	}
+	var parts [][]int
+	part, count := []int(nil), between
+	for number := range l.Blobs {
+		if inner[number] {
+			continue
+		}
+		if between+named[number] > most.references {
+			return nil, refused(between+named[number], "references", most.references)
+		}
+		if len(common)+len(part) == most.objects || count+named[number] > most.references {
+			parts, part, count = append(parts, part), nil, between
+		}
+		part, count = append(part, number), count+named[number]
+	}
+	parts = append(parts, part)
+	var all []slice
+	place := make([]int, len(l.Blobs))
+	for _, part := range parts {
+		s := slice{objects: append(append([]int(nil), common...), part...)}
+		sort.Ints(s.objects)
+		for number := range place {
+			place[number] = -1
+		}
+		for k, number := range s.objects {
+			place[number] = k
+		}
+		for _, one := range references {
+			if from, to := place[one.From], place[one.To]; from >= 0 && to >= 0 {
+				s.references = append(s.references, Reference{from, to, one.Subject})
+			}
+		}
+		all = append(all, s)
+	}
+	return all, nil
 }
 
 // Plan is what a finished collection found dead.
 type Plan struct {
-	Dead   []Blob // by number
-	Freed  uint64
-	Live   uint64
-	Marked kullneyra.Marked
+	Dead    []Blob // below blobs/, by number
+	Freed   uint64
+	Live    uint64
+	Missing []Missing
+	Damaged []Damage // told: those that live, and those that are held because they may be live
+	Young   int      // dead, and held because they are younger than the grace
+	// What was moved before.
+	Return []Blob // live by now: to be put back
+	Moved  []Blob // dead still
+	// Entries of index.json without a tag, and what would be freed besides if they were taken out.
+	Untagged      int
+	UntaggedFreed uint64
+
+	live []bool
 }
 
 // Order is the schedule of a collection, and its settings.
@@ -83,9 +237,8 @@ func RoundRobin(workers uint32, turns int) Order {
 	return Order{kullneyra.Settings{Workers: workers, Batch: batch, Cutoff: cutoff}, schedule}
 }
 
-// Store is a layout as the proved reader read it, with what is kept as leases.
+// Store is a layout, or a slice of it, as the proved reader read it, with what is kept as leases.
 type Store struct {
-	layout *Layout
 	graph  kullneyra.Graph
 	sizes  []uint64
 	starts []uint32
@@ -93,19 +246,23 @@ type Store struct {
 
 // Read makes the catalogue of the layout, with leases on these digests, and lets the proved reader read it.
 func (l *Layout) Read(keep []digest.Digest) (*Store, error) {
-	catalogue, err := l.Catalogue(keep)
+	numbers, err := l.kept(keep)
 	if err != nil {
 		return nil, err
 	}
+	return l.read(l.whole(), numbers)
+}
+
+func (l *Layout) read(of slice, keep []int) (*Store, error) {
+	catalogue := l.catalogue(of, keep)
 	refused := func(err error) error {
-		return fmt.Errorf("a layout of %d objects, %d references and %d kept: %w", len(l.Blobs), len(l.References), len(keep), err)
+		return fmt.Errorf("a layout of %d objects, %d references and %d kept: %w", len(of.objects), len(of.references), len(keep), err)
 	}
 	head, err := kullneyra.Header(catalogue)
 	if err != nil {
 		return nil, refused(err)
 	}
 	s := &Store{
-		layout: l,
 		graph:  kullneyra.Graph{Offsets: make([]uint32, head.N+1), Targets: make([]uint32, head.M)},
 		sizes:  make([]uint64, head.N),
 		starts: make([]uint32, kullneyra.Starts),
@@ -118,16 +275,22 @@ func (l *Layout) Read(keep []digest.Digest) (*Store, error) {
 	return s, nil
 }
 
-// Rounds is how many rounds of so many workers finish every collection of the store: demand 3's bound, 7R + 4W + 2. R, the
-// references that leave reachable objects, is told by the hops.
-func (s *Store) Rounds(workers uint32) (int, error) {
+// hops is how many references lead to each object, at least.
+func (s *Store) hops() ([]uint32, error) {
 	n := len(s.sizes)
 	words, err := kullneyra.HopWords(uint32(n))
 	if err != nil {
-		return 0, err
+		return nil, err
 	}
 	hops := make([]uint32, n)
-	if err := kullneyra.Hops(s.graph, s.starts, hops, make([]uint32, words)); err != nil {
+	return hops, kullneyra.Hops(s.graph, s.starts, hops, make([]uint32, words))
+}
+
+// Rounds is how many rounds of so many workers finish every collection of the store: demand 3's bound, 7R + 4W + 2. R, the
+// references that leave reachable objects, is told by the hops.
+func (s *Store) Rounds(workers uint32) (int, error) {
+	hops, err := s.hops()
+	if err != nil {
 		return 0, err
 	}
 	reached := 0
@@ -165,11 +328,11 @@ func (s *Store) SeedOrder(seed kullneyra.Seed, workers uint32) (Order, error) {
 	return Order{kullneyra.Settings{Workers: workers, Batch: batch, Cutoff: cutoff}, schedule}, nil
 }
 
-// errUnfinished is no refusal: the schedule was too short.
-var errUnfinished = errors.New("the schedule does not finish the collection, so nothing is known to be dead")
+// ErrUnfinished is no refusal: the schedule was too short.
+var ErrUnfinished = errors.New("the schedule does not finish the collection, so nothing is known to be dead")
 
-// Plan runs the proved marker and sweep on the store.
-func (s *Store) Plan(order Order) (*Plan, error) {
+// Dead runs the proved marker and sweep on the store, and answers the numbers of what is dead.
+func (s *Store) Dead(order Order) ([]uint32, error) {
 	n, workers := len(s.sizes), int(order.Settings.Workers)
 	buffers := kullneyra.Buffers{
 		Marks:   make([]byte, n),
@@ -181,100 +344,321 @@ func (s *Store) Plan(order Order) (*Plan, error) {
 		return nil, err
 	}
 	if !marked.Finished {
-		return nil, errUnfinished
+		return nil, ErrUnfinished
 	}
 	list := make([]uint32, n)
 	swept, err := kullneyra.Sweep(buffers.Marks, s.sizes, list)
 	if err != nil {
 		return nil, err
 	}
-	plan := &Plan{Freed: swept.Freed, Live: marked.Live, Marked: marked}
-	for _, number := range list[:swept.Dead] {
-		plan.Dead = append(plan.Dead, s.layout.Blobs[number])
+	return list[:swept.Dead], nil
+}
+
+// mark says of each object whether it lives, by a collection of one worker for each slice.
+func (l *Layout) mark(ctx context.Context, references []Reference, keep []int, most limits) ([]bool, error) {
+	parts, err := l.slices(references, keep, most)
+	if err != nil {
+		return nil, err
+	}
+	live, seen := make([]bool, len(l.Blobs)), make([]bool, len(l.Blobs))
+	for _, part := range parts {
+		if err := ctx.Err(); err != nil {
+			return nil, err
+		}
+		store, err := l.read(part, part.places(keep))
+		if err != nil {
+			return nil, err
+		}
+		order, err := store.Enough(1)
+		if err != nil {
+			return nil, err
+		}
+		dead, err := store.Dead(order)
+		if err != nil {
+			return nil, err
+		}
+		is := make([]bool, len(part.objects))
+		for _, number := range dead {
+			is[number] = true
+		}
+		for k, number := range part.objects {
+			if seen[number] && live[number] == is[k] {
+				return nil, fmt.Errorf("%s lives in one slice and is dead in another", l.Blobs[number].Digest)
+			}
+			live[number], seen[number] = !is[k], true
+		}
+	}
+	return live, nil
+}
+
+// Settings of a plan.
+type Settings struct {
+	Keep         []digest.Digest // held as a download in progress, with all that they refer to
+	Grace        time.Duration   // what is younger is held, with all that it refers to
+	AllowMissing bool            // a manifest that index.json lists may be absent
+	DropDamaged  bool            // what is damaged is not held for that
+	Untagged     bool            // entries of index.json without a tag hold nothing
+}
+
+// Plan finds what is dead.
+func (l *Layout) Plan(ctx context.Context, s Settings) (*Plan, error) {
+	keep, err := l.kept(s.Keep)
+	if err != nil {
+		return nil, err
+	}
+	if err := l.complete(s); err != nil {
+		return nil, err
+	}
+	references := l.References
+	if s.DropDamaged {
+		references = l.withoutDamaged(references)
+	}
+	if s.Untagged {
+		if references, err = l.onlyTagged(references); err != nil {
+			return nil, err
+		}
+	}
+	// First what index.json holds: damage there is a fault.
+	live, err := l.mark(ctx, references, keep, graphLimits)
+	if err != nil {
+		return nil, err
+	}
+	plan := &Plan{}
+	for number := range l.Blobs {
+		blob := &l.Blobs[number]
+		if damage := blob.damage; damage != nil {
+			if live[number] && damage.content {
+				return nil, &Fault{blob.Digest, fmt.Errorf("is live, and damaged: %w", damage.Err)}
+			}
+			if live[number] || blob.Moved == "" {
+				plan.Damaged = append(plan.Damaged, *damage)
+			}
+		}
+	}
+	// Then what is held besides.
+	held := l.besides(live, s)
+	plan.Young = held.young
+	if len(held.objects) > 0 {
+		if live, err = l.mark(ctx, held.with(references), keep, graphLimits); err != nil {
+			return nil, err
+		}
+	}
+	plan.live = live
+	for number := range l.Blobs {
+		blob := l.Blobs[number]
+		switch {
+		case live[number]:
+			plan.Live++
+			if blob.Moved != "" {
+				plan.Return = append(plan.Return, blob)
+			}
+		case blob.absent:
+		case blob.Moved != "":
+			plan.Moved = append(plan.Moved, blob)
+		default:
+			plan.Dead = append(plan.Dead, blob)
+			plan.Freed += uint64(blob.Size)
+		}
+	}
+	plan.Moved = append(plan.Moved, l.copies...)
+	l.tellMissing(plan)
+	if plan.Untagged = l.untagged; l.untagged > 0 && !s.Untagged {
+		return plan, l.weighUntagged(ctx, plan, references, held, keep)
 	}
 	return plan, nil
 }
 
-// Plan is what a collection of one worker finds dead, with these digests kept.
-func (l *Layout) Plan(keep []digest.Digest) (*Plan, error) {
-	store, err := l.Read(keep)
-	if err != nil {
-		return nil, err
+// complete says whether all that index.json lists is there.
+func (l *Layout) complete(s Settings) error {
+	for _, one := range l.entries {
+		if _, there := l.Number(one.Digest); !there && len(one.Data) == 0 && !s.AllowMissing {
+			return &Fault{one.Digest, errors.New("is listed in index.json and is not there, so what it refers to is not known (--allow-missing)")}
+		}
 	}
-	order, err := store.Enough(1)
-	if err != nil {
-		return nil, err
-	}
-	return store.Plan(order)
+	return nil
 }
 
-// lockFile stands in the layout while it is pruned. The lock goes with the process, so what a crash leaves locks nobody out.
-const lockFile = ".kullneyra-oci.lock"
-
-// ErrLocked says that another prune is at work.
-var ErrLocked = errors.New("another prune of this layout is at work")
-
-// Lock keeps a second prune out until the function that it answers is called.
-func Lock(path string) (func(), error) {
-	for {
-		file, err := os.OpenFile(filepath.Join(path, lockFile), os.O_CREATE|os.O_RDWR, 0o644)
-		if err != nil {
-			return nil, err
+// withoutDamaged leaves out the subjects that damaged texts name.
+func (l *Layout) withoutDamaged(all []Reference) []Reference {
+	var kept []Reference
+	for _, one := range all {
+		if !one.Subject || l.Blobs[one.From].damage == nil {
+			kept = append(kept, one)
 		}
-		if err := syscall.Flock(int(file.Fd()), syscall.LOCK_EX|syscall.LOCK_NB); err != nil {
-			file.Close()
-			if errors.Is(err, syscall.EWOULDBLOCK) {
-				return nil, ErrLocked
+	}
+	return kept
+}
+
+// onlyTagged puts what index.json without its untagged entries names in the place of what index.json names.
+func (l *Layout) onlyTagged(all []Reference) ([]Reference, error) {
+	if l.untagged == 0 {
+		return all, nil
+	}
+	if l.untagged == len(l.entries) {
+		return nil, &Fault{Err: errors.New("no entry of index.json has a tag: without them nothing would be left")}
+	}
+	f := &follower{Layout: &Layout{Path: l.Path, Blobs: l.Blobs, holders: map[digest.Digest][]int{}}, groups: l.groups()}
+	c := parse(l.tagged)
+	if c == nil {
+		return nil, &Fault{Err: errors.New("index.json without its untagged entries is no index")}
+	}
+	if err := f.take(0, l.tagged, c); err != nil {
+		return nil, err
+	}
+	if err := f.scan(); err != nil {
+		return nil, err
+	}
+	references := append([]Reference(nil), f.References...)
+	for _, one := range all {
+		// What names a subject that an entry holds in its data is held as before.
+		if one.From != 0 {
+			references = append(references, one)
+		}
+	}
+	return distinct(references), nil
+}
+
+// weighUntagged tells what the entries without a tag hold alone.
+func (l *Layout) weighUntagged(ctx context.Context, plan *Plan, references []Reference, held besides, keep []int) error {
+	if l.untagged == len(l.entries) {
+		return nil
+	}
+	tagged, err := l.onlyTagged(references)
+	if err != nil {
+		return err
+	}
+	live, err := l.mark(ctx, held.with(tagged), keep, graphLimits)
+	if err != nil {
+		return err
+	}
+	for number := range l.Blobs {
+		if plan.live[number] && !live[number] && l.Blobs[number].Moved == "" {
+			plan.UntaggedFreed += uint64(l.Blobs[number].Size)
+		}
+	}
+	return nil
+}
+
+// besides are the objects that are held though nothing names them.
+type besides struct {
+	objects []int
+	young   int
+}
+
+// with is these references, and one from index.json to each object that is held besides.
+func (b besides) with(references []Reference) []Reference {
+	all := append([]Reference(nil), references...)
+	for _, number := range b.objects {
+		all = append(all, Reference{From: 0, To: number})
+	}
+	return distinct(all)
+}
+
+func (l *Layout) besides(live []bool, s Settings) besides {
+	var held besides
+	for number := 1; number < len(l.Blobs); number++ {
+		blob := &l.Blobs[number]
+		if live[number] || blob.Moved != "" || blob.absent {
+			continue
+		}
+		young := s.Grace > 0 && l.began.UnixNano()-blob.changed < int64(s.Grace)
+		if young {
+			held.young++
+		}
+		if young || blob.link || blob.foreign || blob.damage != nil && !s.DropDamaged {
+			held.objects = append(held.objects, number)
+		}
+	}
+	return held
+}
+
+// tellMissing lists what live objects refer to and what is not there.
+func (l *Layout) tellMissing(plan *Plan) {
+	told := map[digest.Digest]bool{}
+	tell := func(one Missing) {
+		if !told[one.Digest] && plan.live[one.by] {
+			told[one.Digest] = true
+			plan.Missing = append(plan.Missing, one)
+		}
+	}
+	for _, one := range l.missing {
+		tell(one)
+	}
+	for _, one := range l.References {
+		if to := &l.Blobs[one.To]; to.absent && !one.Subject {
+			tell(Missing{Digest: to.Digest, By: l.Blobs[one.From].Digest, by: one.From})
+		}
+	}
+	sort.SliceStable(plan.Missing, func(a, b int) bool { return plan.Missing[a].Digest < plan.Missing[b].Digest })
+}
+
+// Why is the chain of names that leads from index.json, or from what is kept, to an object: digests, index.json as an empty
+// one. It is empty for what is dead.
+func (l *Layout) Why(ctx context.Context, name digest.Digest, s Settings) ([]digest.Digest, error) {
+	target, there := l.Number(name)
+	if !there {
+		return nil, &Fault{name, errors.New("is not there")}
+	}
+	keep, err := l.kept(s.Keep)
+	if err != nil {
+		return nil, err
+	}
+	parts, err := l.slices(l.References, append(keep, target), graphLimits)
+	if err != nil {
+		return nil, err
+	}
+	part := parts[0]
+	store, err := l.read(part, part.places(keep))
+	if err != nil {
+		return nil, err
+	}
+	hops, err := store.hops()
+	if err != nil {
+		return nil, err
+	}
+	at := sort.SearchInts(part.objects, target)
+	if hops[at] == kullneyra.NoHops {
+		return nil, nil
+	}
+	chain := []digest.Digest{name}
+	for hops[at] > 0 {
+		for from, hop := range hops {
+			if hop+1 == hops[at] && refers(store.graph, from, at) {
+				at = from
+				break
 			}
-			return nil, err
 		}
-		// Whoever held it before may have taken the file away between opening and locking.
-		if same(file) {
-			return func() {
-				os.Remove(file.Name())
-				file.Close()
-			}, nil
-		}
-		file.Close()
+		chain = append([]digest.Digest{l.Blobs[part.objects[at]].Digest}, chain...)
 	}
+	return chain, nil
 }
 
-// same says whether the open file is the one that stands under its name.
-func same(file *os.File) bool {
-	held, err := file.Stat()
-	if err != nil {
-		return false
+// Besides says why a blob to which no chain of names leads is held all the same; it is empty if nothing of it says so.
+func (l *Layout) Besides(name digest.Digest, s Settings) string {
+	number, there := l.Number(name)
+	if !there {
+		return ""
 	}
-	there, err := os.Stat(file.Name())
-	return err == nil && os.SameFile(held, there)
+	switch blob := &l.Blobs[number]; {
+	case blob.Moved != "":
+		return ""
+	case blob.link:
+		return "it is a link"
+	case blob.foreign:
+		return "its algorithm is not known"
+	case blob.damage != nil && !s.DropDamaged:
+		return "it is damaged, and may be a signature"
+	case s.Grace > 0 && l.began.UnixNano()-blob.changed < int64(s.Grace):
+		return "it is younger than " + s.Grace.String()
+	}
+	return ""
 }
 
-// depth is the order of deleting: what refers goes before what it refers to, so that an interrupted prune leaves no
-// arrow to nowhere.
-func depth(kind string) int {
-	switch kind {
-	case Index:
-		return 0
-	case Manifest, Artifact:
-		return 1
-	}
-	return 2
-}
-
-// Prune deletes what the plan lists, if the layout is still as it was read. It answers how many blobs it deleted.
-func (l *Layout) Prune(plan *Plan) (int, error) {
-	if err := l.Unchanged(); err != nil {
-		return 0, err
-	}
-	dead := append([]Blob(nil), plan.Dead...)
-	sort.SliceStable(dead, func(a, b int) bool { return depth(dead[a].Kind) < depth(dead[b].Kind) })
-	for done, blob := range dead {
-		if blob.Digest == "" {
-			return done, errors.New("index.json is never deleted")
-		}
-		if err := os.Remove(filepath.Join(l.Path, blob.path)); err != nil {
-			return done, &Fault{blob.Digest, err}
+func refers(g kullneyra.Graph, from, to int) bool {
+	for _, one := range kullneyra.References(g, uint32(from)) {
+		if int(one) == to {
+			return true
 		}
 	}
-	return len(dead), nil
+	return false
 }

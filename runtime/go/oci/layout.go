@@ -1,13 +1,14 @@
 // Package oci reads an OCI image layout as a store of objects that refer to each other, and lets the proved reader,
 // marker and sweep of package kullneyra find what of it nothing holds.
 //
-// Object 0 is index.json; every blob is an object. An index refers to its manifests, a manifest to its configuration and
-// its layers. What names a subject, as a signature does, is held by the subject, whether the index lists it or not.
+// Object 0 is index.json; every blob is an object. A text, which is a manifest or an index by its content, refers to every
+// blob whose name stands in it. What names a subject, as a signature does, is held by the subject too, whether an index
+// lists it or not. docs/OCI.md says what is held besides, and what is promised.
 package oci
 
 import (
-	"bufio"
 	"bytes"
+	"context"
 	"encoding/json"
 	"errors"
 	"fmt"
@@ -16,6 +17,8 @@ import (
 	"os"
 	"path/filepath"
 	"sort"
+	"strings"
+	"time"
 
 	digest "github.com/opencontainers/go-digest"
 	v1 "github.com/opencontainers/image-spec/specs-go/v1"
@@ -24,19 +27,27 @@ import (
 const (
 	indexFile = "index.json"
 	blobs     = "blobs"
-	// A blob above this is not looked into unless a descriptor says that it is a manifest or an index: registries
-	// take manifests of up to 4 MiB.
-	mostManifest = 4 << 20
 )
 
-// Blob is an object of the layout: index.json, or a file below blobs/.
+// Blob is an object of the layout: index.json, or a file below blobs/ or among what was moved.
 type Blob struct {
 	Digest digest.Digest // empty for index.json
 	Size   int64
 	Kind   string
-	path   string
-	stamp  string // size and time of change, to find out what changed since
+	Moved  string // the folder of what was moved in which it lies; empty for what lies below blobs/
+
+	changed int64 // the later one of the times of content and of name, in nanoseconds
+	damage  *Damage
+	text    bool // a manifest or an index, or what may be one
+	link    bool // a symbolic link: it is read through, and never moved
+	foreign bool // its algorithm is not known: it is never moved
+	absent  bool // it went while the layout was read, or its link leads nowhere
+	suspect bool // a list of manifests names it, and it is none
+	file    identity
 }
+
+// identity tells files apart.
+type identity struct{ device, number uint64 }
 
 // Reference is an arrow between two objects, by their numbers. A subject's goes from what names it to what is named.
 type Reference struct {
@@ -44,29 +55,46 @@ type Reference struct {
 	Subject  bool
 }
 
-// Missing is a blob that something refers to and that is not there: a layer of another platform, or a foreign one.
+// Missing is a blob that something live refers to and that is not there: of another platform, or a foreign layer.
 type Missing struct {
 	Digest  digest.Digest
 	By      digest.Digest // empty for index.json
 	Foreign bool          // it has an address to be fetched from
+
+	by int
+}
+
+// Damage is a text that cannot be read as what it is.
+type Damage struct {
+	Digest digest.Digest
+	Err    error
+
+	content bool // the bytes are not those that the name stands for, or cannot be had
 }
 
 // Layout is what a folder holds.
 type Layout struct {
 	Path       string
-	Blobs      []Blob // by number; 0 is index.json
-	References []Reference
-	Missing    []Missing
-	Stray      []string // files below blobs/ that are no blobs, relative to Path; they are left alone
+	Blobs      []Blob      // by number: index.json, then in the order of their digests
+	References []Reference // by both numbers, each once
+	Stray      []string    // what stands below blobs/ and is no blob, relative to Path; it is left alone
+	Shared     string      // why nothing may be moved here, if that is so
 
-	index   []byte
-	numbers map[digest.Digest]int
+	entries    []descriptor // of index.json
+	index      []byte
+	tagged     []byte // index.json without the entries that have no tag
+	untagged   int
+	missing    []Missing
+	holders    map[digest.Digest][]int // the texts that hold a manifest in the data of a descriptor
+	copies     []Blob                  // lie among what was moved, and are there besides
+	subjectsOf []named
+	began      time.Time
 }
 
 // Options of Open.
 type Options struct {
 	Verify   bool                  // hash every blob and compare its digest
-	Progress func(done, all int64) // bytes hashed, if Verify
+	Progress func(done, all int64) // bytes hashed, if Verify; from several goroutines, one at a time
 }
 
 // Fault is a fault of the layout, with the blob that has it.
@@ -85,21 +113,21 @@ func (f *Fault) Error() string {
 func (f *Fault) Unwrap() error { return f.Err }
 
 // Open reads a layout. It changes nothing.
-func Open(path string, o Options) (*Layout, error) {
-	l := &Layout{Path: path, numbers: map[digest.Digest]int{}}
+func Open(ctx context.Context, path string, o Options) (*Layout, error) {
+	l := &Layout{Path: path, holders: map[digest.Digest][]int{}, began: time.Now()}
 	if err := l.readHead(); err != nil {
 		return nil, err
 	}
 	if err := l.list(); err != nil {
 		return nil, err
 	}
+	if err := l.follow(ctx); err != nil {
+		return nil, err
+	}
 	if o.Verify {
-		if err := l.verify(o.Progress); err != nil {
+		if err := l.verify(ctx, o.Progress); err != nil {
 			return nil, err
 		}
-	}
-	if err := l.follow(); err != nil {
-		return nil, err
 	}
 	return l, nil
 }
@@ -121,13 +149,46 @@ func (l *Layout) readHead() error {
 	if err != nil {
 		return &Fault{Err: err}
 	}
-	l.Blobs = []Blob{{Kind: Index, Size: int64(len(l.index)), path: indexFile}}
+	l.Blobs = []Blob{{Kind: Index, Size: int64(len(l.index)), text: true}}
 	return nil
 }
 
 // list finds the blobs, in the order of their digests, and what stands among them that is none.
 func (l *Layout) list() error {
-	algorithms, err := os.ReadDir(filepath.Join(l.Path, blobs))
+	l.Shared = shared(l.Path)
+	if err := l.listFolder(blobs, ""); err != nil {
+		return err
+	}
+	if err := l.listMoved(); err != nil {
+		return err
+	}
+	// What lies below blobs/ goes before what was moved, and what was moved last before the rest.
+	all := l.Blobs[1:]
+	before := func(a, b int) bool {
+		if all[a].Digest != all[b].Digest {
+			return all[a].Digest < all[b].Digest
+		}
+		return all[a].Moved == "" && all[b].Moved != "" || all[a].Moved > all[b].Moved && all[b].Moved != ""
+	}
+	if !sort.SliceIsSorted(all, before) {
+		sort.Slice(all, before)
+	}
+	kept := l.Blobs[:1]
+	for _, blob := range all {
+		if last := kept[len(kept)-1]; last.Digest == blob.Digest {
+			l.copies = append(l.copies, blob)
+		} else {
+			kept = append(kept, blob)
+		}
+	}
+	l.Blobs = kept
+	sort.Strings(l.Stray)
+	return nil
+}
+
+// listFolder takes in the blobs of a folder that is laid out as blobs/ is.
+func (l *Layout) listFolder(folder, moved string) error {
+	algorithms, err := os.ReadDir(filepath.Join(l.Path, folder))
 	if errors.Is(err, fs.ErrNotExist) {
 		return nil
 	}
@@ -135,210 +196,170 @@ func (l *Layout) list() error {
 		return &Fault{Err: err}
 	}
 	for _, algorithm := range algorithms {
-		folder := filepath.Join(blobs, algorithm.Name())
-		if !algorithm.IsDir() || !digest.Algorithm(algorithm.Name()).Available() {
+		folder := filepath.Join(folder, algorithm.Name())
+		info, err := os.Stat(filepath.Join(l.Path, folder))
+		if err != nil || !info.IsDir() {
 			l.Stray = append(l.Stray, folder)
 			continue
 		}
-		files, err := os.ReadDir(filepath.Join(l.Path, folder))
+		known := digest.Algorithm(algorithm.Name()).Available()
+		var names []digest.Digest
+		links := map[digest.Digest]bool{}
+		err = eachEntry(filepath.Join(l.Path, folder), func(file fs.DirEntry) {
+			name := digest.NewDigestFromEncoded(digest.Algorithm(algorithm.Name()), file.Name())
+			link := file.Type()&fs.ModeSymlink != 0
+			if !link && !file.Type().IsRegular() || known && !valid(name) {
+				l.Stray = append(l.Stray, filepath.Join(folder, file.Name()))
+				return
+			}
+			if names = append(names, name); link {
+				links[name] = true
+			}
+		})
 		if err != nil {
 			return &Fault{Err: err}
 		}
-		for _, file := range files {
-			path := filepath.Join(folder, file.Name())
-			name := digest.NewDigestFromEncoded(digest.Algorithm(algorithm.Name()), file.Name())
-			if !file.Type().IsRegular() || name.Validate() != nil {
-				l.Stray = append(l.Stray, path)
-				continue
-			}
-			info, err := file.Info()
-			if err != nil {
-				return &Fault{Err: err}
-			}
-			l.Blobs = append(l.Blobs, Blob{Digest: name, Size: info.Size(), Kind: Unknown, path: path, stamp: stampOf(info)})
+		sort.Slice(names, func(a, b int) bool { return names[a] < names[b] })
+		grown := make([]Blob, len(l.Blobs), len(l.Blobs)+len(names))
+		copy(grown, l.Blobs)
+		for _, name := range names {
+			grown = append(grown, Blob{Digest: name, Kind: Unknown, Moved: moved, link: links[name], foreign: !known})
 		}
-	}
-	sort.Slice(l.Blobs[1:], func(a, b int) bool { return l.Blobs[1+a].Digest < l.Blobs[1+b].Digest })
-	sort.Strings(l.Stray)
-	for number, blob := range l.Blobs {
-		if number > 0 {
-			l.numbers[blob.Digest] = number
-		}
+		l.Blobs = grown
 	}
 	return nil
 }
 
-func stampOf(info fs.FileInfo) string {
-	return fmt.Sprintf("%d %d", info.Size(), info.ModTime().UnixNano())
-}
-
-// verify hashes every blob.
-func (l *Layout) verify(progress func(done, all int64)) error {
-	var all, done int64
-	for _, blob := range l.Blobs[1:] {
-		all += blob.Size
+// eachEntry goes over a folder, some entries at a time.
+func eachEntry(path string, do func(fs.DirEntry)) error {
+	folder, err := os.Open(path)
+	if err != nil {
+		return err
 	}
-	for _, blob := range l.Blobs[1:] {
-		file, err := os.Open(filepath.Join(l.Path, blob.path))
-		if err != nil {
-			return &Fault{blob.Digest, err}
-		}
-		verifier := blob.Digest.Verifier()
-		count, err := io.Copy(verifier, bufio.NewReaderSize(file, 1<<20))
-		file.Close()
-		if err != nil {
-			return &Fault{blob.Digest, err}
-		}
-		if !verifier.Verified() {
-			return &Fault{blob.Digest, errors.New("its content has another digest")}
-		}
-		if done += count; progress != nil {
-			progress(done, all)
-		}
-	}
-	return nil
-}
-
-// follow reads every manifest and every index, from index.json on, and then whatever else may be one: what names a
-// subject need not be listed.
-func (l *Layout) follow() error {
-	top, err := parse(l.index)
-	if err != nil || top.kind != Index {
-		if err == nil || errors.Is(err, errNone) {
-			err = errors.New("no image index")
-		}
-		return &Fault{Err: fmt.Errorf("%s: %w", indexFile, err)}
-	}
-	read := make([]bool, len(l.Blobs))
-	leaf := make([]bool, len(l.Blobs))
-	queue := l.take(0, top)
+	defer folder.Close()
 	for {
-		for len(queue) > 0 {
-			number := queue[0]
-			queue = queue[1:]
-			// A leaf is read once more when a later descriptor calls it a manifest or an index.
-			if read[number] && !(leaf[number] && manifestLike(l.Blobs[number].Kind)) {
-				continue
-			}
-			read[number] = true
-			c, err := l.contentOf(number)
-			if err != nil {
-				return &Fault{l.Blobs[number].Digest, err}
-			}
-			if leaf[number] = c == nil; c != nil {
-				queue = append(queue, l.take(number, *c)...)
-			}
+		some, err := folder.ReadDir(1024)
+		for _, one := range some {
+			do(one)
 		}
-		// What no descriptor has named yet.
-		for number := 1; number < len(read); number++ {
-			if !read[number] {
-				queue = append(queue, number)
-			}
+		if errors.Is(err, io.EOF) {
+			return nil
 		}
-		if len(queue) == 0 {
-			break
+		if err != nil {
+			return err
 		}
 	}
-	sort.SliceStable(l.References, func(a, b int) bool { return l.References[a].From < l.References[b].From })
-	sort.SliceStable(l.Missing, func(a, b int) bool { return l.Missing[a].Digest < l.Missing[b].Digest })
-	return nil
 }
 
-// take keeps what the content of an object refers to, and answers the objects that it names.
-func (l *Layout) take(from int, c content) []int {
-	l.Blobs[from].Kind = c.kind
-	var named []int
-	c.each(func(one v1.Descriptor) {
-		to, there := l.numbers[one.Digest]
-		if !there {
-			if len(one.Data) == 0 {
-				l.Missing = append(l.Missing, Missing{one.Digest, l.Blobs[from].Digest, len(one.URLs) > 0})
-			}
-			return
-		}
-		// Two descriptors may call one blob by different types: the one that makes a manifest of it counts.
-		if kind := kindOf(one.MediaType); l.Blobs[to].Kind == Unknown || manifestLike(kind) {
-			l.Blobs[to].Kind = kind
-		}
-		l.References = append(l.References, Reference{From: from, To: to})
-		named = append(named, to)
-	})
-	for _, subject := range c.subjects() {
-		if to, there := l.numbers[subject.Digest]; there {
-			l.References = append(l.References, Reference{From: from, To: to, Subject: true})
-			named = append(named, to)
+// valid says whether a digest of a known algorithm is one.
+func valid(name digest.Digest) bool {
+	const prefix = "sha256:"
+	encoded := strings.TrimPrefix(string(name), prefix)
+	if len(name) != len(prefix)+64 || len(encoded) != 64 {
+		return name.Validate() == nil
+	}
+	for k := 0; k < len(encoded); k++ {
+		if letter := encoded[k]; (letter < '0' || letter > '9') && (letter < 'a' || letter > 'f') {
+			return false
 		}
 	}
-	return named
+	return true
 }
 
-// subjects are the content's own, and those of what is embedded.
-func (c content) subjects() []v1.Descriptor {
-	var all []v1.Descriptor
-	if c.subject != nil {
-		all = append(all, *c.subject)
+// place is where a blob lies.
+func (l *Layout) place(blob *Blob) string {
+	algorithm, encoded, _ := strings.Cut(string(blob.Digest), ":")
+	if blob.Moved != "" {
+		return l.Path + "/" + movedFolder + "/" + blob.Moved + "/" + algorithm + "/" + encoded
 	}
-	for _, inner := range c.embedded {
-		all = append(all, inner.subjects()...)
-	}
-	return all
+	return l.Path + "/" + blobs + "/" + algorithm + "/" + encoded
 }
 
-func manifestLike(kind string) bool { return kind == Index || kind == Manifest || kind == Artifact }
-
-// contentOf is what a blob says, and nil for a leaf. A blob that a descriptor calls a manifest or an index must be one.
-func (l *Layout) contentOf(number int) (*content, error) {
-	blob := &l.Blobs[number]
-	must := manifestLike(blob.Kind)
-	if !must && (blob.Kind != Unknown || blob.Size > mostManifest) {
-		return nil, nil
+// find is the number of the object with this digest, and 0 if the layout has none.
+func (l *Layout) find(name digest.Digest) int {
+	number := 1 + sort.Search(len(l.Blobs)-1, func(k int) bool { return l.Blobs[1+k].Digest >= name })
+	if number < len(l.Blobs) && l.Blobs[number].Digest == name {
+		return number
 	}
-	text, err := os.ReadFile(filepath.Join(l.Path, blob.path))
-	if err != nil {
-		return nil, err
-	}
-	if !must && !bytes.HasPrefix(bytes.TrimLeft(text, " \t\r\n"), []byte("{")) {
-		return nil, nil
-	}
-	c, err := parse(text)
-	if err != nil {
-		if must {
-			return nil, fmt.Errorf("cannot be read as %s: %w", blob.Kind, err)
-		}
-		return nil, nil
-	}
-	return &c, nil
+	return 0
 }
 
 // Number is the object's number, if the layout has it.
 func (l *Layout) Number(name digest.Digest) (int, bool) {
-	number, there := l.numbers[name]
-	return number, there
+	number := l.find(name)
+	return number, number > 0 && !l.Blobs[number].absent
 }
 
-// Unchanged says whether index.json and the blobs are still as they were read.
-func (l *Layout) Unchanged() error {
-	now := &Layout{Path: l.Path, numbers: map[digest.Digest]int{}}
-	if err := now.readHead(); err != nil {
-		return err
+// readIndex reads index.json as an index. Here every fault counts.
+func (l *Layout) readIndex() (*content, error) {
+	c := parse(l.index)
+	if c == nil || c.kind != Index && c.fault == nil {
+		return nil, &Fault{Err: fmt.Errorf("%s: no image index", indexFile)}
 	}
-	if !bytes.Equal(now.index, l.index) {
-		return &Fault{Err: errors.New("index.json has changed meanwhile")}
+	if c.fault != nil && !errors.Is(c.fault, digest.ErrDigestUnsupported) {
+		return nil, &Fault{Err: fmt.Errorf("%s: %w", indexFile, c.fault)}
 	}
-	if err := now.list(); err != nil {
-		return err
-	}
-	for _, blob := range now.Blobs[1:] {
-		before, there := l.numbers[blob.Digest]
-		if !there {
-			return &Fault{blob.Digest, errors.New("has come meanwhile")}
-		}
-		if l.Blobs[before].stamp != blob.stamp {
-			return &Fault{blob.Digest, errors.New("has changed meanwhile")}
+	for _, one := range c.refers {
+		if one.listed {
+			l.entries = append(l.entries, one)
 		}
 	}
-	if len(now.Blobs) != len(l.Blobs) {
-		return &Fault{Err: errors.New("a blob has gone meanwhile")}
+	return c, l.withoutUntagged()
+}
+
+// tagOf is the tag of an entry of index.json, if it has one.
+func tagOf(one descriptor) string {
+	if tag := one.Annotations[v1.AnnotationRefName]; tag != "" {
+		return tag
+	}
+	return one.Annotations["io.containerd.image.name"]
+}
+
+// withoutUntagged makes index.json without the entries that have no tag; the rest of it stays as it is.
+func (l *Layout) withoutUntagged() error {
+	l.tagged = l.index
+	decoder := json.NewDecoder(bytes.NewReader(l.index))
+	if _, err := decoder.Token(); err != nil {
+		return &Fault{Err: fmt.Errorf("%s: %w", indexFile, err)}
+	}
+	found := false
+	var out []byte
+	for decoder.More() {
+		key, err := decoder.Token()
+		if err != nil {
+			return &Fault{Err: fmt.Errorf("%s: %w", indexFile, err)}
+		}
+		if key != "manifests" {
+			var other json.RawMessage
+			if err := decoder.Decode(&other); err != nil {
+				return &Fault{Err: fmt.Errorf("%s: %w", indexFile, err)}
+			}
+			continue
+		}
+		var entries []json.RawMessage
+		var list json.RawMessage
+		if err := decoder.Decode(&list); err != nil {
+			return &Fault{Err: fmt.Errorf("%s: %w", indexFile, err)}
+		}
+		if err := json.Unmarshal(list, &entries); err != nil || found {
+			return &Fault{Err: fmt.Errorf("%s: no one list of manifests", indexFile)}
+		}
+		found = true
+		end := int(decoder.InputOffset())
+		var kept [][]byte
+		for _, entry := range entries {
+			one, err := read(entry)
+			if err == nil && tagOf(one) == "" {
+				l.untagged++
+				continue
+			}
+			kept = append(kept, entry)
+		}
+		out = append(append(out, l.index[:end-len(list)]...), '[')
+		out = append(append(append(out, bytes.Join(kept, []byte(","))...), ']'), l.index[end:]...)
+	}
+	if l.untagged > 0 {
+		l.tagged = out
 	}
 	return nil
 }

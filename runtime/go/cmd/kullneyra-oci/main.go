@@ -1,298 +1,380 @@
-// Command kullneyra-oci finds what nothing holds in an OCI image layout, with the proved marker, and deletes it.
+// Command kullneyra-oci finds what nothing holds in an OCI image layout, with the proved marker, and moves it away.
 package main
 
 import (
 	"bufio"
-	"encoding/binary"
-	"encoding/json"
+	"context"
 	"errors"
-	"flag"
 	"fmt"
 	"io"
 	"os"
-	"path/filepath"
+	"os/signal"
+	"runtime/debug"
 	"strconv"
 	"strings"
-	"text/tabwriter"
+	"syscall"
+	"time"
 
+	"github.com/docker/go-units"
 	digest "github.com/opencontainers/go-digest"
-	"kullneyra.example/go/kullneyra"
+	"github.com/spf13/cobra"
 	"kullneyra.example/go/oci"
 )
 
-const usage = `usage: kullneyra-oci plan [--json] [--verify] [--keep DIGEST].. LAYOUT
-       kullneyra-oci prune [--json] [--verify] [--keep DIGEST].. LAYOUT
-       kullneyra-oci catalogue [--keep DIGEST].. [--boxes W] [--turns N | --seed A,B] LAYOUT FOLDER
+// version is what --version says.
+const version = "1.0.0"
 
-plan       lists what nothing holds: neither index.json, nor a subject that lives, nor --keep
-prune      deletes it, if the layout did not change meanwhile
-catalogue  writes store.cat, order.run and objects.txt (number, digest, size, kind) into FOLDER:
-           --turns N      N turns of the boxes, one after the other, each asking the next
-           --seed A,B     cards drawn from the seed, as many as are sure to finish
-           otherwise as many turns as are sure to finish
-
---verify   hash every blob first
---keep     hold this blob and what it refers to, as a download in progress
---json     print for a machine
-
-Exit status: 0 done; 1 nothing was done because of a fault, which standard error tells; 2 wrong usage.
-A prune that is interrupted may have deleted some of what it lists, and can be run again.
-`
+// Exit statuses.
+const (
+	statusDone    = 0
+	statusNothing = 1 // nothing was done
+	statusUsage   = 2
+	statusPartly  = 3 // some was done
+)
 
 // errUsage is a fault of the command line.
 var errUsage = errors.New("usage")
 
-// keeping is the value of --keep, which may be given several times.
-type keeping []digest.Digest
-
-func (k *keeping) String() string { return "" }
-
-func (k *keeping) Set(text string) error {
-	name, err := digest.Parse(text)
-	*k = append(*k, name)
-	return err
-}
-
 func main() {
-	err := run(os.Args[1:], os.Stdout, os.Stderr)
+	// Most of the memory is lists that stay: less is spent on what may go.
+	debug.SetGCPercent(50)
+	ctx, stop := signal.NotifyContext(context.Background(), os.Interrupt, syscall.SIGTERM)
+	defer stop()
+	var out io.Writer = os.Stdout
+	buffer := bufio.NewWriterSize(os.Stdout, 1<<16)
+	if !terminal(os.Stdout) {
+		out = buffer
+	}
+	status := run(ctx, os.Args[1:], out, os.Stderr)
+	if err := buffer.Flush(); err != nil {
+		fmt.Fprintln(os.Stderr, "kullneyra-oci: the answer could not be written:", err)
+		if status == statusDone {
+			status = statusPartly
+		}
+	}
+	stop()
+	os.Exit(status)
+}
+
+// terminal says whether someone looks on.
+func terminal(file *os.File) bool {
+	info, err := file.Stat()
+	return err == nil && info.Mode()&os.ModeCharDevice != 0
+}
+
+// run is the command; it answers the exit status.
+func run(ctx context.Context, words []string, out, said io.Writer) int {
+	c := &command{out: out, said: said}
+	root := c.root()
+	root.SetArgs(words)
+	root.SetOut(out)
+	root.SetErr(said)
+	ran, err := root.ExecuteContextC(ctx)
+	if err == nil {
+		return statusDone
+	}
+	status := statusOf(err, c.began)
+	if c.machine && c.began {
+		c.printFailure(ran.Name(), err, status)
+	}
+	fmt.Fprintln(said, "kullneyra-oci:", plain(err.Error()))
+	if status == statusUsage {
+		fmt.Fprintf(said, "usage: %s\n", ran.UseLine())
+	}
+	return status
+}
+
+// statusOf is the exit status: what goes wrong before the work begins is a fault of the command line.
+func statusOf(err error, began bool) int {
 	switch {
-	case err == nil:
-	case errors.Is(err, errUsage):
-		fmt.Fprint(os.Stderr, usage)
-		os.Exit(2)
-	default:
-		fmt.Fprintln(os.Stderr, "kullneyra-oci:", err)
-		os.Exit(1)
+	case !began || errors.Is(err, errUsage):
+		return statusUsage
+	case errors.Is(err, oci.ErrPartly):
+		return statusPartly
+	}
+	return statusNothing
+}
+
+// plain is a text with its control characters, and whatever is no letter of a line, escaped.
+func plain(text string) string {
+	for _, letter := range text {
+		if !strconv.IsPrint(letter) {
+			quoted := strconv.Quote(text)
+			return strings.ReplaceAll(quoted[1:len(quoted)-1], `\"`, `"`)
+		}
+	}
+	return text
+}
+
+// command is what the options say, and where to print.
+type command struct {
+	out, said io.Writer
+	began     bool // the command line is right
+
+	machine, verify, dry              bool
+	missing, damaged, untagged, quiet bool
+	keep                              []string
+	grace, retention                  time.Duration
+	result                            *answer
+}
+
+func (c *command) root() *cobra.Command {
+	root := &cobra.Command{
+		Use:   "kullneyra-oci",
+		Short: "Finds what nothing holds in an OCI image layout, with a proved marker, and moves it away",
+		Long: `Finds what nothing holds in an OCI image layout, with a proved marker, and moves it away.
+
+Exit status: 0 done; 1 nothing was done; 2 wrong usage; 3 partly done. Standard error tells why.`,
+		Version:       version,
+		SilenceErrors: true,
+		SilenceUsage:  true,
+		Args: func(_ *cobra.Command, words []string) error {
+			if len(words) > 0 {
+				return fmt.Errorf("%w: no command %q", errUsage, words[0])
+			}
+			return nil
+		},
+		RunE: func(*cobra.Command, []string) error { return fmt.Errorf("%w: which command?", errUsage) },
+	}
+	root.AddCommand(c.planCommand(), c.pruneCommand(), c.restoreCommand(), c.whyCommand(), c.catalogueCommand(), c.manCommand())
+	return root
+}
+
+// exactly takes so many words.
+func exactly(words ...string) cobra.PositionalArgs {
+	return func(_ *cobra.Command, given []string) error {
+		if len(given) > len(words) {
+			return fmt.Errorf("%q is one word too many", given[len(words)])
+		}
+		if len(given) < len(words) {
+			return fmt.Errorf("%s is missing", words[len(given)])
+		}
+		return nil
 	}
 }
 
-func run(words []string, out, said io.Writer) error {
-	if len(words) == 0 {
-		return errUsage
+// held are the options that say what is held.
+func (c *command) held(one *cobra.Command) {
+	flags := one.Flags()
+	flags.BoolVar(&c.machine, "json", false, "print for a machine")
+	flags.BoolVar(&c.verify, "verify", false, "hash every blob first")
+	flags.StringArrayVar(&c.keep, "keep", nil, "hold this digest or tag and what it refers to, as a download in progress (up to 256)")
+	flags.DurationVar(&c.grace, "grace", time.Hour, "hold what is younger, and what it refers to")
+	flags.BoolVar(&c.missing, "allow-missing", false, "go on where a manifest that index.json lists is absent")
+	flags.BoolVar(&c.damaged, "drop-damaged", false, "do not hold what is damaged and may be a signature")
+	flags.BoolVar(&c.untagged, "untagged", false, "take entries without a tag out of index.json")
+}
+
+func (c *command) planCommand() *cobra.Command {
+	one := &cobra.Command{
+		Use:   "plan LAYOUT",
+		Short: "Lists what nothing holds: neither index.json, nor a subject that lives, nor --keep",
+		Args:  exactly("LAYOUT"),
+		RunE: func(one *cobra.Command, words []string) error {
+			c.began = true
+			return c.plan(one.Context(), words[0])
+		},
 	}
-	switch words[0] {
-	case "plan", "prune":
-		return collect(words[0] == "prune", words[1:], out, said)
-	case "catalogue":
-		return catalogue(words[1:], said)
-	case "help", "--help", "-h":
-		_, err := io.WriteString(out, usage)
+	c.held(one)
+	return one
+}
+
+func (c *command) pruneCommand() *cobra.Command {
+	one := &cobra.Command{
+		Use:   "prune LAYOUT",
+		Short: "Moves what nothing holds out of the sight of readers, and deletes what was moved long ago",
+		Long: `Moves what nothing holds into a folder of the layout that no reader looks at, looks at the layout again, and puts back what
+is named by then. What has lain there for --retention is deleted. What an index names meanwhile is put back first.`,
+		Args: exactly("LAYOUT"),
+		RunE: func(one *cobra.Command, words []string) error {
+			c.began = true
+			if c.dry {
+				return c.plan(one.Context(), words[0])
+			}
+			return c.work(one.Context(), "prune", words[0], oci.Prune)
+		},
+	}
+	c.held(one)
+	one.Flags().BoolVar(&c.dry, "dry-run", false, "change nothing: as plan")
+	one.Flags().DurationVar(&c.retention, "retention", 24*time.Hour, "delete what was moved so long ago; 0 only where nobody writes")
+	return one
+}
+
+func (c *command) restoreCommand() *cobra.Command {
+	one := &cobra.Command{
+		Use:   "restore LAYOUT",
+		Short: "Puts back what was moved and is named by now, and does nothing else",
+		Args:  exactly("LAYOUT"),
+		RunE: func(one *cobra.Command, words []string) error {
+			c.began = true
+			return c.work(one.Context(), "restore", words[0], oci.Restore)
+		},
+	}
+	flags := one.Flags()
+	flags.BoolVar(&c.machine, "json", false, "print for a machine")
+	flags.StringArrayVar(&c.keep, "keep", nil, "put back this digest or tag, too, and what it refers to")
+	return one
+}
+
+func (c *command) whyCommand() *cobra.Command {
+	one := &cobra.Command{
+		Use:   "why DIGEST LAYOUT",
+		Short: "Tells the chain of names from index.json to a blob, or that there is none",
+		Args:  exactly("DIGEST", "LAYOUT"),
+		RunE: func(one *cobra.Command, words []string) error {
+			name, err := digest.Parse(words[0])
+			if err != nil {
+				return fmt.Errorf("%w: %q: %v", errUsage, words[0], err)
+			}
+			c.began = true
+			return c.why(one.Context(), name, words[1])
+		},
+	}
+	c.held(one)
+	return one
+}
+
+// settings are what the options say.
+func (c *command) settings() (oci.Settings, []string) {
+	s := oci.Settings{Grace: c.grace, AllowMissing: c.missing, DropDamaged: c.damaged, Untagged: c.untagged}
+	var tags []string
+	for _, word := range c.keep {
+		if name, err := digest.Parse(word); err == nil {
+			s.Keep = append(s.Keep, name)
+		} else {
+			tags = append(tags, word)
+		}
+	}
+	return s, tags
+}
+
+// options are those of reading, with progress on a terminal.
+func (c *command) options() oci.Options {
+	o := oci.Options{Verify: c.verify}
+	if file, is := c.said.(*os.File); is && c.verify && terminal(file) {
+		last := time.Time{}
+		o.Progress = func(done, all int64) {
+			if now := time.Now(); done == all || now.Sub(last) > 200*time.Millisecond {
+				last = now
+				fmt.Fprintf(c.said, "\r%s of %s hashed ", size(done), size(all))
+			}
+			if done == all {
+				fmt.Fprintln(c.said)
+			}
+		}
+	}
+	return o
+}
+
+func size(bytes int64) string { return units.BytesSize(float64(bytes)) }
+
+func (c *command) plan(ctx context.Context, path string) error {
+	layout, err := oci.Open(ctx, path, c.options())
+	if err != nil {
 		return err
 	}
-	return errUsage
+	s, tags := c.settings()
+	if s, err = layout.WithTags(s, tags); err != nil {
+		return err
+	}
+	plan, err := layout.Plan(ctx, s)
+	if err != nil {
+		return err
+	}
+	c.tell(layout, plan)
+	if c.machine {
+		return c.print(answerOf("plan", layout, plan, nil))
+	}
+	return c.table(plan, "would be freed")
 }
 
-// parse takes the flags and exactly so many words behind them.
-func parse(flags *flag.FlagSet, words []string, count int) error {
-	flags.SetOutput(io.Discard)
-	if flags.Parse(words) != nil || flags.NArg() != count {
-		return errUsage
+// work prunes or restores.
+func (c *command) work(ctx context.Context, name, path string, do func(context.Context, string, oci.PruneSettings) (*oci.Result, error)) error {
+	s, tags := c.settings()
+	result, err := do(ctx, path, oci.PruneSettings{
+		Options: c.options(), Settings: s, Retention: c.retention, Tags: tags,
+		Planned: func(layout *oci.Layout, plan *oci.Plan) error { c.tell(layout, plan); return nil },
+		Log:     c.log,
+	})
+	if result == nil || result.Plan == nil {
+		return err
+	}
+	c.result = answerOf(name, result.Layout, result.Plan, result)
+	if err != nil {
+		return err
+	}
+	if c.machine {
+		return c.print(c.result)
+	}
+	return c.sum(result)
+}
+
+// log tells what happens as it happens.
+func (c *command) log(event oci.Event) {
+	if event.Err != nil {
+		fmt.Fprintf(c.said, "not %s: %s: %s\n", event.What, event.Blob.Digest, plain(event.Err.Error()))
+	} else if !c.machine {
+		fmt.Fprintf(c.out, "%s  %s  %s  %s\n", event.What, event.Blob.Digest, size(event.Blob.Size), event.Blob.Kind)
+	}
+}
+
+func (c *command) why(ctx context.Context, name digest.Digest, path string) error {
+	layout, err := oci.Open(ctx, path, c.options())
+	if err != nil {
+		return err
+	}
+	s, tags := c.settings()
+	if s, err = layout.WithTags(s, tags); err != nil {
+		return err
+	}
+	chain, err := layout.Why(ctx, name, s)
+	if err != nil {
+		return err
+	}
+	held := ""
+	if len(chain) == 0 {
+		if held, err = c.besides(ctx, layout, name, s); err != nil {
+			return err
+		}
+	}
+	if c.machine {
+		return c.print(map[string]any{"schemaVersion": schemaVersion, "command": "why", "status": statusDone, "digest": name,
+			"live": len(chain) > 0, "held": held, "chain": append([]digest.Digest{}, chain...)})
+	}
+	if len(chain) == 0 {
+		if held == "" {
+			held = "it is dead"
+		} else {
+			held = "it is held: " + held
+		}
+		_, err = fmt.Fprintf(c.out, "%s\n  no chain of names leads to it; %s\n", name, held)
+		return err
+	}
+	for deep, one := range chain {
+		word := string(one)
+		if word == "" {
+			word = "index.json"
+		}
+		if _, err := fmt.Fprintf(c.out, "%s%s\n", strings.Repeat("  ", deep), word); err != nil {
+			return err
+		}
 	}
 	return nil
 }
 
-// open reads the layout, with progress on a terminal.
-func open(path string, verify bool, said io.Writer) (*oci.Layout, error) {
-	o := oci.Options{Verify: verify}
-	if file, is := said.(*os.File); is && verify {
-		if info, err := file.Stat(); err == nil && info.Mode()&os.ModeCharDevice != 0 {
-			o.Progress = func(done, all int64) { fmt.Fprintf(said, "\r%s of %s hashed", bytes(done), bytes(all)) }
-			defer fmt.Fprintln(said)
+// besides says why a blob is held to which no chain of names leads, and nothing if it is dead.
+func (c *command) besides(ctx context.Context, layout *oci.Layout, name digest.Digest, s oci.Settings) (string, error) {
+	plan, err := layout.Plan(ctx, s)
+	if err != nil {
+		return "", err
+	}
+	for _, blob := range append(plan.Dead, plan.Moved...) {
+		if blob.Digest == name {
+			return "", nil
 		}
 	}
-	return oci.Open(path, o)
-}
-
-func collect(prune bool, words []string, out, said io.Writer) error {
-	flags := flag.NewFlagSet("", flag.ContinueOnError)
-	machine := flags.Bool("json", false, "")
-	verify := flags.Bool("verify", false, "")
-	var keep keeping
-	flags.Var(&keep, "keep", "")
-	if err := parse(flags, words, 1); err != nil {
-		return err
+	if why := layout.Besides(name, s); why != "" {
+		return why, nil
 	}
-	path := flags.Arg(0)
-	if prune {
-		unlock, err := oci.Lock(path)
-		if err != nil {
-			return err
-		}
-		defer unlock()
-	}
-	layout, err := open(path, *verify, said)
-	if err != nil {
-		return err
-	}
-	plan, err := layout.Plan(keep)
-	if err != nil {
-		return err
-	}
-	for _, path := range layout.Stray {
-		fmt.Fprintf(said, "left alone, no blob: %s\n", path)
-	}
-	for _, one := range layout.Missing {
-		by, what := string(one.By), "not there"
-		if by == "" {
-			by = "index.json"
-		}
-		if one.Foreign {
-			what = "foreign, and not there"
-		}
-		fmt.Fprintf(said, "%s: %s; %s refers to it\n", what, one.Digest, by)
-	}
-	if prune {
-		if _, err := layout.Prune(plan); err != nil {
-			return err
-		}
-	}
-	if *machine {
-		return printJSON(out, layout, plan, prune)
-	}
-	return print(out, plan, prune)
-}
-
-// print is the table for people.
-func print(out io.Writer, plan *oci.Plan, pruned bool) error {
-	table := tabwriter.NewWriter(out, 0, 0, 2, ' ', 0)
-	for _, blob := range plan.Dead {
-		fmt.Fprintf(table, "%s\t%s\t%s\n", blob.Digest, bytes(blob.Size), blob.Kind)
-	}
-	if err := table.Flush(); err != nil {
-		return err
-	}
-	verb := "would be freed"
-	if pruned {
-		verb = "freed"
-	}
-	_, err := fmt.Fprintf(out, "%d blobs dead, %s %s, %d objects live\n", len(plan.Dead), bytes(int64(plan.Freed)), verb, plan.Live)
-	return err
-}
-
-type deadJSON struct {
-	Digest digest.Digest `json:"digest"`
-	Size   int64         `json:"size"`
-	Kind   string        `json:"kind"`
-}
-
-type missingJSON struct {
-	Digest  digest.Digest `json:"digest"`
-	By      digest.Digest `json:"by,omitempty"`
-	Foreign bool          `json:"foreign"`
-}
-
-func printJSON(out io.Writer, layout *oci.Layout, plan *oci.Plan, pruned bool) error {
-	answer := struct {
-		Pruned  bool          `json:"pruned"`
-		Live    uint64        `json:"live"`
-		Freed   uint64        `json:"freed"`
-		Dead    []deadJSON    `json:"dead"`
-		Missing []missingJSON `json:"missing"`
-		Stray   []string      `json:"stray"`
-	}{pruned, plan.Live, plan.Freed, []deadJSON{}, []missingJSON{}, append([]string{}, layout.Stray...)}
-	for _, blob := range plan.Dead {
-		answer.Dead = append(answer.Dead, deadJSON{blob.Digest, blob.Size, blob.Kind})
-	}
-	for _, one := range layout.Missing {
-		answer.Missing = append(answer.Missing, missingJSON(one))
-	}
-	encoder := json.NewEncoder(out)
-	encoder.SetIndent("", "  ")
-	return encoder.Encode(answer)
-}
-
-// catalogue writes the files of the course and of support.
-func catalogue(words []string, said io.Writer) error {
-	flags := flag.NewFlagSet("", flag.ContinueOnError)
-	var keep keeping
-	flags.Var(&keep, "keep", "")
-	boxes := flags.Uint("boxes", 1, "")
-	turns := flags.Int("turns", -1, "")
-	seed := flags.String("seed", "", "")
-	if err := parse(flags, words, 2); err != nil {
-		return err
-	}
-	if *boxes < 1 || *boxes > kullneyra.MostWorkers || *turns < -1 || *turns >= 0 && *seed != "" {
-		return errUsage
-	}
-	layout, err := open(flags.Arg(0), false, said)
-	if err != nil {
-		return err
-	}
-	read, err := layout.Read(keep)
-	if err != nil {
-		return err
-	}
-	order, err := orderOf(read, uint32(*boxes), *turns, *seed)
-	if err != nil {
-		return err
-	}
-	store, err := layout.Catalogue(keep)
-	if err != nil {
-		return err
-	}
-	folder := flags.Arg(1)
-	if err := os.MkdirAll(folder, 0o755); err != nil {
-		return err
-	}
-	if err := os.WriteFile(filepath.Join(folder, "store.cat"), store, 0o644); err != nil {
-		return err
-	}
-	s := order.Settings
-	head := binary.LittleEndian.AppendUint16([]byte{byte(s.Workers)}, uint16(s.Batch))
-	head = binary.LittleEndian.AppendUint16(head, uint16(s.Cutoff))
-	if err := os.WriteFile(filepath.Join(folder, "order.run"), append(head, order.Schedule...), 0o644); err != nil {
-		return err
-	}
-	return writeObjects(filepath.Join(folder, "objects.txt"), layout)
-}
-
-// orderOf is the schedule that the flags ask for.
-func orderOf(store *oci.Store, boxes uint32, turns int, seed string) (oci.Order, error) {
-	if seed != "" {
-		first, second, both := strings.Cut(seed, ",")
-		a, err := strconv.ParseUint(first, 10, 32)
-		b, err2 := strconv.ParseUint(second, 10, 32)
-		if !both || err != nil || err2 != nil {
-			return oci.Order{}, errUsage
-		}
-		return store.SeedOrder(kullneyra.Seed{First: uint32(a), Second: uint32(b)}, boxes)
-	}
-	if turns < 0 {
-		return store.Enough(boxes)
-	}
-	return oci.RoundRobin(boxes, turns), nil
-}
-
-func writeObjects(path string, layout *oci.Layout) error {
-	file, err := os.Create(path)
-	if err != nil {
-		return err
-	}
-	defer file.Close()
-	out := bufio.NewWriter(file)
-	for number, blob := range layout.Blobs {
-		name := string(blob.Digest)
-		if name == "" {
-			name = "index.json"
-		}
-		fmt.Fprintf(out, "%d %s %d %s\n", number, name, blob.Size, blob.Kind)
-	}
-	if err := out.Flush(); err != nil {
-		return err
-	}
-	return file.Close()
-}
-
-// bytes writes a size for people.
-func bytes(size int64) string {
-	units := []string{"B", "KiB", "MiB", "GiB", "TiB"}
-	value, unit := float64(size), 0
-	for value >= 1024 && unit < len(units)-1 {
-		value, unit = value/1024, unit+1
-	}
-	if unit == 0 {
-		return fmt.Sprintf("%d B", size)
-	}
-	return fmt.Sprintf("%.1f %s", value, units[unit])
+	return "something that is held for its age or damage, or a link, names it", nil
 }

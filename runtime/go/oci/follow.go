@@ -1,0 +1,476 @@
+package oci
+
+import (
+	"bytes"
+	"context"
+	"crypto/sha256"
+	"encoding/hex"
+	"errors"
+	"fmt"
+	"io"
+	"os"
+	"sort"
+	"syscall"
+	"unicode/utf8"
+
+	digest "github.com/opencontainers/go-digest"
+)
+
+const (
+	// Of every blob so many bytes are read, to see how it begins.
+	headBytes = 4096
+	// The widest name: of sha512.
+	widest = 128
+)
+
+// Tests make these small.
+var (
+	// A text above this is scanned and hashed piece by piece, and not parsed: no reader takes a manifest of that size.
+	mostText = int64(64 << 20)
+	// So many bytes of texts are scanned at once.
+	batchBytes = 2 << 20
+	// So many names a scan takes: the calls number objects below it.
+	mostNames = 65536
+)
+
+// errContent says that bytes are not those that a name stands for.
+var errContent = errors.New("its content has another digest")
+
+// follower reads the texts of a layout and gathers what they name.
+type follower struct {
+	*Layout
+	groups []group
+	owners []int // the object of each text
+	batch  texts
+	buffer []byte
+}
+
+// group is names of one width, numbered from 0 on, where the first names the object `base`.
+type group struct {
+	names names
+	base  int
+}
+
+// follow looks at every blob, reads the texts among them, and gathers the references.
+func (l *Layout) follow(ctx context.Context) error {
+	top, err := l.readIndex()
+	if err != nil {
+		return err
+	}
+	f := &follower{Layout: l, groups: l.groups(), buffer: make([]byte, headBytes)}
+	if err := f.take(0, l.index, top); err != nil {
+		return err
+	}
+	for number := 1; number < len(l.Blobs); number++ {
+		if err := ctx.Err(); err != nil {
+			return err
+		}
+		if err := f.look(number); err != nil {
+			return err
+		}
+	}
+	if err := f.scan(); err != nil {
+		return err
+	}
+	f.links()
+	f.subjects()
+	if err := l.suspects(ctx); err != nil {
+		return err
+	}
+	l.References = distinct(l.References)
+	return nil
+}
+
+// distinct sorts references by their numbers and leaves each once.
+func distinct(all []Reference) []Reference {
+	sort.Slice(all, func(a, b int) bool {
+		x, y := all[a], all[b]
+		if x.From != y.From {
+			return x.From < y.From
+		}
+		if x.To != y.To {
+			return x.To < y.To
+		}
+		return !x.Subject && y.Subject
+	})
+	kept := all[:0]
+	for k, one := range all {
+		if k == 0 || one != all[k-1] {
+			kept = append(kept, one)
+		}
+	}
+	return kept
+}
+
+// groups are the names of the blobs, by width, so many to a group as a scan takes.
+func (l *Layout) groups() []group {
+	var all []group
+	for number := 1; number < len(l.Blobs); number++ {
+		blob := &l.Blobs[number]
+		if blob.foreign {
+			continue
+		}
+		name := blob.Digest.Encoded()
+		last := len(all) - 1
+		// Blobs of one algorithm stand side by side.
+		if last < 0 || all[last].names.width != len(name) || all[last].base+len(all[last].names.objects) != number || len(all[last].names.objects) == mostNames {
+			most := len(l.Blobs) - number
+			if most > mostNames {
+				most = mostNames
+			}
+			all = append(all, group{names{len(name), make([]byte, 0, most*len(name)), make([]uint32, 0, most)}, number})
+			last++
+		}
+		n := &all[last].names
+		n.bytes = append(n.bytes, name...)
+		n.objects = append(n.objects, uint32(len(n.objects)))
+	}
+	return all
+}
+
+// scan finds the names in the texts that were gathered.
+func (f *follower) scan() error {
+	for _, group := range f.groups {
+		from, to, err := mentions(group.names, f.batch)
+		if err != nil {
+			return err
+		}
+		for k := range from {
+			f.References = append(f.References, Reference{From: f.owners[from[k]], To: group.base + int(to[k])})
+		}
+	}
+	f.batch.clear()
+	return nil
+}
+
+// add gives bytes of a text to the scan.
+func (f *follower) add(text []byte) error {
+	if len(f.owners) > mostNames {
+		return fmt.Errorf("%w: more than %d manifests and indexes; split the layout, or remove what is not needed by hand", ErrTooLarge, mostNames-1)
+	}
+	if len(f.batch.bytes) > 0 && len(f.batch.bytes)+len(text) > batchBytes {
+		if err := f.scan(); err != nil {
+			return err
+		}
+	}
+	f.batch.add(uint32(len(f.owners)-1), text)
+	return nil
+}
+
+// take keeps what a text says.
+func (f *follower) take(number int, text []byte, c *content) error {
+	blob := &f.Blobs[number]
+	blob.text, blob.Kind = true, c.kind
+	f.owners = append(f.owners, number)
+	if err := f.add(text); err != nil {
+		return err
+	}
+	if len(c.more) > 0 {
+		if err := f.add(c.more); err != nil {
+			return err
+		}
+	}
+	for _, name := range c.embedded {
+		f.holders[name] = append(f.holders[name], number)
+	}
+	for _, one := range c.refers {
+		f.name(number, one)
+	}
+	for _, subject := range c.subjects {
+		f.subjectsOf = append(f.subjectsOf, named{number, subject})
+	}
+	return nil
+}
+
+// named is a text and a digest that it names as its subject.
+type named struct {
+	by      int
+	subject digest.Digest
+}
+
+// name keeps what a descriptor says of a blob.
+func (l *Layout) name(by int, one descriptor) {
+	number, there := l.Number(one.Digest)
+	if !there {
+		if len(one.Data) == 0 {
+			l.missing = append(l.missing, Missing{one.Digest, l.Blobs[by].Digest, len(one.URLs) > 0, by})
+		}
+		return
+	}
+	blob, kind := &l.Blobs[number], kindOf(one.MediaType)
+	if one.listed || kind == Index || kind == Manifest || kind == Artifact {
+		blob.suspect = true
+	}
+	if !blob.text && blob.Kind == Unknown {
+		blob.Kind = kind
+	}
+	// The scan finds every other name.
+	if blob.foreign {
+		l.References = append(l.References, Reference{From: by, To: number})
+	}
+}
+
+// links: what a link leads to is held by it.
+func (l *Layout) links() {
+	places := map[identity]int{}
+	for number := range l.Blobs {
+		if blob := &l.Blobs[number]; blob.link && !blob.absent {
+			places[blob.file] = 0
+		}
+	}
+	if len(places) == 0 {
+		return
+	}
+	for number := 1; number < len(l.Blobs); number++ {
+		if _, led := places[l.Blobs[number].file]; led && !l.Blobs[number].link {
+			places[l.Blobs[number].file] = number
+		}
+	}
+	for number := range l.Blobs {
+		if blob := &l.Blobs[number]; blob.link && places[blob.file] != 0 {
+			l.References = append(l.References, Reference{From: number, To: places[blob.file]})
+		}
+	}
+}
+
+// subjects: what names a subject is held by it, and by what holds the subject in a descriptor's data.
+func (l *Layout) subjects() {
+	for _, one := range l.subjectsOf {
+		if number, there := l.Number(one.subject); there {
+			l.References = append(l.References, Reference{From: one.by, To: number, Subject: true})
+		}
+		for _, holder := range l.holders[one.subject] {
+			if holder != one.by {
+				l.References = append(l.References, Reference{From: one.by, To: holder, Subject: true})
+			}
+		}
+	}
+}
+
+// suspects are hashed: what is listed as a manifest and does not begin as one may be a damaged one.
+func (l *Layout) suspects(ctx context.Context) error {
+	buffer := make([]byte, 1<<16)
+	for number := 1; number < len(l.Blobs); number++ {
+		blob := &l.Blobs[number]
+		if !blob.suspect || blob.text || blob.absent || blob.foreign || blob.damage != nil {
+			continue
+		}
+		if _, err := l.hash(ctx, blob, buffer, nil); err != nil {
+			if ctx.Err() != nil {
+				return err
+			}
+			blob.damage = &Damage{blob.Digest, err, true}
+		}
+	}
+	return nil
+}
+
+// hash compares a blob with its digest.
+func (l *Layout) hash(ctx context.Context, blob *Blob, buffer []byte, count func(int)) (int64, error) {
+	file, err := os.Open(l.place(blob))
+	if err != nil {
+		return 0, err
+	}
+	defer file.Close()
+	verifier, all := blob.Digest.Verifier(), int64(0)
+	for {
+		if err := ctx.Err(); err != nil {
+			return all, err
+		}
+		n, err := file.Read(buffer)
+		all += int64(n)
+		verifier.Write(buffer[:n])
+		if count != nil {
+			count(n)
+		}
+		if errors.Is(err, io.EOF) {
+			break
+		}
+		if err != nil {
+			return all, err
+		}
+	}
+	if !verifier.Verified() {
+		return all, errContent
+	}
+	return all, nil
+}
+
+// again repeats a call that a signal ended.
+func again(call func() error) error {
+	for {
+		if err := call(); err != syscall.EINTR {
+			return err
+		}
+	}
+}
+
+// look reads how a blob begins, and all of it if it may be a text. What cannot be read is damaged.
+func (f *follower) look(number int) error {
+	blob := &f.Blobs[number]
+	fault, err := f.lookInto(number)
+	switch {
+	case err != nil:
+		return err
+	case errors.Is(fault, syscall.ENOENT):
+		blob.absent = true
+		if blob.link {
+			f.Stray = append(f.Stray, f.relative(blob))
+		}
+	case fault != nil:
+		blob.damage = &Damage{blob.Digest, fault, true}
+	}
+	return nil
+}
+
+// lookInto answers a fault of the blob, and an error that ends the reading.
+func (f *follower) lookInto(number int) (fault, err error) {
+	blob := &f.Blobs[number]
+	flags := syscall.O_RDONLY | syscall.O_CLOEXEC | syscall.O_NONBLOCK
+	if !blob.link {
+		flags |= syscall.O_NOFOLLOW
+	}
+	place, fd := f.place(blob), -1
+	if err := again(func() (err error) { fd, err = syscall.Open(place, flags, 0); return }); err != nil {
+		return &os.PathError{Op: "open", Path: place, Err: err}, nil
+	}
+	defer syscall.Close(fd)
+	var stat syscall.Stat_t
+	if err := syscall.Fstat(fd, &stat); err != nil {
+		return &os.PathError{Op: "stat", Path: place, Err: err}, nil
+	}
+	if stat.Mode&syscall.S_IFMT != syscall.S_IFREG {
+		return syscall.ENOENT, nil
+	}
+	blob.Size, blob.file = stat.Size, identity{uint64(stat.Dev), stat.Ino}
+	if blob.changed = stat.Mtim.Nano(); stat.Ctim.Nano() > blob.changed {
+		blob.changed = stat.Ctim.Nano()
+	}
+	read := func(into []byte) (n int, err error) {
+		err = again(func() (err error) { n, err = syscall.Read(fd, into); return })
+		return max(n, 0), err
+	}
+	head, err := read(f.buffer[:headBytes])
+	small := head < headBytes && int64(head) == blob.Size
+	for err == nil && head == headBytes && len(bytes.TrimLeft(f.buffer[:head], spaces)) == 0 {
+		head, err = read(f.buffer[:headBytes])
+	}
+	if err != nil {
+		return &os.PathError{Op: "read", Path: place, Err: err}, nil
+	}
+	if blob.Size == 0 && !blob.foreign && !matches(blob.Digest, nil) {
+		return errContent, nil
+	}
+	if !mayBeText(f.buffer[:head]) {
+		return nil, nil
+	}
+	text := f.buffer[:head]
+	if !small {
+		if _, err := syscall.Seek(fd, 0, io.SeekStart); err != nil {
+			return &os.PathError{Op: "seek", Path: place, Err: err}, nil
+		}
+		if blob.Size > mostText {
+			return f.pieces(number, read)
+		}
+		if text, err = f.whole(int(blob.Size), read); err != nil {
+			return &os.PathError{Op: "read", Path: place, Err: err}, nil
+		}
+	}
+	c := parse(text)
+	if c == nil {
+		return nil, nil
+	}
+	if err := f.take(number, text, c); err != nil {
+		return nil, err
+	}
+	if !blob.foreign && !matches(blob.Digest, text) {
+		return errContent, nil
+	}
+	if c.fault != nil && (!errors.Is(c.fault, errNoJSON) || written(text)) {
+		blob.damage = &Damage{blob.Digest, c.fault, false}
+	}
+	return nil, nil
+}
+
+// written says whether bytes may be of a JSON text, whole or cut off: other bytes were never a manifest.
+func written(text []byte) bool {
+	for len(text) > 0 && text[len(text)-1] >= utf8.RuneSelf {
+		text = text[:len(text)-1]
+	}
+	for _, letter := range text {
+		if letter < ' ' && letter != '\t' && letter != '\n' && letter != '\r' {
+			return false
+		}
+	}
+	return utf8.Valid(text)
+}
+
+// matches says whether bytes have this digest.
+func matches(name digest.Digest, text []byte) bool {
+	if name.Algorithm() == digest.SHA256 {
+		sum := sha256.Sum256(text)
+		var letters [2 * sha256.Size]byte
+		hex.Encode(letters[:], sum[:])
+		return name.Encoded() == string(letters[:])
+	}
+	return name.Algorithm().FromBytes(text) == name
+}
+
+func max(a, b int) int {
+	if a > b {
+		return a
+	}
+	return b
+}
+
+// whole reads all of a file.
+func (f *follower) whole(size int, read func([]byte) (int, error)) ([]byte, error) {
+	if len(f.buffer) < size+1 {
+		f.buffer = make([]byte, 2*size+1)
+	}
+	all := 0
+	for {
+		if all == len(f.buffer) {
+			f.buffer = append(f.buffer, make([]byte, len(f.buffer))...)
+		}
+		n, err := read(f.buffer[all:])
+		if n == 0 || err != nil {
+			return f.buffer[:all], err
+		}
+		all += n
+	}
+}
+
+// pieces scans and hashes a large text, piece by piece; pieces overlap, so that no name is cut.
+func (f *follower) pieces(number int, read func([]byte) (int, error)) (fault, err error) {
+	blob := &f.Blobs[number]
+	if err := f.take(number, nil, &content{kind: Unknown}); err != nil {
+		return nil, err
+	}
+	buffer, kept := make([]byte, batchBytes), 0
+	var verifier digest.Verifier
+	if !blob.foreign {
+		verifier = blob.Digest.Verifier()
+	}
+	for {
+		n, err := read(buffer[kept:])
+		if err != nil {
+			return err, nil
+		}
+		if n == 0 {
+			break
+		}
+		if verifier != nil {
+			verifier.Write(buffer[kept : kept+n])
+		}
+		if err := f.add(buffer[:kept+n]); err != nil {
+			return nil, err
+		}
+		tail := buffer[max(0, kept+n-widest+1) : kept+n]
+		kept = copy(buffer, tail)
+	}
+	if verifier != nil && !verifier.Verified() {
+		return errContent, nil
+	}
+	return nil, nil
+}

@@ -1,0 +1,50 @@
+package oci
+
+import (
+	"context"
+	"runtime"
+	"sync"
+)
+
+// verify hashes every blob that is there, on all cores, with one buffer each. What does not match is damaged.
+func (l *Layout) verify(ctx context.Context, progress func(done, all int64)) error {
+	var all, done int64
+	for _, blob := range l.Blobs[1:] {
+		all += blob.Size
+	}
+	var lock sync.Mutex
+	next := 0
+	take := func() *Blob {
+		lock.Lock()
+		defer lock.Unlock()
+		if next++; next < len(l.Blobs) {
+			return &l.Blobs[next]
+		}
+		return nil
+	}
+	count := func(n int) {
+		lock.Lock()
+		defer lock.Unlock()
+		if done += int64(n); progress != nil {
+			progress(done, all)
+		}
+	}
+	var workers sync.WaitGroup
+	for worker := 0; worker < runtime.GOMAXPROCS(0); worker++ {
+		workers.Add(1)
+		go func() {
+			defer workers.Done()
+			buffer := make([]byte, 1<<17)
+			for blob := take(); blob != nil && ctx.Err() == nil; blob = take() {
+				if blob.absent || blob.foreign || blob.damage != nil && blob.damage.content {
+					continue
+				}
+				if _, err := l.hash(ctx, blob, buffer, count); err != nil {
+					blob.damage = &Damage{blob.Digest, err, true}
+				}
+			}
+		}()
+	}
+	workers.Wait()
+	return ctx.Err()
+}
