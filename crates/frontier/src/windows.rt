@@ -78,6 +78,12 @@ fn carry_all(
 }
 
 // The references from one to another.
+struct Span {
+    from: u32,
+    to: u32,
+}
+
+// Those of a span that the set has room for.
 fn check_window(
     offsets: &[u32],
     targets: &[u32],
@@ -85,13 +91,15 @@ fn check_window(
     saved: &[u32],
     workers: u32,
     carried: &mut [u32],
-    from: u32,
-    to: u32,
+    span: Span,
 ) -> bool
     requires { ⌜ LoadsThere (graph (now offsets) (now targets)) (now marks) workers (now saved)
-        × (from < to) × (to ≤ length (now targets)) × (to ≤ from + word-bits * length (now carried)) ⌝ }
-    ensures { λ r. ⌜ Decides r (WindowSound (graph (now (offsets .entry)) (now (targets .entry))) (now (marks .entry)) workers (now (saved .entry)) from to) ⌝ }
+        × (span .from < span .to) × (span .to ≤ length (now targets)) × (span .to ≤ span .from + word-bits * length (now carried)) ⌝ }
+    ensures { λ r. ⌜ Decides r (WindowSound (graph (now (offsets .entry)) (now (targets .entry))) (now (marks .entry)) workers (now (saved .entry))
+        (span .from) (span .to)) ⌝ }
 {
+    let from = span.from;
+    let to = span.to;
     let room = carried.len();
     slices::clear(carried, 0, room);
     if !carry_all(carried, from, to, saved, offsets.len() - 1, workers) {
@@ -126,7 +134,15 @@ fn check_windows(
     let mut from: u32 = 0;
     while from < all {
         let to = slices::smaller(all, from + size);
-        if !check_window(offsets, targets, marks, saved, workers, carried, from, to) {
+        if !check_window(
+            offsets,
+            targets,
+            marks,
+            saved,
+            workers,
+            carried,
+            Span { from, to },
+        ) {
             return false;
         }
         from = to;

@@ -43,7 +43,7 @@ fn gather(numbers: &[u32], taken: &mut [u32], base: u32, end: u32) -> usize
 }
 
 // How many of m references the numbers name, window by window.
-fn count_named(numbers: &[u32], taken: &mut [u32], m: usize) -> usize
+fn count_by(numbers: &[u32], taken: &mut [u32], m: usize) -> usize
     requires { ⌜ (m ≤ most-references) × (1 ≤ length (now taken)) × (length (now taken) ≤ many-words) ⌝ }
     ensures { λ r. ⌜ (r ≡ distinct (now (numbers .entry)) m) × (r ≤ m) ⌝ }
 {
@@ -59,16 +59,27 @@ fn count_named(numbers: &[u32], taken: &mut [u32], m: usize) -> usize
     count
 }
 
-// The checks, in their order; the words are for the numbers that are counted.
+// The same with a set of references, which is small where there are few.
+fn count_named(numbers: &[u32], m: usize) -> usize
+    requires { ⌜ m ≤ most-references ⌝ }
+    ensures { λ r. ⌜ (r ≡ distinct (now (numbers .entry)) m) × (r ≤ m) ⌝ }
+{
+    if m <= bits::FEW_NUMBERS {
+        let mut few = [0u32; bits::FEW];
+        return count_by(numbers, &mut few, m);
+    }
+    let mut taken = [0u32; bits::MANY];
+    count_by(numbers, &mut taken, m)
+}
+
+// The checks, in their order.
 fn check(
     offsets: &[u32],
     targets: &[u32],
     numbers: &[u32],
     starts: &[u32],
     lengths: Lengths,
-    taken: &mut [u32],
 ) -> Verdict
-    requires { ⌜ (1 ≤ length (now taken)) × (length (now taken) ≤ many-words) ⌝ }
     ensures { λ v. ⌜ RemoveFinds v (now (offsets .entry)) (now (targets .entry)) (now (numbers .entry)) (now (starts .entry)) lengths ⌝ }
 {
     if desk::graph_outside(offsets.len(), targets.len()) {
@@ -77,7 +88,7 @@ fn check(
     if !graph::is_below(targets.len(), numbers) {
         return Verdict::Faulty(Refusal::Object);
     }
-    let named = count_named(numbers, taken, targets.len());
+    let named = count_named(numbers, targets.len());
     if updates::lengths_wrong(offsets.len() - 1, targets.len() - named, lengths) {
         return Verdict::Faulty(Refusal::Buffer);
     }
@@ -156,7 +167,7 @@ fn keep_objects(
 }
 
 // What remains of the store, window by window.
-fn keep(
+fn keep_by(
     offsets: &[u32],
     targets: &[u32],
     numbers: &[u32],
@@ -185,6 +196,22 @@ fn keep(
     }
 }
 
+// The same with a set of references, which is small where there are few.
+fn keep(offsets: &[u32], targets: &[u32], numbers: &[u32], bounds: &mut [u32], places: &mut [u32])
+    requires { ⌜ Formed (graph (now offsets) (now targets)) × (length (now targets) ≤ most-references)
+        × (length (now bounds) ≡ length (now offsets)) × (length (now places) ≡ staying (now numbers) (length (now targets))) ⌝ }
+    ensures { λ _. ⌜ (now (bounds .exit) ≡ map (staying (now (numbers .entry))) (now (offsets .entry)))
+        × (now (places .exit) ≡ chosen (stays (now (numbers .entry))) 0 (now (targets .entry))) ⌝ }
+{
+    if targets.len() <= bits::FEW_NUMBERS {
+        let mut few = [0u32; bits::FEW];
+        keep_by(offsets, targets, numbers, &mut few, bounds, places);
+        return;
+    }
+    let mut taken = [0u32; bits::MANY];
+    keep_by(offsets, targets, numbers, &mut taken, bounds, places);
+}
+
 // The marks afresh: 1 for a start, 255 for others reached.
 fn mark_afresh(offsets: &[u32], targets: &[u32], starts: &[u32], marks: &mut [u8], work: &mut [u32])
     requires { ⌜ Formed (graph (now offsets) (now targets)) × (allBelow (length (now marks)) (now starts) ≡ true)
@@ -196,40 +223,6 @@ fn mark_afresh(offsets: &[u32], targets: &[u32], starts: &[u32], marks: &mut [u8
     slices::clear_bytes(marks, 0, n);
     let count = marking::touch_all(marks, work, 0, starts, START);
     marking::follow(offsets, targets, marks, work, count);
-}
-
-// The same as below, with words for the numbers.
-fn remove_by(
-    offsets: &[u32],
-    targets: &[u32],
-    numbers: &[u32],
-    starts: &[u32],
-    taken: &mut [u32],
-    bounds: &mut [u32],
-    places: &mut [u32],
-    marks: &mut [u8],
-    work: &mut [u32],
-) -> Verdict
-    requires { ⌜ (1 ≤ length (now taken)) × (length (now taken) ≤ many-words) ⌝ }
-    ensures { λ v. ⌜ Removes (now (offsets .entry)) (now (targets .entry)) (now (numbers .entry)) (now (starts .entry))
-        (now (bounds .entry)) (now (places .entry)) (now (marks .entry)) (now (work .entry))
-        v (now (bounds .exit)) (now (places .exit)) (now (marks .exit)) (now (work .exit)) ⌝ }
-{
-    let lengths = Lengths {
-        offsets: bounds.len(),
-        targets: places.len(),
-        marks: marks.len(),
-        work: work.len(),
-    };
-    let verdict = check(offsets, targets, numbers, starts, lengths, taken);
-    match verdict {
-        Verdict::Faulty(cause) => Verdict::Faulty(cause),
-        Verdict::Fine => {
-            keep(offsets, targets, numbers, taken, bounds, places);
-            mark_afresh(bounds, places, starts, marks, work);
-            Verdict::Fine
-        }
-    }
 }
 
 // Takes the references with these numbers out of the store, and marks afresh.
@@ -247,30 +240,19 @@ pub fn remove(
         (now (bounds .entry)) (now (places .entry)) (now (marks .entry)) (now (work .entry))
         v (now (bounds .exit)) (now (places .exit)) (now (marks .exit)) (now (work .exit)) ⌝ }
 {
-    if targets.len() <= bits::FEW_NUMBERS {
-        let mut few = [0u32; bits::FEW];
-        return remove_by(
-            offsets,
-            targets,
-            numbers,
-            starts,
-            &mut few,
-            bounds,
-            places,
-            marks,
-            work,
-        );
+    let lengths = Lengths {
+        offsets: bounds.len(),
+        targets: places.len(),
+        marks: marks.len(),
+        work: work.len(),
+    };
+    let verdict = check(offsets, targets, numbers, starts, lengths);
+    match verdict {
+        Verdict::Faulty(cause) => Verdict::Faulty(cause),
+        Verdict::Fine => {
+            keep(offsets, targets, numbers, bounds, places);
+            mark_afresh(bounds, places, starts, marks, work);
+            Verdict::Fine
+        }
     }
-    let mut taken = [0u32; bits::MANY];
-    remove_by(
-        offsets,
-        targets,
-        numbers,
-        starts,
-        &mut taken,
-        bounds,
-        places,
-        marks,
-        work,
-    )
 }

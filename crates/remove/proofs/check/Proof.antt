@@ -15,7 +15,7 @@ use Rattle.remove.proofs.check.Statement.{statement}
 use Rattle.remove.proofs.check.Tie as tie
 
 abbrev start : tie.Else1 → tie.Start
-start c = c .before .before .before .before .before .before .before
+start c = c .before .before .before .before .before .before
 
 returns : tie.Need-returns
 returns c = remove-4 (so (c .before .graph-outside .ensures) (c .if1 .taken))
@@ -35,32 +35,32 @@ low : (c : tie.Else2) → let a = start (c .before .before) .args in allBelow (l
 low c = so (c .before .is-below .ensures) (not-false _ (c .if2 .left))
 
 count-named-requires : tie.Need-count-named-requires
-count-named-requires c κs = let e = c .before .before .before in (ranges e .2, start e .pre .0, start e .pre .1)
+count-named-requires c κs = ranges (c .before .before) .2
 
 sub-lengths-wrong : tie.Need-sub-lengths-wrong
-sub-lengths-wrong c = omega (arith, ranges (c .before .before .before .before .before .before))
+sub-lengths-wrong c = omega (arith, ranges (c .before .before .before))
 
 sub-lengths-wrong-2 : tie.Need-sub-lengths-wrong-2
-sub-lengths-wrong-2 c = omega (arith, c .before .before .count-named .ensures .1)
+sub-lengths-wrong-2 c = omega (arith, c .count-named .ensures .1)
 
 lengths-wrong-requires : tie.Need-lengths-wrong-requires
-lengths-wrong-requires c κs = ranges (c .before .before .before .before .before .before) .1
+lengths-wrong-requires c κs = ranges (c .before .before .before) .1
 
 returns-3 : tie.Need-returns-3
 returns-3 c =
-    let g = c .before .before .before .before in
-    let b = g .before .before in
+    let g = c .before .before in
+    let b = g .before in
     remove-7 (counts (b .before .before)) (low b) (g .count-named .ensures .0) (so (c .before .lengths-wrong .ensures) (c .if3 .taken))
 
 returns-4 : tie.Need-returns-4
 returns-4 c =
     let l = c .before in
-    let g = l .before .before .before .before in
-    let b = g .before .before in
+    let g = l .before .before in
+    let b = g .before in
     remove-by (counts (b .before .before)) (low b) (g .count-named .ensures .0) (so (l .before .lengths-wrong .ensures) (l .if3 .left)) _ (c .check-store .ensures)
 
 pub check-spec : {M : Type 1} → statement M
 check-spec =
     tie.close
     (tie.spec (λ c κs. search needs) returns (λ c κs. search needs) returns-2 count-named-requires sub-lengths-wrong sub-lengths-wrong-2
-    lengths-wrong-requires (λ c. search needs) returns-3 (λ c κs. search needs) (λ c. search needs) returns-4)
+    lengths-wrong-requires returns-3 (λ c κs. search needs) returns-4)

@@ -44,7 +44,7 @@ module _ (c : tie.Else1) where
   abbrev start : tie.Start
   start = entry (at-clear (carried c))
 
-  room : start .args .to ≤ start .args .from + word-bits * length (carried c .carry-all .last .0)
+  room : start .args .span .to ≤ start .args .span .from + word-bits * length (carried c .carry-all .last .0)
   room = omega (arith, start .pre .3, carried c .carry-all .kept .0, at-clear (carried c) .clear .kept .0)
 
 object-of-requires : tie.Need-object-of-requires
