@@ -5,9 +5,8 @@
  * keeps nothing, allocates nothing and returns in every case. docs/SPECIFICATION.md says what each
  * call does.
  *
- * No call takes more than 32 KB of stack: resume takes 27 KB, remove 25 KB, scan and scan_length 21 KB,
- * deal and deal_seed 3 KB, mark and begin 2 KB, and every other call less than 1 KB, whatever the size
- * of the store.
+ * No call takes more than 32 KB of stack: resume takes 27 KB, remove 25 KB, deal and deal_seed 3 KB, mark
+ * and begin 2 KB, and every other call less than 1 KB, whatever the size of the store.
  *
  * A buffer is a pointer and the number of its elements, which can be read, and written where the call
  * writes. The pointer is aligned for its element, and may be null where that number is 0, as an empty
@@ -118,6 +117,7 @@ static inline const char *kullneyra_refusal_text(uint32_t number) {
 #define KULLNEYRA_DECK 720 /* how many cards the deck has; they are numbered from 0 */
 #define KULLNEYRA_CARD_WORKERS 6 /* the most workers that cards deal turns to */
 #define KULLNEYRA_NO_HOPS 4294967295u /* the hop count of an object to which no chain of references leads */
+#define KULLNEYRA_SCAN_WORK ((size_t)135169) /* the work words of a scan */
 #define KULLNEYRA_NEWLY_LIVE 255 /* the mark of an object that a change finds live, where it is no start */
 
 /* Up to here. */
@@ -376,19 +376,20 @@ uint32_t kullneyra_export(const uint32_t *offsets, size_t offsets_len, const uin
 /* How many mentions there are in texts: places where the bytes of a name stand, whatever stands around them. The
  * names are `width` lower-case hexadecimal digits each, one behind the other, ascending and distinct; named[k] is
  * the object that name k names. The texts stand one behind the other too: text i ends where ends[i] says, and
- * owners[i] is the object that it belongs to. */
+ * owners[i] is the object that it belongs to. The work is KULLNEYRA_SCAN_WORK words, all 0, and they are 0 again
+ * afterwards. */
 uint32_t kullneyra_scan_length(uint32_t objects, uint32_t width, const uint8_t *names, size_t names_len,
                                const uint32_t *named, size_t named_len, const uint8_t *texts, size_t texts_len,
                                const uint64_t *ends, size_t ends_len, const uint32_t *owners, size_t owners_len,
-                               uint64_t *result, size_t result_len);
+                               uint32_t *work, size_t work_len, uint64_t *result, size_t result_len);
 
 /* Writes each mention as a pair from[i] -> to[i], by text and then by place: the owner of the text, and the object
  * whose name stands there. Both lists have exactly as many words as kullneyra_scan_length says. kullneyra_add takes
  * them as references. Beside the number there is no answer. */
 uint32_t kullneyra_scan(uint32_t objects, uint32_t width, const uint8_t *names, size_t names_len, const uint32_t *named,
                         size_t named_len, const uint8_t *texts, size_t texts_len, const uint64_t *ends, size_t ends_len,
-                        const uint32_t *owners, size_t owners_len, uint32_t *from, size_t from_len, uint32_t *to,
-                        size_t to_len);
+                        const uint32_t *owners, size_t owners_len, uint32_t *work, size_t work_len, uint32_t *from,
+                        size_t from_len, uint32_t *to, size_t to_len);
 
 /* The same calls with a struct for the answer, which is written in every case: what the call answers where the
  * number is 0, and zeros beside a fault. Where a range that a call writes overlaps another one, the number is
@@ -749,27 +750,29 @@ static inline uint32_t kullneyra_scan_length_into(uint32_t objects, uint32_t wid
                                                   size_t names_len, const uint32_t *named, size_t named_len,
                                                   const uint8_t *texts, size_t texts_len, const uint64_t *ends,
                                                   size_t ends_len, const uint32_t *owners, size_t owners_len,
-                                                  uint64_t *answer) {
+                                                  uint32_t *work, size_t work_len, uint64_t *answer) {
     const struct kullneyra_range ranges[] = {
+        kullneyra_range(work, work_len, sizeof *work),
         kullneyra_range(names, names_len, sizeof *names),
         kullneyra_range(named, named_len, sizeof *named),
         kullneyra_range(texts, texts_len, sizeof *texts),
         kullneyra_range(ends, ends_len, sizeof *ends),
         kullneyra_range(owners, owners_len, sizeof *owners),
     };
-    if (kullneyra_shared(ranges, 0, 5, answer, sizeof *answer))
+    if (kullneyra_shared(ranges, 1, 6, answer, sizeof *answer))
         return KULLNEYRA_BUFFER;
     *answer = 0;
     return kullneyra_scan_length(objects, width, names, names_len, named, named_len, texts, texts_len, ends, ends_len,
-                                 owners, owners_len, answer, KULLNEYRA_SCAN_WORDS);
+                                 owners, owners_len, work, work_len, answer, KULLNEYRA_SCAN_WORDS);
 }
 
 static inline uint32_t kullneyra_scan_into(uint32_t objects, uint32_t width, const uint8_t *names, size_t names_len,
                                            const uint32_t *named, size_t named_len, const uint8_t *texts,
                                            size_t texts_len, const uint64_t *ends, size_t ends_len,
-                                           const uint32_t *owners, size_t owners_len, uint32_t *from, size_t from_len,
-                                           uint32_t *to, size_t to_len) {
+                                           const uint32_t *owners, size_t owners_len, uint32_t *work, size_t work_len,
+                                           uint32_t *from, size_t from_len, uint32_t *to, size_t to_len) {
     const struct kullneyra_range ranges[] = {
+        kullneyra_range(work, work_len, sizeof *work),
         kullneyra_range(from, from_len, sizeof *from),
         kullneyra_range(to, to_len, sizeof *to),
         kullneyra_range(names, names_len, sizeof *names),
@@ -778,10 +781,10 @@ static inline uint32_t kullneyra_scan_into(uint32_t objects, uint32_t width, con
         kullneyra_range(ends, ends_len, sizeof *ends),
         kullneyra_range(owners, owners_len, sizeof *owners),
     };
-    if (kullneyra_shared(ranges, 2, 7, NULL, 0))
+    if (kullneyra_shared(ranges, 3, 8, NULL, 0))
         return KULLNEYRA_BUFFER;
     return kullneyra_scan(objects, width, names, names_len, named, named_len, texts, texts_len, ends, ends_len, owners,
-                          owners_len, from, from_len, to, to_len);
+                          owners_len, work, work_len, from, from_len, to, to_len);
 }
 
 /* Up to here. */

@@ -21,8 +21,8 @@ CALLS = tuple(path for path in WRITTEN if path not in (NUMBERS, GO_NUMBERS))
 # The files whose constants are written.
 GRAPH, DESK, PLACES = "crates/graph/src/lib.rt", "crates/desk/src/lib.rt", "crates/desk/src/places.rt"
 LEASES, CARDS = "crates/catalogue/src/check.rt", "crates/cards/src/table.rt"
-HOPS, MARKING = "crates/traverse/src/lib.rt", "crates/changes/src/marking.rt"
-SOURCES = (*EXPORTS, COUNTS, REFUSALS, GRAPH, DESK, PLACES, LEASES, CARDS, HOPS, MARKING)
+HOPS, MARKING, NAMES = "crates/traverse/src/lib.rt", "crates/changes/src/marking.rt", "crates/names/src/lib.rt"
+SOURCES = (*EXPORTS, COUNTS, REFUSALS, GRAPH, DESK, PLACES, LEASES, CARDS, HOPS, MARKING, NAMES)
 HOP_WORDS = 'pub extern "C" fn kullneyra_hop_words(objects: u32, result: &mut [u64]) -> u32'
 HOP_PAGES = '[calls.hop_pages]\nwords = "PAGES"\nrefusals = [4, 7]\nverb = "is"\ndoc = "How many pages {hops} takes."\n\n'
 

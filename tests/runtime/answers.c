@@ -366,18 +366,32 @@ int main(void) {
     const uint64_t ends[2] = {4, 5};
     uint64_t scan_length;
     uint32_t from[3] = {7, 7, 7}, to[3] = {7, 7, 7};
-    expect("scan_length, width 0", KULLNEYRA_NAMES, kullneyra_scan_length_into(3, 0, NULL, 0, NULL, 0, NULL, 0, NULL, 0, NULL, 0, &scan_length));
+    static uint32_t blank[KULLNEYRA_SCAN_WORK];
+#define WORK blank, KULLNEYRA_SCAN_WORK
+    expect("scan_length, width 0", KULLNEYRA_NAMES,
+           kullneyra_scan_length_into(3, 0, NULL, 0, NULL, 0, NULL, 0, NULL, 0, NULL, 0, WORK, &scan_length));
     expect("scan_length beside a fault", 0, scan_length);
-    expect("scan_length", KULLNEYRA_OK, kullneyra_scan_length_into(3, 2, names, 6, named, 3, texts, 5, ends, 2, owners, 2, &scan_length));
+    expect("scan_length", KULLNEYRA_OK, kullneyra_scan_length_into(3, 2, names, 6, named, 3, texts, 5, ends, 2, owners, 2, WORK, &scan_length));
     expect("scan_length, mentions", 3, scan_length);
-    expect("scan, short list", KULLNEYRA_BUFFER, kullneyra_scan_into(3, 2, names, 6, named, 3, texts, 5, ends, 2, owners, 2, from, 3, to, 2));
-    expect("scan, ends", KULLNEYRA_GRAPH, kullneyra_scan_into(3, 2, names, 6, named, 3, texts, 4, ends, 2, owners, 2, from, 3, to, 3));
-    expect("scan, no object", KULLNEYRA_OBJECT, kullneyra_scan_into(2, 2, names, 6, named, 3, texts, 5, ends, 2, owners, 2, from, 3, to, 3));
+    expect("scan, short list", KULLNEYRA_BUFFER, kullneyra_scan_into(3, 2, names, 6, named, 3, texts, 5, ends, 2, owners, 2, WORK, from, 3, to, 2));
+    expect("scan, ends", KULLNEYRA_GRAPH, kullneyra_scan_into(3, 2, names, 6, named, 3, texts, 4, ends, 2, owners, 2, WORK, from, 3, to, 3));
+    expect("scan, no object", KULLNEYRA_OBJECT, kullneyra_scan_into(2, 2, names, 6, named, 3, texts, 5, ends, 2, owners, 2, WORK, from, 3, to, 3));
     expect("scan, unchanged", 7, from[0]);
-    expect("scan", KULLNEYRA_OK, kullneyra_scan_into(3, 2, names, 6, named, 3, texts, 5, ends, 2, owners, 2, from, 3, to, 3));
+    expect("scan, short work", KULLNEYRA_BUFFER,
+           kullneyra_scan_into(3, 2, names, 6, named, 3, texts, 5, ends, 2, owners, 2, blank, KULLNEYRA_SCAN_WORK - 1, from, 3, to, 3));
+    blank[KULLNEYRA_SCAN_WORK - 1] = 5;
+    expect("scan, work that is not 0", KULLNEYRA_BUFFER, kullneyra_scan_into(3, 2, names, 6, named, 3, texts, 5, ends, 2, owners, 2, WORK, from, 3, to, 3));
+    expect("scan, work unchanged", 5, blank[KULLNEYRA_SCAN_WORK - 1]);
+    blank[KULLNEYRA_SCAN_WORK - 1] = 0;
+    expect("scan", KULLNEYRA_OK, kullneyra_scan_into(3, 2, names, 6, named, 3, texts, 5, ends, 2, owners, 2, WORK, from, 3, to, 3));
     expect("scan, owner", 1, from[2]);
     expect("scan, mentioned", 2, to[0]);
     expect("scan, mentioned at the last place", 0, to[2]);
+    uint32_t left = 0;
+    for (size_t i = 0; i < KULLNEYRA_SCAN_WORK; i++) {
+        left |= blank[i];
+    }
+    expect("scan, work again 0", 0, left);
     refusals_in_words();
     return failed;
 }

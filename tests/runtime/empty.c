@@ -91,14 +91,17 @@ int main(void) {
     }
     {
         uint64_t length[1];
+        static uint32_t work[KULLNEYRA_SCAN_WORK];
         expect("no names and no texts, scan_length", KULLNEYRA_OK,
-               kullneyra_scan_length(1, 64, NULL, 0, NULL, 0, NULL, 0, NULL, 0, NULL, 0, length, 1));
+               kullneyra_scan_length(1, 64, NULL, 0, NULL, 0, NULL, 0, NULL, 0, NULL, 0, work, KULLNEYRA_SCAN_WORK, length, 1));
         expect("no result word, scan_length", KULLNEYRA_BUFFER,
-               kullneyra_scan_length(1, 64, NULL, 0, NULL, 0, NULL, 0, NULL, 0, NULL, 0, NULL, 0));
+               kullneyra_scan_length(1, 64, NULL, 0, NULL, 0, NULL, 0, NULL, 0, NULL, 0, work, KULLNEYRA_SCAN_WORK, NULL, 0));
+        expect("no work, scan_length", KULLNEYRA_BUFFER,
+               kullneyra_scan_length(1, 64, NULL, 0, NULL, 0, NULL, 0, NULL, 0, NULL, 0, NULL, 0, length, 1));
         expect("no names and no texts, scan", KULLNEYRA_OK,
-               kullneyra_scan(1, 64, NULL, 0, NULL, 0, NULL, 0, NULL, 0, NULL, 0, NULL, 0, NULL, 0));
+               kullneyra_scan(1, 64, NULL, 0, NULL, 0, NULL, 0, NULL, 0, NULL, 0, work, KULLNEYRA_SCAN_WORK, NULL, 0, NULL, 0));
         expect("names of no bytes, scan", KULLNEYRA_NAMES,
-               kullneyra_scan(1, 0, NULL, 0, NULL, 0, NULL, 0, NULL, 0, NULL, 0, NULL, 0, NULL, 0));
+               kullneyra_scan(1, 0, NULL, 0, NULL, 0, NULL, 0, NULL, 0, NULL, 0, work, KULLNEYRA_SCAN_WORK, NULL, 0, NULL, 0));
     }
     return failed;
 }

@@ -72,12 +72,17 @@ static uint32_t export_length(unsigned char *at[]) { return kullneyra_export_len
 static uint32_t export_(unsigned char *at[]) { return kullneyra_export_into(OLD(0), BYTES(2, BYTES)); }
 
 #define SCANNED BYTES(0, 4), WORDS(1, 2), BYTES(2, 8), LONGS(3, 2), WORDS(4, 2)
-static uint32_t scan_length(unsigned char *at[]) { return kullneyra_scan_length_into(1, 2, SCANNED, (uint64_t *)at[5]); }
-static uint32_t scan(unsigned char *at[]) { return kullneyra_scan_into(1, 2, SCANNED, WORDS(5, 3), WORDS(6, 3)); }
+static uint32_t scan_length(unsigned char *at[]) {
+    return kullneyra_scan_length_into(1, 2, SCANNED, WORDS(5, KULLNEYRA_SCAN_WORK), (uint64_t *)at[6]);
+}
+static uint32_t scan(unsigned char *at[]) {
+    return kullneyra_scan_into(1, 2, SCANNED, WORDS(5, KULLNEYRA_SCAN_WORK), WORDS(6, 3), WORDS(7, 3));
+}
 
 #define MARKING GRAPH, READ(uint32_t, 1), READ(uint8_t, 2), WRITTEN(uint8_t, 1), WRITTEN(uint32_t, WORK), WRITTEN(uint64_t, 4)
 
-#define NAMES READ(uint8_t, 4), READ(uint32_t, 2), READ(uint8_t, 8), READ(uint64_t, 2), READ(uint32_t, 2)
+#define NAMES \
+    READ(uint8_t, 4), READ(uint32_t, 2), READ(uint8_t, 8), READ(uint64_t, 2), READ(uint32_t, 2), WRITTEN(uint32_t, KULLNEYRA_SCAN_WORK)
 
 static const Call calls[] = {
     {"header", header, {READ(uint8_t, BYTES), ANSWER(struct kullneyra_head, uint32_t)}, 1},
@@ -106,8 +111,9 @@ static const Call calls[] = {
     {"scan", scan, {NAMES, WRITTEN(uint32_t, 3), WRITTEN(uint32_t, 3)}, 0},
 };
 
-enum { FIELD = 2048, FIELDS = MOST + 2 };
-static uint64_t memory[FIELD * FIELDS / 8], before[FIELD * FIELDS / 8];
+/* Behind the fields is room for one range that is larger than a field: work words, which have to be 0. */
+enum { FIELD = 2048, FIELDS = MOST + 2, ROOM = FIELD * (FIELDS + 1) + 4 * (int)KULLNEYRA_SCAN_WORK };
+static uint64_t memory[ROOM / 8 + 1], before[ROOM / 8 + 1];
 static int faults, tried;
 
 static void fault(const Call *call, const char *what, size_t i, size_t k) {
@@ -118,11 +124,18 @@ static void fault(const Call *call, const char *what, size_t i, size_t k) {
 /* Makes the call with range i as many bytes behind the beginning of range k as is said, all others in fields of their own. */
 static void try_one(const Call *call, size_t number, size_t i, size_t k, ptrdiff_t shift, int shared) {
     unsigned char *at[MOST], *base = (unsigned char *)memory;
+    size_t used = FIELD * FIELDS;
     memset(memory, 0xA5, sizeof memory);
-    for (size_t j = 0; j < number; j++)
+    for (size_t j = 0; j < number; j++) {
         at[j] = base + FIELD * (j + 1);
+        if (call->ranges[j].bytes > FIELD) {
+            at[j] = base + used;
+            memset(at[j], 0, call->ranges[j].bytes);
+            used = sizeof memory;
+        }
+    }
     at[i] = at[k] + shift;
-    memcpy(before, memory, sizeof memory);
+    memcpy(before, memory, used);
     const uint32_t told = call->make(at);
     tried++;
     if (!shared) {
@@ -141,7 +154,7 @@ static void try_one(const Call *call, size_t number, size_t i, size_t k, ptrdiff
             }
         memset(at[last], 0xA5, call->ranges[last].bytes);
     }
-    if (memcmp(memory, before, sizeof memory) != 0)
+    if (memcmp(memory, before, used) != 0)
         fault(call, "something was touched", i, k);
 }
 
@@ -154,7 +167,8 @@ int main(void) {
         for (size_t i = 0; i < number; i++)
             for (size_t k = 0; k < number; k++) {
                 const Range a = call->ranges[i], b = call->ranges[k];
-                if (i == k || !(a.written || b.written))
+                /* the others are moved to a range that is larger than a field */
+                if (i == k || !(a.written || b.written) || a.bytes > FIELD)
                     continue;
                 /* aligned for both */
                 const size_t step = a.size > b.size ? a.size : b.size;

@@ -19,7 +19,7 @@ struct input {
     uint32_t n, m, workers;
     uint32_t *offsets, *targets, *starts, *work, *saved, *hops;
     uint32_t *new_offsets, *new_targets, *numbers, *cards;
-    uint32_t *named, *owners, *from, *to;
+    uint32_t *named, *owners, *scan_work, *from, *to;
     uint64_t *sizes, *tallies;
     uint64_t *ends;
     uint8_t *marks, *catalogue, *schedule, *text, *out, *turns, *names;
@@ -50,7 +50,8 @@ static void put(uint8_t **at, uint64_t value, int bytes) {
 static uint32_t dealt(const struct input *s) { return s->workers < KULLNEYRA_CARD_WORKERS ? s->workers : KULLNEYRA_CARD_WORKERS; }
 
 #define NAMED(s) \
-    (s)->n, NAME, (s)->names, (size_t)(s)->n * NAME, (s)->named, (s)->n, (s)->names, (size_t)(s)->n * NAME, (s)->ends, 1, (s)->owners, 1
+    (s)->n, NAME, (s)->names, (size_t)(s)->n * NAME, (s)->named, (s)->n, (s)->names, (size_t)(s)->n * NAME, (s)->ends, 1, (s)->owners, 1, \
+    (s)->scan_work, KULLNEYRA_SCAN_WORK
 
 /* A name for each object, its number in hexadecimal; and one text, which is all of the names, one behind the other. */
 static void fill_names(struct input *s) {
@@ -58,6 +59,7 @@ static void fill_names(struct input *s) {
     s->named = words(s->n, sizeof(uint32_t));
     s->ends = words(1, sizeof(uint64_t));
     s->owners = words(1, sizeof(uint32_t));
+    s->scan_work = words(KULLNEYRA_SCAN_WORK, sizeof(uint32_t));
     for (uint32_t v = 0; v < s->n; v++) {
         sprintf((char *)s->names + (size_t)v * NAME, "%0*x", NAME, (unsigned)v);
         s->named[v] = v;

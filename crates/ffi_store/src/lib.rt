@@ -10,7 +10,7 @@ ghost use Rattle.matrix.specs.Promise.{Returns};
 ghost use Rattle.matrix.specs.Import.{headRow};
 ghost use Rattle.matrix.specs.Export.{exportFault, bytesAfter, lengthFor as exportLength};
 ghost use Rattle.names.specs.Names.{namesOf};
-ghost use Rattle.names.specs.Call.{textsOf, lengthFor as scanLength};
+ghost use Rattle.names.specs.Call.{textsOf, blank, lengthFor as scanLength};
 
 // `header`; result words: n, m, index.
 #[no_mangle]
@@ -126,13 +126,23 @@ pub extern "C" fn kullneyra_scan_length(
     texts: &[u8],
     ends: &[u64],
     owners: &[u32],
+    work: &mut [u32],
     result: &mut [u64],
 ) -> u32
     ensures { λ r. ⌜ LengthIn (scanLength objects (namesOf width (now (names .entry)) (now (named .entry)))
-        (textsOf (now (texts .entry)) (now (ends .entry)) (now (owners .entry)))) (now (result .entry)) (now (result .exit)) r ⌝ }
+        (textsOf (now (texts .entry)) (now (ends .entry)) (now (owners .entry))) (blank (now (work .entry)))) (now (result .entry)) (now (result .exit)) r ⌝ }
+    ensures { λ _. ⌜ now (work .exit) ≡ now (work .entry) ⌝ }
 {
     kullneyra::give_length(
-        scan::scan_length(objects, width, names, named, texts, ends, owners),
+        scan::scan_length(
+            scan::Shape { objects, width },
+            names,
+            named,
+            texts,
+            ends,
+            owners,
+            work,
+        ),
         result,
     )
 }
@@ -147,21 +157,22 @@ pub extern "C" fn kullneyra_scan(
     texts: &[u8],
     ends: &[u64],
     owners: &[u32],
+    work: &mut [u32],
     from: &mut [u32],
     to: &mut [u32],
 ) -> u32
     ensures { λ r. ⌜ ScansIn objects (namesOf width (now (names .entry)) (now (named .entry)))
         (textsOf (now (texts .entry)) (now (ends .entry)) (now (owners .entry)))
-        (now (from .entry)) (now (to .entry)) (now (from .exit)) (now (to .exit)) r ⌝ }
+        (now (work .entry)) (now (from .entry)) (now (to .entry)) (now (work .exit)) (now (from .exit)) (now (to .exit)) r ⌝ }
 {
     refusal::verdict_number(scan::scan(
-        objects,
-        width,
+        scan::Shape { objects, width },
         names,
         named,
         texts,
         ends,
         owners,
+        work,
         from,
         to,
     )) as u32

@@ -31,7 +31,7 @@ use Rattle.changes.proofs.Adding.{refers, closed-by, by-closed, added-objects, 
 use Rattle.updates.proofs.Checks.{AddReady, found-ready}
 use Rattle.names.specs.Names.{Names}
 use Rattle.names.specs.Occurs.{Mentioned}
-use Rattle.names.specs.Call.{Texts, from, to, fault as scanning, scanFault}
+use Rattle.names.specs.Call.{Texts, from, to, blank, fault as scanning, scanFault}
 use Rattle.names.proofs.Checks.{Sound, sound}
 use Rattle.kullneyra.specs.Calls.{mark-words, flag, MarksIn, ScansIn}
 use Rattle.kullneyra.specs.Blobs.{nameless, Held, start, mention, further, Scans, none, more, Collects, Dead}
@@ -40,13 +40,13 @@ use Rattle.kullneyra.proofs.Mentioning.{leading-append, pair-mention, m
 -- ---- the scans
 
 -- what one that was accepted left
-module _ {n : ℕ} {N : Names} {T : Texts} {fs ts fs′ ts′ : List ℕ} (x : ScansIn n N T fs ts fs′ ts′ 0) where
-  scan-fine : scanFault n N T (length fs) (length ts) ≡ 0
+module _ {n : ℕ} {N : Names} {T : Texts} (ws : List ℕ) {ws′ fs ts fs′ ts′ : List ℕ} (x : ScansIn n N T ws fs ts ws′ fs′ ts′ 0) where
+  scan-fine : scanFault n N T (blank ws) (length fs) (length ts) ≡ 0
   scan-fine = sym (x .answers)
 
   scan-sound : Sound N T
   unfolding scanFault
-  scan-sound = sound n N T (first-none (scanning n N T) _ scan-fine .0)
+  scan-sound = sound n N T (blank ws) (first-none (scanning n N T (blank ws)) _ scan-fine .0) .0
 
   scan-from : fs′ ≡ from N T
   scan-from = rw scan-fine at (x .fills-from)
@@ -56,37 +56,37 @@ module _ {n : ℕ} {N : Names} {T : Texts} {fs ts fs′ ts′ : List ℕ} (x : S
 
 scans-alike : {n : ℕ} {T : Texts} {Ns : List Names} {fs ts : List ℕ} → Scans n T Ns fs ts → length ts ≡ length fs
 scans-alike none = refl
-scans-alike (more {fs′ = fs′} {ts′ = ts′} {from = fr} {to = t} x s) =
-    let a = ap length (scan-from x) in
-    let b = ap length (scan-to x) in
-    omega (arith, lists-alike (scan-sound x) 0 0, length-append fs′ fr, length-append ts′ t, scans-alike s)
+scans-alike (more ws {fs′ = fs′} {ts′ = ts′} {from = fr} {to = t} x s) =
+    let a = ap length (scan-from ws x) in
+    let b = ap length (scan-to ws x) in
+    omega (arith, lists-alike (scan-sound ws x) 0 0, length-append fs′ fr, length-append ts′ t, scans-alike s)
 
 module _ {n : ℕ} {T : Texts} (u v : ℕ) where
-  first-alike : {N : Names} {fs ts fs′ ts′ : List ℕ} → ScansIn n N T fs ts fs′ ts′ 0 → length ts′ ≡ length fs′
-  first-alike x =
-      let a = ap length (scan-from x) in
-      let b = ap length (scan-to x) in
-      omega (arith, lists-alike (scan-sound x) 0 0)
+  first-alike : {N : Names} (ws : List ℕ) {ws′ fs ts fs′ ts′ : List ℕ} → ScansIn n N T ws fs ts ws′ fs′ ts′ 0 → length ts′ ≡ length fs′
+  first-alike ws x =
+      let a = ap length (scan-from ws x) in
+      let b = ap length (scan-to ws x) in
+      omega (arith, lists-alike (scan-sound ws x) 0 0)
 
   scans-mention : {Ns : List Names} {fs ts : List ℕ} → Scans n T Ns fs ts → 0 < leading u v (paired fs ts)
       → (k : ℕ) × (k < length Ns) × Mentioned (getD Ns k nameless) T u v
   unfolding paired sum
   scans-mention none h = absurd (omega arith)
-  scans-mention (more {fs′ = fs′} {ts′ = ts′} {from = fr} {to = t} x s) h =
+  scans-mention (more ws {fs′ = fs′} {ts′ = ts′} {from = fr} {to = t} x s) h =
       ⊎-elim
-      (λ (p : 0 < leading u v (paired fs′ ts′)). (0, omega arith, pair-mention (scan-sound x) u v (rw (scan-from x, scan-to x) at p)))
+      (λ (p : 0 < leading u v (paired fs′ ts′)). (0, omega arith, pair-mention (scan-sound ws x) u v (rw (scan-from ws x, scan-to ws x) at p)))
       (λ (p : 0 < leading u v (paired fr t)). let r = scans-mention s p in (suc (r .0), omega (arith, r .1), r .2))
-      (either-positive (leading u v (paired fs′ ts′)) (leading u v (paired fr t)) (omega (arith, h, leading-append u v fs′ ts′ fr t (first-alike x))))
+      (either-positive (leading u v (paired fs′ ts′)) (leading u v (paired fr t)) (omega (arith, h, leading-append u v fs′ ts′ fr t (first-alike ws x))))
 
   mention-scans : {Ns : List Names} {fs ts : List ℕ} → Scans n T Ns fs ts → (k : ℕ) → k < length Ns → Mentioned (getD Ns k nameless) T u v
       → 0 < leading u v (paired fs ts)
   mention-scans none k h m = absurd (omega arith)
-  mention-scans (more {fs′ = fs′} {ts′ = ts′} {from = fr} {to = t} x s) zero h m =
-      let p = mention-pair (scan-sound x) u v m in
-      let q : 0 < leading u v (paired fs′ ts′) = rw (scan-from x, scan-to x) p in
-      omega (arith, leading-append u v fs′ ts′ fr t (first-alike x))
-  mention-scans (more {fs′ = fs′} {ts′ = ts′} {from = fr} {to = t} x s) (suc k) h m =
-      omega (arith, mention-scans s k (omega arith) m, leading-append u v fs′ ts′ fr t (first-alike x))
+  mention-scans (more ws {fs′ = fs′} {ts′ = ts′} {from = fr} {to = t} x s) zero h m =
+      let p = mention-pair (scan-sound ws x) u v m in
+      let q : 0 < leading u v (paired fs′ ts′) = rw (scan-from ws x, scan-to ws x) p in
+      omega (arith, leading-append u v fs′ ts′ fr t (first-alike ws x))
+  mention-scans (more ws {fs′ = fs′} {ts′ = ts′} {from = fr} {to = t} x s) (suc k) h m =
+      omega (arith, mention-scans s k (omega arith) m, leading-append u v fs′ ts′ fr t (first-alike ws x))
 
 -- ---- the marking
 

@@ -27,7 +27,7 @@ pub data Held (Ns : List Names) (T : Texts) (ps : List Pair) (starts : List ℕ)
 -- a scan for each width over the same texts, each accepted, and what they found, one behind the other
 pub data Scans (n : ℕ) (T : Texts) : List Names → List ℕ → List ℕ → Type 0 where
   none : Scans n T [] [] []
-  more : {N : Names} {Ns : List Names} {fs ts fs′ ts′ from to : List ℕ} → ScansIn n N T fs ts fs′ ts′ 0 → Scans n T Ns from to
+  more : {N : Names} {Ns : List Names} (ws : List ℕ) {ws′ fs ts fs′ ts′ from to : List ℕ} → ScansIn n N T ws fs ts ws′ fs′ ts′ 0 → Scans n T Ns from to
       → Scans n T (N ∷ Ns) (fs′ ++ from) (ts′ ++ to)
 
 -- the calls in their order, each accepted: the scans; adding what they found, and the further pairs, to the store of n objects without

@@ -36,7 +36,7 @@ use Rattle.changes.specs.Marking.{ListLeft}
 use Rattle.changes.specs.Promise.{AddPromise, RemovePromise}
 use Rattle.updates.specs.Call.{lengths, addFault, removeFault}
 use Rattle.names.specs.Names.{Names}
-use Rattle.names.specs.Call.{Texts, scanFault, fromAfter, toAfter}
+use Rattle.names.specs.Call.{Texts, blank, scanFault, fromAfter, toAfter}
 
 -- 7 where the result words are not as many as the call has results, else what the call answers
 abbrev pub answerIn : ℕ → List ℕ → ℕ → ℕ
@@ -238,8 +238,9 @@ pub record ImportsIn (text offsets targets sizes result offsets′ targets′ si
 
 -- ---- scan: no results
 
--- the answer is the first fault; without one the lists are the mentions, and beside a refusal they are as they were
-pub record ScansIn (n : ℕ) (N : Names) (T : Texts) (from to from′ to′ : List ℕ) (answer : ℕ) : Type 0 where
-  pub answers : answer ≡ scanFault n N T (length from) (length to)
-  pub fills-from : from′ ≡ fromAfter n N T from to
-  pub fills-to : to′ ≡ toAfter n N T from to
+-- the answer is the first fault; without one the lists are the mentions, and beside a refusal they are as they were; so are the work words always
+pub record ScansIn (n : ℕ) (N : Names) (T : Texts) (work from to work′ from′ to′ : List ℕ) (answer : ℕ) : Type 0 where
+  pub answers : answer ≡ scanFault n N T (blank work) (length from) (length to)
+  pub keeps-work : work′ ≡ work
+  pub fills-from : from′ ≡ fromAfter n N T (blank work) from to
+  pub fills-to : to′ ≡ toAfter n N T (blank work) from to

@@ -1,4 +1,4 @@
--- The two ranges of digits, each moved to 0 so that one comparison tells it; and both by one comparison of the lesser.
+-- The two ranges of digits, each moved to 0 so that one comparison tells it; both by one comparison of the lesser; and each by its own base.
 use mathlib.Core.Path.{_≡_, sym, _∙_}
 use mathlib.Core.Bool.{true}
 use mathlib.Core.Logic.{by-cases}
@@ -44,3 +44,19 @@ digit-by-letter b f h =
     (λ (p : ¬ ((b + 159) % 256 < 6)).
     rw (le-ltb ((b + 159) % 256 + 4) 10 (omega arith))
     (sym (digit-high b f (omega arith) ∙ le-ltb ((b + 159) % 256) 6 (omega arith))))
+
+-- r is b less the base of its range, modulo 256
+module _ (b r : ℕ) (f : b < 256) (g : r < 256) where
+  pub digit-by-low : (r + 48) % 256 ≡ b → b < 97 → ltb r 10 ≡ isDigit b
+  digit-by-low e h =
+      by-cases (decLt r 10)
+      (λ (p : r < 10). rw (lt-ltb r 10 p) (sym (digit-low b f (omega arith))))
+      (λ (p : ¬ (r < 10)).
+      rw (le-ltb r 10 (omega arith)) (sym (digit-high b f (omega arith) ∙ le-ltb ((b + 159) % 256) 6 (omega arith))))
+
+  pub digit-by-high : (r + 93) % 256 ≡ b → 97 ≤ b → ltb r 10 ≡ isDigit b
+  digit-by-high e h =
+      by-cases (decLt r 10)
+      (λ (p : r < 10). rw (lt-ltb r 10 p) (sym (digit-high b f (omega arith) ∙ lt-ltb ((b + 159) % 256) 6 (omega arith))))
+      (λ (p : ¬ (r < 10)).
+      rw (le-ltb r 10 (omega arith)) (sym (digit-high b f (omega arith) ∙ le-ltb ((b + 159) % 256) 6 (omega arith))))

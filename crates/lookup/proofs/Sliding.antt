@@ -11,7 +11,7 @@ use lib.Dec.{eqb}
 use borrow.Author.Tests.{eqb-false}
 use Rattle.slices.specs.Bits.{bit}
 use Rattle.names.specs.Names.{isDigit}
-use Rattle.lookup.specs.Index.{nibble, tailAt, tail-bytes}
+use Rattle.lookup.specs.Index.{tailAt, tail-bytes, tail-values}
 use Rattle.lookup.specs.Places.{Barren, Stops, LastOther, NextPlace}
 use Rattle.lookup.proofs.Tails.{tail-slid}
 
@@ -102,15 +102,15 @@ module _ {w : ℕ} {index text : List ℕ} {from end h : ℕ} (s : Sliding w ind
         }
 
     -- it is one
-    pub slid-on : end < length text → (v : ℕ) → v ≡ nibble (getD text end 0) → Sliding w index text from (end + 1) (16 * (h % 8192) + v)
-    slid-on g v q =
+    pub slid-on : end < length text → Sliding w index text from (end + 1) ((8 * h + getD text end 0) % tail-values)
+    slid-on g =
         let l = s .low in
         let f = s .wide in
         record {
           wide = f;
           low = omega arith;
           high = omega arith;
-          value = rw (s .value, q) (tail-slid text end (omega arith));
+          value = rw (s .value) (tail-slid text end (omega arith));
           barren = here-barren;
         }
 

@@ -1,4 +1,4 @@
--- The places of a text that may hold a name: w digits, of which the last five are in the index.
+-- The places of a text that may hold a name: w digits, of which the last eight are in the index.
 use mathlib.Core.Path.{_≡_}
 use mathlib.Core.Bool.{Bool, true, false}
 use mathlib.Core.List.{List}

@@ -5,7 +5,7 @@ use Prim.Native.Nat.{ℕ, _*_, _≤_, _<_}
 use lib.ListN.{length}
 use Rattle.names.specs.Names.{window, order}
 use Rattle.names.specs.declared.Order.the-variants.{Below}
-use Rattle.lookup.specs.Index.{index-words}
+use Rattle.names.specs.Call.{work-words}
 
 -- name k is below every later one
 abbrev pub Ascends : List ℕ → ℕ → ℕ → Type 0
@@ -14,7 +14,7 @@ Ascends names w count = (i j : ℕ) → i < j → j < count → order (window w 
 pub record Searchable (names : List ℕ) (w count : ℕ) (index bytes : List ℕ) : Type 0 where
   pub long : length names ≡ w * count
   pub ascends : Ascends names w count
-  pub index-long : length index ≡ index-words
+  pub index-long : length index ≡ work-words
   pub fits : length bytes ≡ w
 
 -- a name's number where the bytes are one, else a number that no name has

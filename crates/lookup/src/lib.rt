@@ -1,29 +1,28 @@
 // Names looked up (SPECIFICATION 14): digits, the order of two names, the search among ascending
 // names, and the places of a text that may hold one. Nothing but the index is written.
 use names::Order;
+use names::WORK;
 use slices::bits;
 ghost use mathlib.Core.Path.{_≡_};
 ghost use Prim.Native.Nat.{_+_, _*_, _≤_, _<_};
-ghost use lib.ListN.{length};
+ghost use lib.ListN.{length, replicate};
 ghost use Rattle.laws.specs.Test.{same, all};
-ghost use Rattle.names.specs.Names.{isDigit, order};
-ghost use Rattle.lookup.specs.Index.{nibble, tailAt, index-words, Indexed};
+ghost use Rattle.names.specs.Names.{isDigit, window, order};
+ghost use Rattle.names.specs.Call.{work-words};
+ghost use Rattle.lookup.specs.Index.{nibble, tailAt, fourAt, leadIn, Indexed, KeepsSet};
 ghost use Rattle.lookup.specs.Places.{LastOther, Stops, NextPlace};
 ghost use Rattle.lookup.specs.Search.{Searchable, FoundIs};
 
-// The bytes at a name's end that stand for it in the index, the first of them by its lowest bit alone: one bit for each
-// value that they have, 16 KB, so that an index fits on a small stack.
-const TAIL: usize = 5;
+// The bytes at a name's end that stand for it in the index: each takes the value on by three bits, up to 2^22.
+const TAIL: usize = 8;
 
-// What is left of a tail when the next byte comes.
-const REST: u32 = 8192;
+const TAILS: u32 = 4194304;
 
-// The words of those bits, and behind them where names are to be sought, by the first ten bits of three digits.
-const BITS: usize = 4096;
+// One bit for each value; behind them is where names are to be sought, by their first three digits.
+const BITS: usize = 131072;
 
-const SHARE: u32 = 4;
-
-pub const INDEX: usize = BITS + 1025;
+// The bytes at a name's front that are compared as one number.
+const LEAD: usize = 8;
 
 // Which way the last look at a name sent the search.
 const NOWHERE: u32 = 0;
@@ -39,8 +38,8 @@ pub struct Stop {
 }
 
 // Whether a byte is a digit of a name. Both ranges are moved to end at 10, and the lesser number is
-// compared, so that there is one comparison and no jump between the two.
-pub fn is_digit(b: u8) -> bool
+// compared, so that there is no jump between the two: for texts in which other bytes are mixed with digits.
+fn is_digit(b: u8) -> bool
     ensures { λ r. ⌜ r ≡ isDigit b ⌝ }
 {
     let n = b as u32;
@@ -48,6 +47,14 @@ pub fn is_digit(b: u8) -> bool
     let letter = (n + 159) % 256 + 4;
     let least = if digit < letter { digit } else { letter };
     least < 10
+}
+
+// The same without wider numbers: for rows of digits, of which a loop takes many at a time.
+fn is_row_digit(b: u8) -> bool
+    ensures { λ r. ⌜ r ≡ isDigit b ⌝ }
+{
+    let base: u8 = if b < 97 { 48 } else { 93 };
+    std::num::wrapping_sub_u8(b, base) < 10
 }
 
 // A digit's value; some number below 16 for any other byte.
@@ -66,13 +73,41 @@ fn three(bytes: &[u8], at: usize) -> u32
     256 * value(bytes[at]) + 16 * value(bytes[at + 1]) + value(bytes[at + 2])
 }
 
-// The value of the five bytes from a place on.
-fn tail(bytes: &[u8], at: usize) -> u32
-    requires { ⌜ at + 5 ≤ length (now bytes) ⌝ }
-    ensures { λ r. ⌜ (r ≡ tailAt (now (bytes .entry)) at) × (r < 131072) ⌝ }
+// A byte as a wider number.
+fn wide(b: u8) -> u32
+    ensures { λ r. ⌜ (r ≡ b) × (r < 256) ⌝ }
 {
-    let front = 256 * (value(bytes[at]) % 2) + 16 * value(bytes[at + 1]) + value(bytes[at + 2]);
-    256 * front + 16 * value(bytes[at + 3]) + value(bytes[at + 4])
+    b as u32
+}
+
+// The value of the eight bytes from a place on that end a name.
+fn tail(bytes: &[u8], at: usize) -> u32
+    requires { ⌜ at + 8 ≤ length (now bytes) ⌝ }
+    ensures { λ r. ⌜ (r ≡ tailAt (now (bytes .entry)) at) × (r < 4194304) ⌝ }
+{
+    let front = 64 * wide(bytes[at]) + 8 * wide(bytes[at + 1]) + wide(bytes[at + 2]);
+    let middle = 64 * wide(bytes[at + 3]) + 8 * wide(bytes[at + 4]) + wide(bytes[at + 5]);
+    (32768 * front + 64 * middle + 8 * wide(bytes[at + 6]) + wide(bytes[at + 7])) % TAILS
+}
+
+// Four bytes as one number, the first of them the highest.
+fn four(bytes: &[u8], at: usize) -> u32
+    requires { ⌜ at + 4 ≤ length (now bytes) ⌝ }
+    ensures { λ r. ⌜ (r ≡ fourAt (now (bytes .entry)) at) × (r < 4294967296) ⌝ }
+{
+    let front = 256 * wide(bytes[at]) + wide(bytes[at + 1]);
+    65536 * front + 256 * wide(bytes[at + 2]) + wide(bytes[at + 3])
+}
+
+// The first eight bytes of a name at a place as one number, by which most names are told apart; 0 for short names.
+pub fn lead(bytes: &[u8], at: usize, width: usize) -> u64
+    requires { ⌜ at + width ≤ length (now bytes) ⌝ }
+    ensures { λ r. ⌜ r ≡ leadIn width (now (bytes .entry)) at ⌝ }
+{
+    if width < LEAD {
+        return 0;
+    }
+    4294967296 * four(bytes, at) as u64 + four(bytes, at + 4) as u64
 }
 
 // Whether all bytes are digits.
@@ -82,7 +117,7 @@ pub fn all_digits(bytes: &[u8]) -> bool
     // Looks at every byte, so that the loop is compiled without a jump out of it.
     let mut wrong: u8 = 0;
     for i in 0..bytes.len() {
-        if !is_digit(bytes[i]) {
+        if !is_row_digit(bytes[i]) {
             wrong = 1;
         }
     }
@@ -104,7 +139,7 @@ fn is_same(a: &[u8], b: &[u8]) -> bool
 }
 
 // The order of two names, by the first byte in which they differ.
-pub fn order_of(a: &[u8], b: &[u8]) -> Order
+fn order_of(a: &[u8], b: &[u8]) -> Order
     requires { ⌜ length (now b) ≡ length (now a) ⌝ }
     ensures { λ r. ⌜ r ≡ order (now (a .entry)) (now (b .entry)) ⌝ }
 {
@@ -120,7 +155,7 @@ pub fn order_of(a: &[u8], b: &[u8]) -> Order
 }
 
 // The same, with a quick look for names that are the same.
-fn compare(a: &[u8], b: &[u8]) -> Order
+pub fn compare(a: &[u8], b: &[u8]) -> Order
     requires { ⌜ length (now b) ≡ length (now a) ⌝ }
     ensures { λ r. ⌜ r ≡ order (now (a .entry)) (now (b .entry)) ⌝ }
 {
@@ -130,22 +165,38 @@ fn compare(a: &[u8], b: &[u8]) -> Order
     order_of(a, b)
 }
 
+// How bytes and the name at a place stand to each other. The lead of the bytes is handed in, since many names are looked at.
+fn look(bytes: &[u8], head: u64, names: &[u8], at: usize) -> Order
+    requires { ⌜ (at + length (now bytes) ≤ length (now names)) × (head ≡ leadIn (length (now bytes)) (now bytes) 0) ⌝ }
+    ensures { λ r. ⌜ r ≡ order (now (bytes .entry)) (window (length (now (bytes .entry))) (now (names .entry)) at) ⌝ }
+{
+    let other = lead(names, at, bytes.len());
+    if head < other {
+        return Order::Below;
+    }
+    if other < head {
+        return Order::Above;
+    }
+    let end = at + bytes.len();
+    compare(bytes, &names[at..end])
+}
+
 // Where a name should stand, by its first six digits and the index; any answer is taken.
 fn guess(index: &[u32], window: &[u8]) -> usize
-    requires { ⌜ length (now index) ≡ index-words ⌝ }
+    requires { ⌜ length (now index) ≡ work-words ⌝ }
 {
     if window.len() < 6 {
         return 0;
     }
     let first = three(window, 0);
-    let at = BITS + (first / SHARE) as usize;
+    let at = BITS + first as usize;
     let from = index[at] as u64;
     let to = index[at + 1] as u64;
     if to < from {
         return 0;
     }
-    let part = 4096 * (first % SHARE) + three(window, 3);
-    (from + (to - from) * part as u64 / 16384) as usize
+    let part = three(window, 3);
+    (from + (to - from) * part as u64 / 4096) as usize
 }
 
 // The next place to look at between two bounds, so far from the one where the search stands.
@@ -189,11 +240,10 @@ pub fn find(names: &[u8], width: usize, count: usize, index: &[u32], window: &[u
     let mut high = count;
     let mut step = guess(index, window);
     let mut turn = NOWHERE;
+    let head = lead(window, 0, width);
     while low < high {
         let middle = between(low, high, step, turn);
-        let at = middle * width;
-        let end = at + width;
-        let found = compare(window, &names[at..end]);
+        let found = look(window, head, names, middle * width);
         let mut now = DOWN;
         match found {
             Order::Same => {
@@ -231,7 +281,7 @@ fn last_other(text: &[u8], low: usize, high: usize) -> usize
 // The first place from one on whose tail is in the index; or behind a byte that is no digit and
 // that every window up to there has; or the end.
 fn slide(text: &[u8], from: usize, width: usize, index: &[u32]) -> Stop
-    requires { ⌜ (from + width ≤ length (now text)) × (length (now index) ≡ index-words) × (0 < width) ⌝ }
+    requires { ⌜ (from + width ≤ length (now text)) × (length (now index) ≡ work-words) × (0 < width) ⌝ }
     ensures { λ r. ⌜ Stops width (now (index .entry)) (now (text .entry)) from (r .at) (r .hit) ⌝ }
 {
     if width < TAIL {
@@ -250,13 +300,13 @@ fn slide(text: &[u8], from: usize, width: usize, index: &[u32]) -> Stop
             };
         }
         let b = text[end];
-        if !is_digit(b) {
+        if !is_row_digit(b) {
             return Stop {
                 at: end + 1,
                 hit: false,
             };
         }
-        h = 16 * (h % REST) + value(b);
+        h = (8 * h + wide(b)) % TAILS;
         end += 1;
     }
     if bits::contains(index, h) {
@@ -273,7 +323,7 @@ fn slide(text: &[u8], from: usize, width: usize, index: &[u32]) -> Stop
 
 // The next place where a name may stand, or the end. The bytes up to `sure` were looked at before.
 pub fn next_place(text: &[u8], from: usize, sure: usize, width: usize, index: &[u32]) -> usize
-    requires { ⌜ (from ≤ length (now text)) × (from ≤ sure) × (length (now index) ≡ index-words) × (0 < width) ⌝ }
+    requires { ⌜ (from ≤ length (now text)) × (from ≤ sure) × (length (now index) ≡ work-words) × (0 < width) ⌝ }
     ensures { λ r. ⌜ NextPlace width (now (index .entry)) (now (text .entry)) from r ⌝ }
 {
     let mut at = from;
@@ -296,48 +346,48 @@ pub fn next_place(text: &[u8], from: usize, sure: usize, width: usize, index: &[
     text.len()
 }
 
-// Where names that begin alike end: those that are there, then those between them.
-fn put_hints(names: &[u8], width: usize, count: usize, index: &mut [u32])
-    requires { ⌜ (length (now names) ≡ width * count) × (length (now index) ≡ index-words) × (3 ≤ width) ⌝ }
-    ensures { λ _. ⌜ length (now (index .exit)) ≡ index-words ⌝ }
-{
-    for k in 0..count {
-        let at = BITS + 1 + (three(names, k * width) / SHARE) as usize;
-        index[at] = ((k + 1) % 4294967296) as u32;
-    }
-}
-
+// Where names that begin like none begin: where those before them end.
 fn fill_hints(index: &mut [u32])
-    requires { ⌜ length (now index) ≡ index-words ⌝ }
-    ensures { λ _. ⌜ length (now (index .exit)) ≡ index-words ⌝ }
+    requires { ⌜ length (now index) ≡ work-words ⌝ }
+    ensures { λ _. ⌜ KeepsSet (now (index .entry)) (now (index .exit)) ⌝ }
 {
-    for i in BITS + 1..INDEX {
+    for i in BITS + 1..WORK {
         if index[i] < index[i - 1] {
             index[i] = index[i - 1];
         }
     }
 }
 
-// Puts the tails of the names in.
-fn put_tails(names: &[u8], width: usize, count: usize, index: &mut [u32])
-    requires { ⌜ (length (now names) ≡ width * count) × (length (now index) ≡ index-words) × (5 ≤ width) ⌝ }
+// Puts the tails of the names in, and where those that begin alike end.
+fn put_names(names: &[u8], width: usize, count: usize, index: &mut [u32])
+    requires { ⌜ (length (now names) ≡ width * count) × (length (now index) ≡ work-words) × (8 ≤ width) ⌝ }
     ensures { λ _. ⌜ Indexed (now (names .entry)) width count (now (index .exit)) ⌝ }
 {
     for k in 0..count {
-        let end = k * width + width;
+        let start = k * width;
+        let at = BITS + 1 + three(names, start) as usize;
+        index[at] = ((k + 1) % 4294967296) as u32;
+        let end = start + width;
         bits::insert(index, tail(names, end - TAIL));
     }
 }
 
 // The index of names.
 pub fn put_index(names: &[u8], width: usize, count: usize, index: &mut [u32])
-    requires { ⌜ (length (now names) ≡ width * count) × (length (now index) ≡ index-words) ⌝ }
+    requires { ⌜ (length (now names) ≡ width * count) × (length (now index) ≡ work-words) ⌝ }
     ensures { λ _. ⌜ Indexed (now (names .entry)) width count (now (index .exit)) ⌝ }
 {
     if width < TAIL {
         return;
     }
-    put_hints(names, width, count, index);
+    put_names(names, width, count, index);
     fill_hints(index);
-    put_tails(names, width, count, index);
+}
+
+// The index is gone.
+pub fn clear_index(index: &mut [u32])
+    ensures { λ _. ⌜ now (index .exit) ≡ replicate (length (now (index .entry))) 0 ⌝ }
+{
+    let end = index.len();
+    slices::clear(index, 0, end);
 }

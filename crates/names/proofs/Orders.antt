@@ -1,5 +1,5 @@
 -- The order of names: it is one, it goes over steps, and a pass over two names decides it.
-use mathlib.Core.Path.{_≡_, refl}
+use mathlib.Core.Path.{_≡_, refl, sym}
 use mathlib.Core.Bool.{Bool, true, false}
 use mathlib.Core.List.{List, [], _∷_}
 use mathlib.Core.Logic.{_⊎_, inl, inr, ⊎-elim}
@@ -101,6 +101,15 @@ order-same [] [] h = refl
 order-same [] (b ∷ m) h = let z : _≡_ {A = ℕ} 0 1 = cc in absurd (omega arith)
 order-same (a ∷ l) [] h = let z : _≡_ {A = ℕ} 0 1 = cc in absurd (omega arith)
 order-same (a ∷ l) (b ∷ m) h = let t = same-by a b (order l m) h in rw (t .0, order-same l m (t .1))
+
+-- what is below is above the other way round
+above-by : (o : Order) (l m : List ℕ) → order l m ≡ o → order m l ≡ Below → order l m ≡ Above
+above-by Below l m e h = absurd (below-other l l (order-trans l m l e h) refl)
+above-by Same l m e h = absurd (below-other m l h (sym (order-same l m e)))
+above-by Above l m e h = e
+
+pub order-back : (l m : List ℕ) → order m l ≡ Below → order l m ≡ Above
+order-back l m h = above-by (order l m) l m refl h
 
 -- ---- a pass over two names: what is left decides
 

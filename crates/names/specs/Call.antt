@@ -36,12 +36,20 @@ to N T = targets N (each T)
 
 -- ---- the checks
 
--- 7: not w bytes for each name, or not an owner for each text
+-- how many work words are lent, for the index of names
+abbrev pub work-words : ℕ
+work-words = 135169
+
+-- they are so many, and all of them 0
+abbrev pub blank : List ℕ → Bool
+blank work = both (eqb (length work) work-words) (allBelow 1 work)
+
+-- 7: not w bytes for each name, not an owner for each text, or work that is not blank
 abbrev pub namesMisfit : ℕ → ℕ → ℕ → Bool
 namesMisfit bytes w k = not (eqb bytes (w * k))
 
-abbrev pub misfit : Names → Texts → Bool
-misfit N T = namesMisfit (length (N .bytes)) (N .width) (count N) || not (eqb (length (T .owners)) (length (T .ends)))
+abbrev pub misfit : Names → Texts → Bool → Bool
+misfit N T ready = namesMisfit (length (N .bytes)) (N .width) (count N) || not (eqb (length (T .owners)) (length (T .ends))) || not ready
 
 -- no end is below the one before it, or below `start`, and the last is where the bytes end
 unfoldable pub endsRight : ℕ → List ℕ → ℕ → Bool
@@ -56,31 +64,31 @@ strange n N T = not (allBelow n (N .objects)) || not (allBelow n (T .owners))
 abbrev pub unnamed : Names → Bool
 unnamed N = eqb (N .width) 0 || not (digital N) || not (ascending N)
 
--- the number of the first fault, or 0: 4, 7, 10, 5, 19
-unfoldable pub fault : ℕ → Names → Texts → ℕ
+-- the number of the first fault, or 0: 4, 7, 10, 5, 19; `ready` says whether the work is blank
+unfoldable pub fault : ℕ → Names → Texts → Bool → ℕ
 unfolding endsRight allBelow ascends all
-fault n N T =
+fault n N T ready =
     first (objectsFault n)
-    (first (raise (misfit N T) 7 0)
+    (first (raise (misfit N T ready) 7 0)
     (first (raise (not (endsRight 0 (T .ends) (length (T .bytes)))) 10 0)
     (first (raise (strange n N T) 5 0)
     (raise (unnamed N) 19 0))))
 
 -- scan: then 7 of the lists that are filled
-unfoldable pub scanFault : ℕ → Names → Texts → ℕ → ℕ → ℕ
+unfoldable pub scanFault : ℕ → Names → Texts → Bool → ℕ → ℕ → ℕ
 unfolding fault targets
-scanFault n N T sources targets =
-    first (fault n N T)
+scanFault n N T ready sources targets =
+    first (fault n N T ready)
     (raise (not (eqb sources (length (to N T))) || not (eqb targets (length (to N T)))) 7 0)
 
 -- ---- what is answered, and the lists afterwards
 
 -- how many mentions there are
-abbrev pub lengthFor : ℕ → Names → Texts → LengthRow
-lengthFor n N T = lengthBy (fault n N T) (length (to N T))
+abbrev pub lengthFor : ℕ → Names → Texts → Bool → LengthRow
+lengthFor n N T ready = lengthBy (fault n N T ready) (length (to N T))
 
-abbrev pub fromAfter : ℕ → Names → Texts → List ℕ → List ℕ → List ℕ
-fromAfter n N T fs ts = unlessRefused (scanFault n N T (length fs) (length ts)) (from N T) fs
+abbrev pub fromAfter : ℕ → Names → Texts → Bool → List ℕ → List ℕ → List ℕ
+fromAfter n N T ready fs ts = unlessRefused (scanFault n N T ready (length fs) (length ts)) (from N T) fs
 
-abbrev pub toAfter : ℕ → Names → Texts → List ℕ → List ℕ → List ℕ
-toAfter n N T fs ts = unlessRefused (scanFault n N T (length fs) (length ts)) (to N T) ts
+abbrev pub toAfter : ℕ → Names → Texts → Bool → List ℕ → List ℕ → List ℕ
+toAfter n N T ready fs ts = unlessRefused (scanFault n N T ready (length fs) (length ts)) (to N T) ts

@@ -1,14 +1,15 @@
 -- Names, texts and the calls computed: places at the edges of a text, names that overlap, what is no name, and each fault.
 use mathlib.Core.Path.{_≡_, refl}
-use mathlib.Core.Bool.{true, false}
+use mathlib.Core.Bool.{Bool, true, false}
 use mathlib.Core.List.{List, [], _∷_, map}
-use Prim.Native.Nat.{ℕ}
+use Prim.Native.Nat.{ℕ, _-_}
+use lib.ListN.{replicate}
 use Rattle.laws.specs.Blocks.{laid}
 use Rattle.laws.specs.Test.{all, allUpTo, same}
 use Rattle.graph.specs.Graph.{allBelow}
 use Rattle.names.specs.Names.{Names, namesOf, isDigit, order, ascends}
 use Rattle.names.specs.Mentions.{namedFrom, mentions, textsFrom, targets, sources}
-use Rattle.names.specs.Call.{Texts, textsOf, from, to, endsRight, fault, scanFault}
+use Rattle.names.specs.Call.{Texts, textsOf, from, to, work-words, blank, endsRight, fault, scanFault}
 
 -- the digits and their neighbours: / 0 9 : ` a f g A
 pub digits-drawn : map isDigit (47 ∷ 48 ∷ 57 ∷ 58 ∷ 96 ∷ 97 ∷ 102 ∷ 103 ∷ 65 ∷ []) ≡ false ∷ true ∷ true ∷ false ∷ false ∷ true ∷ true ∷ false ∷ false ∷ []
@@ -38,15 +39,20 @@ listed = refl
 
 -- ---- the faults
 
--- n, the names, the texts
+-- n, the names, the texts, whether the work is blank
 pub record Given : Type 0 where
   pub n : ℕ
   pub names : Names
   pub texts : Texts
+  pub ready : Bool
   pub number : ℕ
 
 abbrev pub given : ℕ → Names → Texts → ℕ → Given
-given n N T number = record { n = n; names = N; texts = T; number = number }
+given n N T number = record { n = n; names = N; texts = T; ready = true; number = number }
+
+-- with work that is not
+abbrev pub littered : ℕ → Names → Texts → ℕ → Given
+littered n N T number = record { n = n; names = N; texts = T; ready = false; number = number }
 
 -- no texts and no bytes; no names
 abbrev pub none : Texts
@@ -67,6 +73,7 @@ givens =
     ∷ given 3 (namesOf 2 (48 ∷ 97 ∷ 97 ∷ 97 ∷ []) (2 ∷ [])) none 7
     ∷ given 3 N (textsOf [] [] (0 ∷ [])) 7
     ∷ given 3 N (textsOf [] (0 ∷ []) []) 7
+    ∷ littered 3 N T 7
     ∷ given 3 N (textsOf (97 ∷ []) [] []) 10
     ∷ given 3 N (textsOf (97 ∷ []) (0 ∷ []) (0 ∷ [])) 10
     ∷ given 3 N (textsOf (97 ∷ []) (2 ∷ []) (0 ∷ [])) 10
@@ -80,16 +87,23 @@ givens =
     ∷ given 3 (namesOf 2 (48 ∷ 97 ∷ 48 ∷ 97 ∷ []) (0 ∷ 1 ∷ [])) none 19
     ∷ given 3 (namesOf 2 (97 ∷ 48 ∷ 48 ∷ 97 ∷ []) (0 ∷ 1 ∷ [])) none 19
     ∷ given 0 (namesOf 2 (48 ∷ []) []) none 4
+    ∷ littered 0 N T 4
+    ∷ littered 3 N (textsOf (97 ∷ []) [] []) 7
     ∷ given 3 (namesOf 2 (48 ∷ []) []) (textsOf (97 ∷ []) [] []) 7
     ∷ given 2 N (textsOf (97 ∷ []) [] []) 10
     ∷ given 3 (namesOf 2 (48 ∷ 65 ∷ []) (3 ∷ [])) none 5
     ∷ []
 
-pub givens-hold : map (λ (g : Given). fault (g .n) (g .names) (g .texts)) givens ≡ map (λ (g : Given). g .number) givens
+pub givens-hold : map (λ (g : Given). fault (g .n) (g .names) (g .texts) (g .ready)) givens ≡ map (λ (g : Given). g .number) givens
 unfolding fault endsRight allBelow ascends order allUpTo all
 givens-hold = refl
 
 -- lists of the right length, one too short, one too long; and behind another fault
-pub lists-drawn : scanFault 3 N T 3 3 ∷ scanFault 3 N T 2 3 ∷ scanFault 3 N T 3 4 ∷ scanFault 3 (nameless 0) T 9 9 ∷ [] ≡ 0 ∷ 7 ∷ 7 ∷ 19 ∷ []
+pub lists-drawn : scanFault 3 N T true 3 3 ∷ scanFault 3 N T true 2 3 ∷ scanFault 3 N T true 3 4 ∷ scanFault 3 (nameless 0) T true 9 9 ∷ [] ≡ 0 ∷ 7 ∷ 7 ∷ 19 ∷ []
 unfolding scanFault fault endsRight allBelow ascends order allUpTo all targets laid mentions namedFrom same textsFrom
 lists-drawn = refl
+
+-- work of another length, a word of it that is not 0, and work that is blank
+pub work-drawn : blank [] ∷ blank (1 ∷ replicate (work-words - 1) 0) ∷ blank (replicate work-words 0) ∷ [] ≡ false ∷ false ∷ true ∷ []
+unfolding allBelow
+work-drawn = refl

@@ -6,3 +6,6 @@ pub enum Order {
     Same,
     Above,
 }
+
+// The work words of both calls: one bit for each of 2^22 values, and 4,097 words behind them.
+pub const WORK: usize = 135169;

@@ -7,7 +7,7 @@ use native.Mathlib.Decide.{decLt}
 use Prim.Native.Nat.{ℕ, zero, suc, _+_, _*_, _-_, _/_, _%_, _≤_, _<_}
 use native.Mathlib.Nat.{mul-comm, mul-div-cancel, div-add-mod}
 use native.Mathlib.Omega.{arith}
-use lib.ListN.{length, take, drop}
+use lib.ListN.{length}
 use lib.Dec.{eqb}
 use borrow.Author.Tests.{eq-eqb, ne-eqb}
 use Rattle.laws.specs.Test.{allUpTo}
@@ -46,16 +46,13 @@ module _ (names : List ℕ) (w : ℕ) where
   abbrev pub pairs : ℕ → Bool
   pairs i = isBelow (order (window w names (i * w)) (window w names (suc i * w)))
 
-  -- the two parts that the code compares
-  pub pair-at : (k : ℕ) → 1 ≤ k
-      → isBelow (order (take (k * w - (k * w - w)) (drop (k * w - w) names)) (take (k * w + w - k * w) (drop (k * w) names))) ≡ pairs (k - 1)
+  -- as the code names the places
+  pub pair-at : (k : ℕ) → 1 ≤ k → isBelow (order (window w names (k * w - w)) (window w names (k * w))) ≡ pairs (k - 1)
   pair-at zero h = absurd (omega arith)
   pair-at (suc j) h =
       let e1 : suc j * w - w ≡ j * w = omega arith in
-      let e2 : suc j * w - j * w ≡ w = omega arith in
-      let e3 : suc j * w + w - suc j * w ≡ w = omega arith in
-      let e4 : suc j - 1 ≡ j = omega arith in
-      rw (e1, e2, e3, e4)
+      let e2 : suc j - 1 ≡ j = omega arith in
+      rw (e1, e2)
 
   -- those before k are below the one after them
   abbrev pub Rising : ℕ → Type 0
@@ -87,51 +84,56 @@ module _ (names : List ℕ) (w : ℕ) where
 
 -- ---- the order of checks
 
-module _ (n : ℕ) (N : Names) (T : Texts) where
-  pub fault-count : outside most-objects n ≡ true → fault n N T ≡ 4
+module _ (n : ℕ) (N : Names) (T : Texts) (ready : Bool) where
+  pub fault-count : outside most-objects n ≡ true → fault n N T ready ≡ 4
   unfolding fault
   fault-count e = rw e
 
   module _ (c : outside most-objects n ≡ false) where
-    pub fault-names : namesMisfit (length (N .bytes)) (N .width) (count N) ≡ true → fault n N T ≡ 7
+    pub fault-names : namesMisfit (length (N .bytes)) (N .width) (count N) ≡ true → fault n N T ready ≡ 7
     unfolding fault
     fault-names e = rw (c, e)
 
     module _ (m : namesMisfit (length (N .bytes)) (N .width) (count N) ≡ false) where
-      pub fault-owners : (length (T .owners) ≡ length (T .ends) → ⊥) → fault n N T ≡ 7
+      pub fault-owners : (length (T .owners) ≡ length (T .ends) → ⊥) → fault n N T ready ≡ 7
       unfolding fault
       fault-owners e = rw (c, m, ne-eqb (length (T .owners)) (length (T .ends)) e)
 
       module _ (o : length (T .owners) ≡ length (T .ends)) where
-        pub fault-ends : endsRight 0 (T .ends) (length (T .bytes)) ≡ false → fault n N T ≡ 10
+        pub fault-work : ready ≡ false → fault n N T ready ≡ 7
         unfolding fault
-        fault-ends e = rw (c, m, eq-eqb (length (T .owners)) (length (T .ends)) o, e)
+        fault-work e = rw (c, m, eq-eqb (length (T .owners)) (length (T .ends)) o, e)
 
-        module _ (r : endsRight 0 (T .ends) (length (T .bytes)) ≡ true) where
-          pub fault-named : allBelow n (N .objects) ≡ false → fault n N T ≡ 5
+        module _ (k : ready ≡ true) where
+          pub fault-ends : endsRight 0 (T .ends) (length (T .bytes)) ≡ false → fault n N T ready ≡ 10
           unfolding fault
-          fault-named e = rw (c, m, eq-eqb (length (T .owners)) (length (T .ends)) o, r, e)
+          fault-ends e = rw (c, m, eq-eqb (length (T .owners)) (length (T .ends)) o, k, e)
 
-          module _ (a : allBelow n (N .objects) ≡ true) where
-            pub fault-owned : allBelow n (T .owners) ≡ false → fault n N T ≡ 5
+          module _ (r : endsRight 0 (T .ends) (length (T .bytes)) ≡ true) where
+            pub fault-named : allBelow n (N .objects) ≡ false → fault n N T ready ≡ 5
             unfolding fault
-            fault-owned e = rw (c, m, eq-eqb (length (T .owners)) (length (T .ends)) o, r, a, e)
+            fault-named e = rw (c, m, eq-eqb (length (T .owners)) (length (T .ends)) o, k, r, e)
 
-            module _ (b : allBelow n (T .owners) ≡ true) where
-              pub fault-width : N .width ≡ 0 → fault n N T ≡ 19
+            module _ (a : allBelow n (N .objects) ≡ true) where
+              pub fault-owned : allBelow n (T .owners) ≡ false → fault n N T ready ≡ 5
               unfolding fault
-              fault-width e = rw (c, m, eq-eqb (length (T .owners)) (length (T .ends)) o, r, a, b, eq-eqb (N .width) 0 e)
+              fault-owned e = rw (c, m, eq-eqb (length (T .owners)) (length (T .ends)) o, k, r, a, e)
 
-              module _ (w : N .width ≡ 0 → ⊥) where
-                pub fault-digits : digital N ≡ false → fault n N T ≡ 19
+              module _ (b : allBelow n (T .owners) ≡ true) where
+                pub fault-width : N .width ≡ 0 → fault n N T ready ≡ 19
                 unfolding fault
-                fault-digits e = rw (c, m, eq-eqb (length (T .owners)) (length (T .ends)) o, r, a, b, ne-eqb (N .width) 0 w, e)
+                fault-width e = rw (c, m, eq-eqb (length (T .owners)) (length (T .ends)) o, k, r, a, b, eq-eqb (N .width) 0 e)
 
-                module _ (d : digital N ≡ true) where
-                  pub fault-order : ascending N ≡ false → fault n N T ≡ 19
+                module _ (w : N .width ≡ 0 → ⊥) where
+                  pub fault-digits : digital N ≡ false → fault n N T ready ≡ 19
                   unfolding fault
-                  fault-order e = rw (c, m, eq-eqb (length (T .owners)) (length (T .ends)) o, r, a, b, ne-eqb (N .width) 0 w, d, e)
+                  fault-digits e = rw (c, m, eq-eqb (length (T .owners)) (length (T .ends)) o, k, r, a, b, ne-eqb (N .width) 0 w, e)
 
-                  pub fault-free : ascending N ≡ true → fault n N T ≡ 0
-                  unfolding fault
-                  fault-free e = rw (c, m, eq-eqb (length (T .owners)) (length (T .ends)) o, r, a, b, ne-eqb (N .width) 0 w, d, e)
+                  module _ (d : digital N ≡ true) where
+                    pub fault-order : ascending N ≡ false → fault n N T ready ≡ 19
+                    unfolding fault
+                    fault-order e = rw (c, m, eq-eqb (length (T .owners)) (length (T .ends)) o, k, r, a, b, ne-eqb (N .width) 0 w, d, e)
+
+                    pub fault-free : ascending N ≡ true → fault n N T ready ≡ 0
+                    unfolding fault
+                    fault-free e = rw (c, m, eq-eqb (length (T .owners)) (length (T .ends)) o, k, r, a, b, ne-eqb (N .width) 0 w, d, e)

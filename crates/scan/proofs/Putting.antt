@@ -14,7 +14,7 @@ use Rattle.names.specs.Mentions.{mentions, textsFrom, sources, targets}
 use Rattle.names.specs.Call.{Texts, from, to, endsRight}
 use Rattle.names.proofs.Mentions.{mentions-end}
 use Rattle.names.proofs.Texts.{ends-at, textAt, texts-at, texts-end, targets-cons, targets-none, sources-at, sources-none}
-use Rattle.scan.specs.Passing.{NextIs, Puttable, PutText, PutAll, CountedAll}
+use Rattle.scan.specs.Passing.{NextIs, Puttable, PutText, CountedAll}
 
 -- one word
 put-one : (l : List ℕ) (i x : ℕ) → i < length l → Put l i (x ∷ []) (set l i x) (i + 1)
@@ -96,6 +96,10 @@ module _ {N : Names} {text : List ℕ} {owner top : ℕ} {fs ts fs′ ts′ : Li
         }
 
 -- ---- all texts
+
+pub record PutAll (N : Names) (T : Texts) (fs ts : List ℕ) : Type 0 where
+  pub sources : fs ≡ from N T
+  pub targets : ts ≡ to N T
 
 pub record PuttingTexts (N : Names) (T : Texts) (fs ts fs′ ts′ : List ℕ) (top start i : ℕ) : Type 0 where
   pub low : i ≤ length (T .ends)

@@ -7,7 +7,6 @@ use lib.ListN.{length, getD, drop, replicate}
 use Rattle.slices.specs.Put.{Put}
 use Rattle.names.specs.Names.{Names, count, isDigit}
 use Rattle.names.specs.Mentions.{mentions, textsFrom, targets}
-use Rattle.names.specs.Call.{Texts, from, to}
 use Rattle.lookup.specs.Index.{Indexed}
 use Rattle.lookup.specs.Search.{Ascends}
 
@@ -44,8 +43,3 @@ pub record Puttable (N : Names) (text : List ℕ) (top : ℕ) (fs ts : List ℕ)
 pub record PutText (N : Names) (text : List ℕ) (owner top : ℕ) (fs ts fs′ ts′ : List ℕ) (r : ℕ) : Type 0 where
   pub sources : Put fs top (replicate (length (mentions N text)) owner) fs′ r
   pub targets : Put ts top (mentions N text) ts′ r
-
--- those of all texts
-pub record PutAll (N : Names) (T : Texts) (fs ts : List ℕ) : Type 0 where
-  pub sources : fs ≡ from N T
-  pub targets : ts ≡ to N T

@@ -152,10 +152,11 @@ struct scan_length_answer { uint32_t number; uint64_t answer; };
 static struct scan_length_answer scan_length_of(uint32_t objects, uint32_t width, const uint8_t *names,
                                                 size_t names_len, const uint32_t *named, size_t named_len,
                                                 const uint8_t *texts, size_t texts_len, const uint64_t *ends,
-                                                size_t ends_len, const uint32_t *owners, size_t owners_len) {
+                                                size_t ends_len, const uint32_t *owners, size_t owners_len,
+                                                uint32_t *work, size_t work_len) {
     struct scan_length_answer a;
     a.number = kullneyra_scan_length_into(objects, width, names, names_len, named, named_len, texts, texts_len, ends,
-                                          ends_len, owners, owners_len, &a.answer);
+                                          ends_len, owners, owners_len, work, work_len, &a.answer);
     return a;
 }
 */
@@ -530,29 +531,31 @@ func Export(g Graph, out []byte) error {
 // ScanLength is how many mentions there are in texts: places where the bytes of a name stand, whatever stands around
 // them. The names are `width` lower-case hexadecimal digits each, one behind the other, ascending and distinct;
 // named[k] is the object that name k names. The texts stand one behind the other too: text i ends where ends[i] says,
-// and owners[i] is the object that it belongs to.
-func ScanLength(objects, width uint32, names []byte, named []uint32, texts []byte, ends []uint64, owners []uint32) (uint64, error) {
+// and owners[i] is the object that it belongs to. The work is ScanWork words, all 0, and they are 0 again afterwards.
+func ScanLength(objects, width uint32, names []byte, named []uint32, texts []byte, ends []uint64, owners, work []uint32) (uint64, error) {
 	namesAt, namesLen := u8s(names)
 	namedAt, namedLen := u32s(named)
 	textsAt, textsLen := u8s(texts)
 	endsAt, endsLen := u64s(ends)
 	ownersAt, ownersLen := u32s(owners)
+	workAt, workLen := u32s(work)
 	a := C.scan_length_of(C.uint32_t(objects), C.uint32_t(width), namesAt, namesLen, namedAt, namedLen, textsAt,
-		textsLen, endsAt, endsLen, ownersAt, ownersLen)
+		textsLen, endsAt, endsLen, ownersAt, ownersLen, workAt, workLen)
 	return uint64(a.answer), refused(uint32(a.number))
 }
 
 // Scan writes each mention as a pair from[i] -> to[i], by text and then by place: the owner of the text, and the object
 // whose name stands there. Both lists have exactly as many words as ScanLength says. Add takes them as references.
-func Scan(objects, width uint32, names []byte, named []uint32, texts []byte, ends []uint64, owners, from, to []uint32) error {
+func Scan(objects, width uint32, names []byte, named []uint32, texts []byte, ends []uint64, owners, work, from, to []uint32) error {
 	namesAt, namesLen := u8s(names)
 	namedAt, namedLen := u32s(named)
 	textsAt, textsLen := u8s(texts)
 	endsAt, endsLen := u64s(ends)
 	ownersAt, ownersLen := u32s(owners)
+	workAt, workLen := u32s(work)
 	fromAt, fromLen := u32s(from)
 	toAt, toLen := u32s(to)
 	number := C.kullneyra_scan_into(C.uint32_t(objects), C.uint32_t(width), namesAt, namesLen, namedAt, namedLen,
-		textsAt, textsLen, endsAt, endsLen, ownersAt, ownersLen, fromAt, fromLen, toAt, toLen)
+		textsAt, textsLen, endsAt, endsLen, ownersAt, ownersLen, workAt, workLen, fromAt, fromLen, toAt, toLen)
 	return refused(uint32(number))
 }

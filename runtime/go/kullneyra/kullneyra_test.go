@@ -308,6 +308,15 @@ func TestCalls(t *testing.T) {
 	catalogue, text := catalogueS(), []byte("%%MatrixMarket matrix coordinate pattern general\n2 2 1\n1 2\n")
 	names, named, texts, ends, owners := []byte("0aaaab"), []uint32{2, 0, 1}, []byte("0aaab"), []uint64{4, 5}, []uint32{1, 0}
 	mentioning, mentioned := make([]uint32, 3), make([]uint32, 3)
+	scanWork := make([]uint32, kullneyra.ScanWork)
+	written := func(words []uint32) (count int) {
+		for _, word := range words {
+			if word != 0 {
+				count++
+			}
+		}
+		return count
+	}
 	two := kullneyra.Graph{Offsets: []uint32{0, 1, 1}, Targets: []uint32{1}}
 	none := kullneyra.Graph{Offsets: []uint32{0}}
 	offsets, targets, sizes, starts := make([]uint32, 7), make([]uint32, 6), make([]uint64, 6), make([]uint32, kullneyra.Starts)
@@ -372,11 +381,13 @@ func TestCalls(t *testing.T) {
 		{"Export", say(kullneyra.Export(two, out)), "<nil>"},
 		{"Export", say(kullneyra.Export(two, out[1:])), "refusal 7"},
 		{"Export", string(out), string(text)},
-		{"ScanLength", say(kullneyra.ScanLength(3, 2, names, named, texts, ends, owners)), "3 <nil>"},
-		{"ScanLength", say(kullneyra.ScanLength(3, 0, nil, nil, nil, nil, nil)), "0 refusal 19"},
-		{"Scan", say(kullneyra.Scan(3, 2, names, named, texts, ends, owners, mentioning, mentioned[1:])), "refusal 7"},
-		{"Scan", say(kullneyra.Scan(3, 2, names, named, texts, ends, owners, mentioning, mentioned)), "<nil>"},
+		{"ScanLength", say(kullneyra.ScanLength(3, 2, names, named, texts, ends, owners, scanWork)), "3 <nil>"},
+		{"ScanLength", say(kullneyra.ScanLength(3, 0, nil, nil, nil, nil, nil, scanWork)), "0 refusal 19"},
+		{"Scan", say(kullneyra.Scan(3, 2, names, named, texts, ends, owners, scanWork, mentioning, mentioned[1:])), "refusal 7"},
+		{"Scan", say(kullneyra.Scan(3, 2, names, named, texts, ends, owners, scanWork[1:], mentioning, mentioned)), "refusal 7"},
+		{"Scan", say(kullneyra.Scan(3, 2, names, named, texts, ends, owners, scanWork, mentioning, mentioned)), "<nil>"},
 		{"Scan", say(mentioning, mentioned), "[1 1 1] [2 0 0]"},
+		{"Scan", say(written(scanWork)), "0"},
 	} {
 		if c.got != c.want {
 			t.Errorf("%s: got %s, want %s", c.call, c.got, c.want)

@@ -15,6 +15,7 @@ const (
 	Deck           = 720           // how many cards the deck has; they are numbered from 0
 	CardWorkers    = 6             // the most workers that cards deal turns to
 	NoHops         = 4294967295    // the hop count of an object to which no chain of references leads
+	ScanWork       = 135169        // the work words of a scan
 	NewlyLive      = 255           // the mark of an object that a change finds live, where it is no start
 )
 

@@ -30,8 +30,8 @@ loop-again c =
     let h = turn .loop-test .taken in (
       omega arith,
       ⊎-elim
-          (λ w. rw (w .1) (scan-wrong (l .inv .1) (all-stop isDigit 0 _ _ h (sym (d .is-digit .ensures) ∙ not-true _ (w .0 .taken)))))
-          (λ w. rw (w .1) (scan-right (l .inv .1) (all-step isDigit 0 _ _ h (sym (d .is-digit .ensures) ∙ not-false _ (w .0 .left)))))
+          (λ w. rw (w .1) (scan-wrong (l .inv .1) (all-stop isDigit 0 _ _ h (sym (d .is-row-digit .ensures) ∙ not-true _ (w .0 .taken)))))
+          (λ w. rw (w .1) (scan-right (l .inv .1) (all-step isDigit 0 _ _ h (sym (d .is-row-digit .ensures) ∙ not-false _ (w .0 .left)))))
           (c .if1 .came),
     )
 

@@ -5,22 +5,25 @@ use mathlib.Core.Logic.{⊎-elim}
 use native.Mathlib.Omega.{arith}
 use lib.ListN.{length}
 use Rattle.names.specs.Names.{window, order}
-use Rattle.lookup.proofs.Searching.{Between, between-start, between-down, between-up, between-found, between-none, name-fits, name-long}
+use Rattle.lookup.proofs.Searching.{Between, between-start, between-down, between-up, between-found, between-none, name-fits}
 use borrow.Author.Needs.{needs}
 use Rattle.lookup.proofs.find.Statement.{statement}
 use Rattle.lookup.proofs.find.Tie as tie
 
 abbrev Inv-loop : tie.InvT-loop
-Inv-loop names width count index window low₀ high₀ step₀ turn₀ low high step turn = Between names width count window low high
+Inv-loop names width count index window low₀ high₀ step₀ turn₀ head low high step turn = Between names width count window low high
 
 abbrev μ-loop : tie.MeasureT-loop
-μ-loop names width count index window low₀ high₀ step₀ turn₀ low high step turn = high - low
+μ-loop names width count index window low₀ high₀ step₀ turn₀ head low high step turn = high - low
 
 abbrev start : tie.At-loop Inv-loop μ-loop → tie.Start Inv-loop μ-loop
-start l = l .before .before .before .before .before
+start l = l .before .before .before .before .before .before
 
 guess-requires : tie.Need-guess-requires Inv-loop μ-loop
 guess-requires c κs = c .before .before .before .pre .index-long
+
+lead-requires : tie.Need-lead-requires Inv-loop μ-loop
+lead-requires c κs = let s = c .before .before .before .before in omega (arith, s .pre .fits)
 
 loop-holds : tie.Need-loop-holds Inv-loop μ-loop
 loop-holds c = between-start _ _ _ _
@@ -36,32 +39,23 @@ module _ (c : tie.After-between Inv-loop μ-loop) where
   fits : c .between .result * entry .args .width + entry .args .width ≤ length (entry .args .names .now)
   fits = name-fits (c .between .result) (entry .args .width) (entry .args .count) is-name (entry .pre .long)
 
-  wide : c .between .result * entry .args .width + entry .args .width - c .between .result * entry .args .width ≡ entry .args .width
-  wide = omega arith
+mul-look : tie.Need-mul-look Inv-loop μ-loop
+mul-look c = omega (arith, fits c)
 
-mul-at : tie.Need-mul-at Inv-loop μ-loop
-mul-at c = omega (arith, fits c)
-
-add-end : tie.Need-add-end Inv-loop μ-loop
-add-end c = omega (arith, fits c)
-
-part-compare-end : tie.Need-part-compare-end Inv-loop μ-loop
-part-compare-end c = fits c
-
-compare-requires : tie.Need-compare-requires Inv-loop μ-loop
-compare-requires c κs =
-    let b = c .before in
-    let s = entry b in
-    rw (wide b) (name-long (b .between .result) (s .args .width) (s .args .count) (s .args .names .now) (is-name b) (s .pre .long) ∙ sym (s .pre .fits))
+look-requires : tie.Need-look-requires Inv-loop μ-loop
+look-requires c κs =
+    let s = entry c in
+    let l = c .before .before .before in
+    (rw (s .pre .fits) (fits c), rw (s .pre .fits) (l .lead .ensures))
 
 -- how the window and that name stand to each other
-module _ (c : tie.After-compare Inv-loop μ-loop) where
+module _ (c : tie.After-look Inv-loop μ-loop) where
   abbrev looked : tie.After-between Inv-loop μ-loop
-  looked = c .before .before
+  looked = c .before
 
   stand : let s = entry looked in
-      c .compare .result ≡ order (s .args .window .now) (window (s .args .width) (s .args .names .now) (looked .between .result * s .args .width))
-  stand = rw (wide looked) at (c .compare .ensures)
+      c .look .result ≡ order (s .args .window .now) (window (s .args .width) (s .args .names .now) (looked .between .result * s .args .width))
+  stand = rw (entry looked .pre .fits) at (c .look .ensures)
 
 returns : tie.Need-returns Inv-loop μ-loop
 returns c =
@@ -103,6 +97,6 @@ returns-2 c = let l = c .before in between-none (start l .pre .ascends) (l .loop
 pub find-spec : {M : Type 1} → statement M
 find-spec =
     tie.close
-    (tie.spec Inv-loop μ-loop guess-requires loop-holds (λ c κs. search needs) mul-at add-end (λ c. search needs)
-    (λ c. search needs) part-compare-end compare-requires (λ c. search needs) returns (λ c. search needs) (λ c. search needs)
-    (λ c. search needs) sub-stride (λ c κs. search needs) loop-less loop-again returns-2)
+    (tie.spec Inv-loop μ-loop guess-requires lead-requires loop-holds (λ c κs. search needs) mul-look look-requires
+    (λ c. search needs) returns (λ c. search needs) (λ c. search needs) (λ c. search needs) sub-stride (λ c κs. search needs)
+    loop-less loop-again returns-2)

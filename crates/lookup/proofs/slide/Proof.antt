@@ -30,7 +30,7 @@ start l = l .before .before .before .before .before
 
 -- the value of the tail has a bit
 in-index : (l : tie.At-loop Inv-loop μ-loop) → l .loop .h < 32 * length (start l .args .index .now)
-in-index l = let s = start l in omega (arith, l .loop .inv .value, tail-low (s .args .text .now) (l .loop .end - 5), s .pre .1)
+in-index l = let s = start l in omega (arith, l .loop .inv .value, tail-low (s .args .text .now) (l .loop .end - 8), s .pre .1)
 
 contains-requires : tie.Need-contains-requires Inv-loop μ-loop
 contains-requires c κs = in-index (c .before)
@@ -47,17 +47,24 @@ returns-3 c =
     let e = d .before .before in
     let k = e .before in
     let t = k .before in
-    slid-other (t .before .loop .inv) (k .contains .ensures) (e .if2 .left) (t .loop-test .taken) (sym (d .is-digit .ensures) ∙ not-true _ (c .if3 .taken))
+    slid-other (t .before .loop .inv) (k .contains .ensures) (e .if2 .left) (t .loop-test .taken) (sym (d .is-row-digit .ensures) ∙ not-true _ (c .if3 .taken))
+
+mul-h : tie.Need-mul-h Inv-loop μ-loop
+mul-h c =
+    let l = c .before .before .before .before .before .before in
+    omega (arith, l .loop .inv .value, tail-low (start l .args .text .now) (l .loop .end - 8))
 
 add-h : tie.Need-add-h Inv-loop μ-loop
-add-h c = omega (arith, c .value .ensures .1)
+add-h c =
+    let l = c .before .before .before .before .before .before .before in
+    omega (arith, c .wide .ensures .1, l .loop .inv .value, tail-low (start l .args .text .now) (l .loop .end - 8))
 
 loop-again : tie.Need-loop-again Inv-loop μ-loop
 loop-again c =
     let e = c .before .before .before .before in
     let k = e .before in
     let t = k .before in
-    slid-on (t .before .loop .inv) (k .contains .ensures) (e .if2 .left) (t .loop-test .taken) _ (c .value .ensures .0)
+    rw (c .wide .ensures .0) (slid-on (t .before .loop .inv) (k .contains .ensures) (e .if2 .left) (t .loop-test .taken))
 
 contains-requires-2 : tie.Need-contains-requires-2 Inv-loop μ-loop
 contains-requires-2 c κs = in-index (c .before)
@@ -78,6 +85,6 @@ pub slide-spec : {M : Type 1} → statement M
 slide-spec =
     tie.close
     (tie.spec Inv-loop μ-loop returns (λ c. search needs) (λ c. search needs) (λ c κs. search needs) loop-holds contains-requires
-    sub-t13 returns-2 (λ c. search needs) (λ c κs. search needs) (λ c. search needs) returns-3 (λ c. search needs)
+    sub-t13 returns-2 (λ c. search needs) (λ c κs. search needs) (λ c. search needs) returns-3 mul-h
     (λ c κs. search needs) add-h (λ c. search needs) (λ c. search needs) loop-again contains-requires-2 sub-t22 returns-4
     returns-5)

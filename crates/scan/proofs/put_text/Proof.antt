@@ -10,17 +10,17 @@ use Rattle.scan.proofs.put_text.Statement.{statement}
 use Rattle.scan.proofs.put_text.Tie as tie
 
 abbrev Inv-loop : tie.InvT-loop
-Inv-loop names named index width text owner top from₀ to₀ next₀ at₀ sure₀ from to next at sure =
-    PuttingAt (namesOf width names named) text owner top from₀ to₀ from to next at sure
+Inv-loop names named index text from₀ to₀ owner width next₀ at₀ sure₀ from to next at sure =
+    PuttingAt (namesOf width names named) text owner next₀ from₀ to₀ from to next at sure
 
 abbrev μ-loop : tie.MeasureT-loop
-μ-loop names named index width text owner top from₀ to₀ next₀ at₀ sure₀ from to next at sure = length text - at
+μ-loop names named index text from₀ to₀ owner width next₀ at₀ sure₀ from to next at sure = length text - at
 
 abbrev start : tie.At-loop Inv-loop μ-loop → tie.Start Inv-loop μ-loop
 start l = l .before .before .before .before .before .before .before
 
 loop-holds : tie.Need-loop-holds Inv-loop μ-loop
-loop-holds c = let s = c .before .before .before .before .before .before in putting-start (s .args .owner) (s .pre .1)
+loop-holds c = let s = c .before .before .before .before .before .before in putting-start (s .args .put .owner) (s .pre .1)
 
 next-mention-requires : tie.Need-next-mention-requires Inv-loop μ-loop
 next-mention-requires c κs = let i = c .before .loop .inv in (start (c .before) .pre .0, i .high, i .known)

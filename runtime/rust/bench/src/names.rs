@@ -78,17 +78,18 @@ pub fn rows(repetitions: usize) -> Vec<CallRow> {
         let owners = vec![0; ends.len()];
         let (objects, width) = (NAMES as u32, WIDTH as u32);
         let scan = Scan { objects, width, names: &bytes, named: &named, texts, ends, owners: &owners };
-        let proved = |_: &mut ()| {
-            black_box(kullneyra::scan_length(objects, width, &bytes, &named, texts, ends, &owners))
+        let proved = |work: &mut Vec<u32>| {
+            black_box(kullneyra::scan_length(objects, width, &bytes, &named, texts, ends, &owners, work))
                 .expect("names and texts");
         };
-        let plain = |_: &mut ()| {
+        let plain = |_: &mut Vec<u32>| {
             black_box(classified(texts));
         };
-        let tuned = |_: &mut ()| {
-            black_box(tuned::scan_length(scan)).expect("names and texts");
+        let tuned = |work: &mut Vec<u32>| {
+            black_box(tuned::scan_length(scan, work)).expect("names and texts");
         };
-        let times = Times::of(&medians(&mut (), repetitions, [&proved, &plain, &tuned]));
+        let mut work = vec![0; kullneyra::SCAN_WORK];
+        let times = Times::of(&medians(&mut work, repetitions, [&proved, &plain, &tuned]));
         CallRow { graph, count: texts.len(), times }
     };
     all.iter().map(row).collect()

@@ -235,9 +235,10 @@ pub trait Side {
         texts: &[u8],
         ends: &[u64],
         owners: &[u32],
+        work: &mut [u32],
         result: &mut [u64],
     ) -> u32 {
-        plain::scan_length(objects, width, names, named, texts, ends, owners, result)
+        plain::scan_length(objects, width, names, named, texts, ends, owners, work, result)
     }
 
     #[allow(clippy::too_many_arguments)]
@@ -250,10 +251,11 @@ pub trait Side {
         texts: &[u8],
         ends: &[u64],
         owners: &[u32],
+        work: &mut [u32],
         from: &mut [u32],
         to: &mut [u32],
     ) -> u32 {
-        plain::scan(objects, width, names, named, texts, ends, owners, from, to)
+        plain::scan(objects, width, names, named, texts, ends, owners, work, from, to)
     }
 }
 
@@ -408,9 +410,10 @@ impl Side for Proved {
         texts: &[u8],
         ends: &[u64],
         owners: &[u32],
+        work: &mut [u32],
         result: &mut [u64],
     ) -> u32 {
-        raw::scan_length(objects, width, names, named, texts, ends, owners, result)
+        raw::scan_length(objects, width, names, named, texts, ends, owners, work, result)
     }
 
     #[allow(clippy::too_many_arguments)]
@@ -423,10 +426,11 @@ impl Side for Proved {
         texts: &[u8],
         ends: &[u64],
         owners: &[u32],
+        work: &mut [u32],
         from: &mut [u32],
         to: &mut [u32],
     ) -> u32 {
-        raw::scan(objects, width, names, named, texts, ends, owners, from, to)
+        raw::scan(objects, width, names, named, texts, ends, owners, work, from, to)
     }
 }
 
@@ -597,9 +601,10 @@ impl Side for Typed {
         texts: &[u8],
         ends: &[u64],
         owners: &[u32],
+        work: &mut [u32],
         result: &mut [u64],
     ) -> u32 {
-        let answer = kullneyra::scan_length(objects, width, names, named, texts, ends, owners);
+        let answer = kullneyra::scan_length(objects, width, names, named, texts, ends, owners, work);
         written(answer.map(|word| [word]), result)
     }
 
@@ -613,10 +618,11 @@ impl Side for Typed {
         texts: &[u8],
         ends: &[u64],
         owners: &[u32],
+        work: &mut [u32],
         from: &mut [u32],
         to: &mut [u32],
     ) -> u32 {
-        let answer = kullneyra::scan(objects, width, names, named, texts, ends, owners, from, to);
+        let answer = kullneyra::scan(objects, width, names, named, texts, ends, owners, work, from, to);
         number_of(answer)
     }
 }
@@ -710,7 +716,18 @@ impl Side for Untouched {
     }
 
     #[allow(clippy::too_many_arguments)]
-    fn scan_length(&self, _: u32, _: u32, _: &[u8], _: &[u32], _: &[u8], _: &[u64], _: &[u32], _: &mut [u64]) -> u32 {
+    fn scan_length(
+        &self,
+        _: u32,
+        _: u32,
+        _: &[u8],
+        _: &[u32],
+        _: &[u8],
+        _: &[u64],
+        _: &[u32],
+        _: &mut [u32],
+        _: &mut [u64],
+    ) -> u32 {
         WRONG_LENGTH
     }
 
@@ -724,6 +741,7 @@ impl Side for Untouched {
         _: &[u8],
         _: &[u64],
         _: &[u32],
+        _: &mut [u32],
         _: &mut [u32],
         _: &mut [u32],
     ) -> u32 {

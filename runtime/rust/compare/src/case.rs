@@ -100,7 +100,8 @@ pub enum Call {
     },
 }
 
-/// What `scan_length` and `scan` are both given: the number of objects, names and texts.
+/// What `scan_length` and `scan` are both given: the number of objects, names and texts, how many work words, and the place of
+/// one that is not 0.
 #[derive(Clone, Debug, PartialEq, Eq)]
 pub struct Scan {
     pub objects: u32,
@@ -110,12 +111,14 @@ pub struct Scan {
     pub texts: Vec<u8>,
     pub ends: Vec<u64>,
     pub owners: Vec<u32>,
+    pub work: usize,
+    pub litter: Option<usize>,
 }
 
 impl Scan {
     /// The call, for the scan in plain Rust.
     pub fn call(&self) -> reference::Scan<'_> {
-        let Scan { objects, width, ref names, ref named, ref texts, ref ends, ref owners } = *self;
+        let Scan { objects, width, ref names, ref named, ref texts, ref ends, ref owners, .. } = *self;
         reference::Scan { objects, width, names, named, texts, ends, owners }
     }
 }
@@ -271,7 +274,8 @@ impl fmt::Display for Scan {
         list(f, "named", &self.named)?;
         text(f, "texts", &self.texts)?;
         list(f, "ends", &self.ends)?;
-        list(f, "owners", &self.owners)
+        list(f, "owners", &self.owners)?;
+        writeln!(f, "  work: {} words, not 0 at {:?}", self.work, self.litter)
     }
 }
 

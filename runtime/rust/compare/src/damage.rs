@@ -3,7 +3,7 @@
 use crate::case::{Mark, Scan};
 use crate::rng::Rng;
 use crate::store::Record;
-use reference::{LARGEST_SIZE, MOST_OBJECTS, MOST_REFERENCES, STARTS};
+use reference::{LARGEST_SIZE, MOST_OBJECTS, MOST_REFERENCES, SCAN_WORK, STARTS};
 
 /// A length that is most likely wrong: one short, one long, empty, or another.
 pub fn length(rng: &mut Rng, right: usize) -> usize {
@@ -177,7 +177,7 @@ fn starts(rng: &mut Rng, starts: &mut Vec<u32>, n: u32) {
 /// Now and then damages one thing of a scan's call.
 pub fn scan(rng: &mut Rng, call: &mut Scan) {
     let (width, names, texts) = (call.width as usize, call.named.len(), call.ends.len());
-    match rng.below(24) {
+    match rng.below(28) {
         0 => call.objects = rng.pick(&[0, 1, MOST_OBJECTS as u32, MOST_OBJECTS as u32 + 1, u32::MAX]),
         1 => call.width = rng.pick(&[0, call.width + 1, call.width - 1, u32::MAX]),
         2 => (call.width, call.names) = (0, Vec::new()),
@@ -191,6 +191,8 @@ pub fn scan(rng: &mut Rng, call: &mut Scan) {
         10 if names > 0 => call.names[rng.below(names * width)] = rng.pick(b"/:`gAF\0\xff"),
         11 if names > 1 => call.names.rotate_left(width),
         12 if names > 1 => call.names.copy_within(..width, width),
+        13 => call.work = rng.pick(&[0, 1, SCAN_WORK - 1, SCAN_WORK + 1]),
+        14 => call.litter = Some([0, rng.below(SCAN_WORK), SCAN_WORK - 1][rng.below(3)]),
         _ => {}
     }
 }

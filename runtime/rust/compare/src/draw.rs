@@ -7,7 +7,7 @@ use crate::judge::reached;
 use crate::rng::Rng;
 use crate::states;
 use crate::store::{self, Store};
-use reference::{Tally, CARD_WORKERS, LARGEST_SIZE, MOST_LEASES, MOST_OBJECTS, STARTS};
+use reference::{Tally, CARD_WORKERS, LARGEST_SIZE, MOST_LEASES, MOST_OBJECTS, SCAN_WORK, STARTS};
 
 /// The weights of the calls that are not of numbers; each of those has the weight 1.
 const OTHERS: usize = 56;
@@ -214,7 +214,7 @@ fn export(rng: &mut Rng) -> Call {
 /// Names and texts. The digits are few, so that names overlap and windows are nearly names; names stand at the first and the
 /// last byte, cut by a text's end, with a letter in upper case, and in runs of digits. Damage is of one part or none.
 fn scan(rng: &mut Rng) -> Scan {
-    let width = rng.pick(&[1, 2, 3, 4, 5, 6, 7, 9, 16, 64, 128]);
+    let width = rng.pick(&[1, 2, 3, 4, 5, 6, 7, 8, 9, 16, 64, 128]);
     let objects = rng.between(1, 40) as u32;
     let few = rng.pick(&[&b"a"[..], b"0a", b"9af", b"0123456789abcdef"]);
     let digit = |rng: &mut Rng| rng.pick(few);
@@ -256,14 +256,16 @@ fn scan(rng: &mut Rng) -> Scan {
     let object = |rng: &mut Rng| rng.below(objects as usize) as u32;
     let named = names.iter().map(|_| object(rng)).collect();
     let owners = ends.iter().map(|_| object(rng)).collect();
-    let mut scan = Scan { objects, width: width as u32, names: names.concat(), named, texts, ends, owners };
+    let (width, names) = (width as u32, names.concat());
+    let mut scan = Scan { objects, width, names, named, texts, ends, owners, work: SCAN_WORK, litter: None };
     damage::scan(rng, &mut scan);
     scan
 }
 
 fn scan_into(rng: &mut Rng) -> Call {
     let scan = scan(rng);
-    let right = reference::scan_length(scan.call()).unwrap_or(3) as usize;
+    static BLANK: [u32; SCAN_WORK] = [0; SCAN_WORK];
+    let right = reference::scan_length(scan.call(), &BLANK).unwrap_or(3) as usize;
     let (from, to) = (damage::length_once_in(rng, 8, right), damage::length_once_in(rng, 8, right));
     Call::Scan { scan, from, to }
 }

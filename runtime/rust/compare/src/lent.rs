@@ -3,7 +3,8 @@
 use crate::calls::NUMBER_CALLS;
 use crate::case::{Call, Case, Mark, Scan, Update};
 use crate::sides::{Buffers, Renewal, Side};
-use kullneyra::{Marked, Stopped};
+use kullneyra::{Marked, Stopped, SCAN_WORK};
+use std::cell::RefCell;
 
 /// Elements on either side of a lent buffer that no call may touch.
 const GUARD: usize = 3;
@@ -136,6 +137,31 @@ fn longs_only(case: &Case, call: impl FnOnce(&mut [u64]) -> u32) -> After {
     After { number, buffers: vec![("result", Whole::Longs(result.0))] }
 }
 
+thread_local! {
+    /// The work words of scans, one more than there are, between their guards: too many to be made anew for each call.
+    static WORK: RefCell<Vec<u32>> = RefCell::new(vec![0; SCAN_WORK + 1 + 2 * GUARD]);
+}
+
+/// A call with the work words of a scan, and what it changed in them and in their guards: places and words.
+fn with_work(scan: &Scan, call: impl FnOnce(&mut [u32]) -> u32) -> (u32, Whole) {
+    WORK.with_borrow_mut(|all| {
+        let littered = scan.litter.map(|place| GUARD + place).filter(|&place| place < GUARD + scan.work);
+        if let Some(place) = littered {
+            all[place] = 1;
+        }
+        let number = call(&mut all[GUARD..GUARD + scan.work]);
+        if let Some(place) = littered {
+            all[place] ^= 1;
+        }
+        let mut changes = Vec::new();
+        if all.iter().fold(0, |any, &word| any | word) != 0 {
+            let changed = all.iter_mut().enumerate().filter(|(_, word)| **word != 0);
+            changes = changed.flat_map(|(place, word)| [place as u32, std::mem::take(word)]).collect();
+        }
+        (number, Whole::Words(changes))
+    })
+}
+
 /// Fresh buffers for the case, the call, and the buffers afterwards.
 pub fn after(case: &Case, side: &dyn Side) -> After {
     match &case.call {
@@ -218,15 +244,22 @@ pub fn after(case: &Case, side: &dyn Side) -> After {
             let number = side.export(offsets, targets, out.part());
             After { number, buffers: vec![("out", Whole::Bytes(out.0))] }
         }
-        Call::ScanLength(scan) => longs_only(case, |result| {
-            let Scan { objects, width, names, named, texts, ends, owners } = scan;
-            side.scan_length(*objects, *width, names, named, texts, ends, owners, result)
-        }),
+        Call::ScanLength(scan) => {
+            let Scan { objects, width, names, named, texts, ends, owners, .. } = scan;
+            let mut result = longs(case.result, case.fill(0));
+            let (number, work) = with_work(scan, |work| {
+                side.scan_length(*objects, *width, names, named, texts, ends, owners, work, result.part())
+            });
+            After { number, buffers: vec![("changes of the work", work), ("result", Whole::Longs(result.0))] }
+        }
         Call::Scan { scan, from, to } => {
-            let Scan { objects, width, names, named, texts, ends, owners } = scan;
+            let Scan { objects, width, names, named, texts, ends, owners, .. } = scan;
             let (mut from, mut to) = (words(*from, case.fill(1)), words(*to, case.fill(2)));
-            let number = side.scan(*objects, *width, names, named, texts, ends, owners, from.part(), to.part());
-            After { number, buffers: vec![("from", Whole::Words(from.0)), ("to", Whole::Words(to.0))] }
+            let (number, work) = with_work(scan, |work| {
+                side.scan(*objects, *width, names, named, texts, ends, owners, work, from.part(), to.part())
+            });
+            let lists = [("from", Whole::Words(from.0)), ("to", Whole::Words(to.0))];
+            After { number, buffers: [("changes of the work", work)].into_iter().chain(lists).collect() }
         }
     }
 }

@@ -142,10 +142,11 @@ pub fn scan_length(
     texts: &[u8],
     ends: &[u64],
     owners: &[u32],
+    work: &mut [u32],
     result: &mut [u64],
 ) -> u32 {
     let scan = reference::Scan { objects, width, names, named, texts, ends, owners };
-    told_one(result, || reference::scan_length(scan))
+    told_one(result, || reference::scan_length(scan, work))
 }
 
 #[allow(clippy::too_many_arguments)]
@@ -157,9 +158,10 @@ pub fn scan(
     texts: &[u8],
     ends: &[u64],
     owners: &[u32],
+    work: &mut [u32],
     from: &mut [u32],
     to: &mut [u32],
 ) -> u32 {
     let scan = reference::Scan { objects, width, names, named, texts, ends, owners };
-    number(reference::scan(scan, from, to))
+    number(reference::scan(scan, work, from, to))
 }

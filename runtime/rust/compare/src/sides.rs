@@ -104,10 +104,11 @@ impl Side for Tuned {
         texts: &[u8],
         ends: &[u64],
         owners: &[u32],
+        work: &mut [u32],
         from: &mut [u32],
         to: &mut [u32],
     ) -> u32 {
         let scan = reference::Scan { objects, width, names, named, texts, ends, owners };
-        number(tuned::scan(scan, from, to))
+        number(tuned::scan(scan, work, from, to))
     }
 }

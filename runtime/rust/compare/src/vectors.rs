@@ -36,7 +36,7 @@ const FORMS: [(&str, &[Kind]); 14] = [
     ("remove", &[Words, Words, Words, Words, Words, Words, Bytes, Words]),
     ("import", &[Bytes, Words, Words, Longs]),
     ("export", &[Words, Words, Bytes]),
-    ("scan", &[Numbers(2), Bytes, Words, Bytes, Longs, Words, Words, Words]),
+    ("scan", &[Numbers(2), Bytes, Words, Bytes, Longs, Words, Words, Words, Words]),
 ];
 
 /// The call of numbers of this name.
@@ -331,10 +331,13 @@ fn parts(side: &dyn Side, case: &Case) -> Result<Vec<String>, String> {
         "scan" => {
             let [objects, width] = case.numbers(0);
             let (names, named, texts) = (case.bytes(1), case.words(2), case.bytes(3));
-            let (ends, owners, mut from, mut to) = (case.longs(4), case.words(5), case.words(6), case.words(7));
-            let first = side.scan_length(objects, width, &names, &named, &texts, &ends, &owners, &mut length);
-            let second = side.scan(objects, width, &names, &named, &texts, &ends, &owners, &mut from, &mut to);
-            vec![told("", first, &length)?, verdict(" scanned", second), shown(&from), shown(&to)]
+            let (ends, owners, mut work) = (case.longs(4), case.words(5), case.words(6));
+            let (mut from, mut to) = (case.words(7), case.words(8));
+            let first =
+                side.scan_length(objects, width, &names, &named, &texts, &ends, &owners, &mut work, &mut length);
+            let second =
+                side.scan(objects, width, &names, &named, &texts, &ends, &owners, &mut work, &mut from, &mut to);
+            vec![told("", first, &length)?, verdict(" scanned", second), shown(&work), shown(&from), shown(&to)]
         }
         call => {
             let numbers = of_numbers(call).expect("a call that has a form");

@@ -470,7 +470,8 @@ pub fn export(offsets: &[u32], targets: &[u32], out: &mut [u8]) -> Result<(), Re
 /// How many mentions there are in texts: places where the bytes of a name stand, whatever stands around them. The names
 /// are `width` lower-case hexadecimal digits each, one behind the other, ascending and distinct; named[k] is the object
 /// that name k names. The texts stand one behind the other too: text i ends where ends[i] says, and owners[i] is the
-/// object that it belongs to.
+/// object that it belongs to. The work is [`SCAN_WORK`] words, all 0, and they are 0 again afterwards.
+#[allow(clippy::too_many_arguments)]
 pub fn scan_length(
     objects: u32,
     width: u32,
@@ -479,9 +480,10 @@ pub fn scan_length(
     texts: &[u8],
     ends: &[u64],
     owners: &[u32],
+    work: &mut [u32],
 ) -> Result<u64, Refusal> {
     let mut result = [0];
-    answer(raw::scan_length(objects, width, names, named, texts, ends, owners, &mut result))?;
+    answer(raw::scan_length(objects, width, names, named, texts, ends, owners, work, &mut result))?;
     Ok(result[0])
 }
 
@@ -497,10 +499,11 @@ pub fn scan(
     texts: &[u8],
     ends: &[u64],
     owners: &[u32],
+    work: &mut [u32],
     from: &mut [u32],
     to: &mut [u32],
 ) -> Result<(), Refusal> {
-    answer(raw::scan(objects, width, names, named, texts, ends, owners, from, to))
+    answer(raw::scan(objects, width, names, named, texts, ends, owners, work, from, to))
 }
 
 impl Seed {

@@ -158,14 +158,15 @@
 //! # Names in texts
 //!
 //! ```
-//! use kullneyra::{scan, scan_length};
+//! use kullneyra::{scan, scan_length, SCAN_WORK};
 //!
 //! // Three names of two digits, of the objects 2, 0 and 1, and two texts: one of object 1, one of object 0.
 //! let (names, named) = (b"0aaaab", [2, 0, 1]);
 //! let (texts, ends, owners) = (b"{\"0aab\"}ab", [8, 10], [1, 0]);
-//! let length = scan_length(3, 2, names, &named, texts, &ends, &owners)? as usize;
+//! let mut work = vec![0; SCAN_WORK];
+//! let length = scan_length(3, 2, names, &named, texts, &ends, &owners, &mut work)? as usize;
 //! let (mut from, mut to) = (vec![0; length], vec![0; length]);
-//! scan(3, 2, names, &named, texts, &ends, &owners, &mut from, &mut to)?;
+//! scan(3, 2, names, &named, texts, &ends, &owners, &mut work, &mut from, &mut to)?;
 //! assert_eq!((from, to), (vec![1, 1, 1, 0], vec![2, 0, 1, 1]));
 //! # Ok::<(), kullneyra::Refusal>(())
 //! ```
@@ -385,7 +386,10 @@ mod tests {
 
     #[test]
     fn display_is_in_words() {
-        assert_eq!(Refusal::Buffer.to_string(), "refusal 7: a lent buffer is not as long as it must be, or overlaps another");
+        assert_eq!(
+            Refusal::Buffer.to_string(),
+            "refusal 7: a lent buffer is not as long as it must be, or overlaps another"
+        );
         assert_eq!(Refusal::Other(99).to_string(), "refusal 99: a number newer than this crate");
     }
 

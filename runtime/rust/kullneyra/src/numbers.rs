@@ -20,6 +20,8 @@ pub const DECK: u32 = 720;
 pub const CARD_WORKERS: u32 = 6;
 /// The hop count of an object to which no chain of references leads.
 pub const NO_HOPS: u32 = 4_294_967_295;
+/// The work words of a scan.
+pub const SCAN_WORK: usize = 135_169;
 /// The mark of an object that a change finds live, where it is no start.
 pub const NEWLY_LIVE: u8 = 255;
 

@@ -215,6 +215,8 @@ mod c {
             ends_len: usize,
             owners: *const u32,
             owners_len: usize,
+            work: *mut u32,
+            work_len: usize,
             result: *mut u64,
             result_len: usize,
         ) -> u32;
@@ -231,6 +233,8 @@ mod c {
             ends_len: usize,
             owners: *const u32,
             owners_len: usize,
+            work: *mut u32,
+            work_len: usize,
             from: *mut u32,
             from_len: usize,
             to: *mut u32,
@@ -633,6 +637,7 @@ pub fn scan_length(
     texts: &[u8],
     ends: &[u64],
     owners: &[u32],
+    work: &mut [u32],
     result: &mut [u64],
 ) -> u32 {
     // SAFETY: each pointer comes with the length of its own slice, and a slice that is written overlaps no other.
@@ -650,6 +655,8 @@ pub fn scan_length(
             ends.len(),
             owners.as_ptr(),
             owners.len(),
+            work.as_mut_ptr(),
+            work.len(),
             result.as_mut_ptr(),
             result.len(),
         )
@@ -666,6 +673,7 @@ pub fn scan(
     texts: &[u8],
     ends: &[u64],
     owners: &[u32],
+    work: &mut [u32],
     from: &mut [u32],
     to: &mut [u32],
 ) -> u32 {
@@ -684,6 +692,8 @@ pub fn scan(
             ends.len(),
             owners.as_ptr(),
             owners.len(),
+            work.as_mut_ptr(),
+            work.len(),
             from.as_mut_ptr(),
             from.len(),
             to.as_mut_ptr(),

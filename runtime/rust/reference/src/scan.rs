@@ -14,12 +14,18 @@ pub struct Scan<'a> {
     pub owners: &'a [u32],
 }
 
-fn check(scan: Scan<'_>) -> Result<(), u8> {
+/// The work words of both calls.
+pub const SCAN_WORK: usize = 135_169;
+
+fn check(scan: Scan<'_>, work: &[u32]) -> Result<(), u8> {
     let Scan { objects, width, names, named, texts, ends, owners } = scan;
     if objects == 0 || objects as usize > MOST_OBJECTS {
         return Err(4);
     }
     if names.len() as u128 != u128::from(width) * named.len() as u128 || owners.len() != ends.len() {
+        return Err(7);
+    }
+    if work.len() != SCAN_WORK || work.iter().any(|&word| word != 0) {
         return Err(7);
     }
     let falls = ends.windows(2).any(|pair| pair[0] > pair[1]);
@@ -39,9 +45,9 @@ fn check(scan: Scan<'_>) -> Result<(), u8> {
     Ok(())
 }
 
-/// Each mention, as the owner of the text and the object that is named: by text, and then by place.
-fn mentions(scan: Scan<'_>) -> Result<Vec<(u32, u32)>, u8> {
-    check(scan)?;
+/// Each mention, as the owner of the text and the object that is named: by text, and then by place. No work is needed for it.
+fn mentions(scan: Scan<'_>, work: &[u32]) -> Result<Vec<(u32, u32)>, u8> {
+    check(scan, work)?;
     let width = scan.width as usize;
     let names: std::collections::HashMap<&[u8], u32> =
         scan.names.chunks(width).zip(scan.named.iter().copied()).collect();
@@ -56,13 +62,13 @@ fn mentions(scan: Scan<'_>) -> Result<Vec<(u32, u32)>, u8> {
 }
 
 /// How many mentions there are.
-pub fn scan_length(scan: Scan<'_>) -> Result<u64, u8> {
-    mentions(scan).map(|found| found.len() as u64)
+pub fn scan_length(scan: Scan<'_>, work: &[u32]) -> Result<u64, u8> {
+    mentions(scan, work).map(|found| found.len() as u64)
 }
 
 /// Writes the mentions into two lists of exactly that length.
-pub fn scan(scan: Scan<'_>, from: &mut [u32], to: &mut [u32]) -> Result<(), u8> {
-    let found = mentions(scan)?;
+pub fn scan(scan: Scan<'_>, work: &[u32], from: &mut [u32], to: &mut [u32]) -> Result<(), u8> {
+    let found = mentions(scan, work)?;
     if from.len() != found.len() || to.len() != found.len() {
         return Err(7);
     }
