@@ -5,10 +5,10 @@ use mathlib.Core.List.{List, [], _∷_}
 use Prim.Native.Nat.{ℕ, zero, suc, _+_, _-_, _≤_, _<_}
 use native.Mathlib.Omega.{arith}
 use native.Mathlib.Numerals.{add-one}
-use lib.Dec.{leb}
+use lib.Dec.{leb, eqb}
 use lib.ListN.{length, getD, drop, drop-of-length-le, length-drop}
 use lib.Seq.{drop-cons}
-use borrow.Author.Tests.{lt-ltb, le-ltb, le-leb, lt-leb}
+use borrow.Author.Tests.{lt-ltb, le-ltb, le-leb, lt-leb, ne-eqb}
 use Rattle.laws.specs.Choice.{both}
 use Rattle.graph.specs.Graph.{rising, allBelow}
 
@@ -23,6 +23,18 @@ below-stop n l i h p = rw (drop-cons l i 0, le-ltb _ _ p)
 pub below-end : (n : ℕ) (l : List ℕ) (i : ℕ) → length l ≤ i → allBelow n (drop i l) ≡ true
 unfolding allBelow
 below-end n l i h = rw (drop-of-length-le l h)
+
+-- no number is below 0
+pub below-none : (l : List ℕ) → allBelow 0 l ≡ eqb (length l) 0
+unfolding allBelow
+below-none [] = refl
+below-none (a ∷ l) = rw (le-ltb a 0 (omega arith), ne-eqb (suc (length l)) 0 (λ e. omega (arith, e))) refl
+
+-- each is below n, so all are
+pub below-all : (n : ℕ) (l : List ℕ) → ((i : ℕ) → getD l i 0 < n) → allBelow n l ≡ true
+unfolding allBelow
+below-all n [] h = refl
+below-all n (a ∷ l) h = rw (lt-ltb a n (h 0)) (below-all n l (λ i. h (suc i)))
 
 -- one more pair
 rising-at : (l : List ℕ) (j : ℕ) → suc j < length l

@@ -2,7 +2,7 @@
 // one object's references. Any offsets and any targets may come in.
 ghost use mathlib.Core.Path.{_≡_};
 ghost use mathlib.Core.List.{List};
-ghost use Prim.Native.Nat.{ℕ};
+ghost use Prim.Native.Nat.{ℕ, _+_};
 ghost use lib.ListN.{length};
 ghost use Rattle.graph.specs.Graph.{rising, allBelow, wellFormed, referencesOf, IsPart, graph};
 
@@ -32,17 +32,33 @@ fn is_rising(offsets: &[u32]) -> bool
     wrong == 0
 }
 
-// Whether every number is below n.
-pub fn is_below(n: usize, numbers: &[u32]) -> bool
-    ensures { λ r. ⌜ r ≡ allBelow n (now (numbers .entry)) ⌝ }
+// How many numbers a word can hold.
+const WORDS: usize = 4294967296;
+
+// Whether no number is above this one. Words are compared as they are, so that the processor takes several at once.
+fn is_at_most(most: u32, numbers: &[u32]) -> bool
+    ensures { λ r. ⌜ r ≡ allBelow (most + 1) (now (numbers .entry)) ⌝ }
 {
     let mut wrong: u32 = 0;
     for i in 0..numbers.len() {
-        if n <= numbers[i] as usize {
+        if most < numbers[i] {
             wrong = 1;
         }
     }
     wrong == 0
+}
+
+// Whether every number is below n.
+pub fn is_below(n: usize, numbers: &[u32]) -> bool
+    ensures { λ r. ⌜ r ≡ allBelow n (now (numbers .entry)) ⌝ }
+{
+    if n == 0 {
+        return numbers.len() == 0;
+    }
+    if WORDS <= n {
+        return true;
+    }
+    is_at_most((n - 1) as u32, numbers)
 }
 
 // Check 10: whether the offsets and targets are a graph.

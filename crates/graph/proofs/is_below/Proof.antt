@@ -1,44 +1,27 @@
--- `graph::is_below`: what is left of the numbers decides, as long as none passed was too large.
-use Prim.Native.Nat.{_≤_, _-_}
-use mathlib.Core.Logic.{⊎-elim}
+-- `graph::is_below`: below 0 there is nothing, and every word is below what no word holds.
+use Prim.Native.Nat.{ℕ, _+_, _-_}
+use mathlib.Core.Path.{_≡_, sym, ap, _∙_}
 use native.Mathlib.Omega.{arith}
-use lib.ListN.{length, drop}
-use Rattle.laws.proofs.Scan.{Scan, scan-start, scan-right, scan-wrong, scan-end}
 use borrow.Author.Needs.{needs}
 use Rattle.graph.specs.Graph.{allBelow}
-use Rattle.graph.proofs.Scan.{below-step, below-stop, below-end}
+use Rattle.graph.proofs.Scan.{below-none, below-all}
 use Rattle.graph.proofs.is_below.Statement.{statement}
 use Rattle.graph.proofs.is_below.Tie as tie
 
-abbrev Inv-loop : tie.InvT-loop
-Inv-loop n numbers wrong₀ i₀ i-end wrong i = (i ≤ length numbers) × Scan (allBelow n (drop i numbers)) (allBelow n numbers) wrong
+returns : tie.Need-returns
+returns c = rw (c .if1 .taken) (sym (below-none _))
 
-abbrev μ-loop : tie.MeasureT-loop
-μ-loop n numbers wrong₀ i₀ i-end wrong i = length numbers - i
+returns-2 : tie.Need-returns-2
+returns-2 c =
+    let k = c .before .before in
+    sym (below-all _ _ (λ i. omega (arith, k .shared-slice-known .given i, c .if2 .taken)))
 
-loop-holds : tie.Need-loop-holds Inv-loop μ-loop
-loop-holds c = (omega arith, scan-start _)
-
-cast-if1 : tie.Need-cast-if1 Inv-loop μ-loop
-cast-if1 c = omega (arith, c .shared-slice-known .given (c .before .before .loop .i))
-
-loop-again : tie.Need-loop-again Inv-loop μ-loop
-loop-again c =
-    let tested = c .before .before in
-    let l = tested .before .loop in
-    let h = tested .loop-test .taken in (
-      omega arith,
-      ⊎-elim
-          (λ w. rw (w .1) (scan-wrong (l .inv .1) (below-stop _ _ _ h (w .0 .taken))))
-          (λ w. rw (w .1) (scan-right (l .inv .1) (below-step _ _ _ h (w .0 .left))))
-          (c .if1 .came),
-    )
-
-returns : tie.Need-returns Inv-loop μ-loop
-returns c = scan-end (c .before .loop .inv .1) (below-end _ _ _ (c .loop-test .left))
+returns-3 : tie.Need-returns-3
+returns-3 c =
+    let e = c .before .before in
+    let s = e .before .before in
+    let n : s .args .n - 1 + 1 ≡ s .args .n = omega (arith, e .if1 .left) in
+    c .is-at-most .ensures ∙ ap (λ (n : ℕ). allBelow n (s .args .numbers .now)) n
 
 pub is-below-spec : {M : Type 1} → statement M
-is-below-spec =
-    tie.close
-    (tie.spec Inv-loop μ-loop loop-holds (λ c. search needs) (λ c. search needs) cast-if1 (λ c. search needs)
-    (λ c. search needs) loop-again returns)
+is-below-spec = tie.close (tie.spec returns returns-2 (λ c. omega (arith, c .before .if1 .left)) (λ c. omega (arith, c .if2 .left)) (λ c κs. search needs) returns-3)
