@@ -33,13 +33,13 @@ use Rattle.worker.specs.Registers.{block-words, register-words}
 use Rattle.step.specs.declared.Setup.{Setup}
 use Rattle.step.specs.declared.Progress.{Progress}
 use Rattle.step.specs.Counting.{Countable}
-use Rattle.step.specs.Held.{Memory, memory, settingOf, stretchAt}
+use Rattle.step.specs.Held.{Memory, memory, settingOf, stretchAt, Holds}
 use Rattle.step.specs.Turned.{Ready}
 use Rattle.step.proofs.Counting.{countable}
 use Rattle.marker.specs.declared.Marked.{Marked}
 use Rattle.marker.specs.declared.Marked.the-variants.{Refused}
 use Rattle.marker.specs.Answer.{row, Finds, Answered}
-use Rattle.marker.specs.Stages.{IsScheduled, scheduled, DoesAll, Settling, Settled, setupOf, Runnable, Leaves, Runs, rowOf}
+use Rattle.marker.specs.Stages.{IsScheduled, scheduled, Settling, Settled, setupOf, Runnable, Leaves, Runs, rowOf}
 use Rattle.marker.specs.Starting.{Startable, Started}
 use Rattle.marker.proofs.Loop.{all-ended, handed-fits, entries-few}
 
@@ -52,8 +52,7 @@ module _ {g : Setup} {offsets targets schedule : List ℕ} {μ : Memory} (R : Re
   sound-after : Sound (R .graph) (R .scene .starts) (g .workers) (settingOf g) s
   sound-after = sound-turns (R .scene .accepted) (R .scene .sound) (entries schedule)
 
-  module _ {marks work tallies regs : List ℕ} {p : Progress}
-      (t : DoesAll (IsScheduled g offsets targets schedule) g schedule μ (memory marks work tallies regs p)) where
+  module _ {marks work tallies regs : List ℕ} {p : Progress} (h : Holds (R .graph) g s (memory marks work tallies regs p)) where
     pub settle-ready : Settling (g .workers) (g .stretch) work regs
     settle-ready =
         record {
@@ -63,9 +62,9 @@ module _ {g : Setup} {offsets targets schedule : List ℕ} {μ : Memory} (R : Re
           few = R .scene .accepted .workers-limit;
           objects-limit = R .scene .objects-limit;
           stretch-is = R .scene .stretch-is;
-          regs-long = t R .regs-long;
-          work-long = t R .work-long;
-          each = t R .each;
+          regs-long = h .regs-long;
+          work-long = h .work-long;
+          each = h .each;
           room = runs-room (R .scene .accepted) sound-after;
         }
 
@@ -75,9 +74,9 @@ module _ {g : Setup} {offsets targets schedule : List ℕ} {μ : Memory} (R : Re
     leaves d =
         record {
           unsettled = work;
-          held = t R;
+          held = h;
           work-is = d settle-ready;
-          countable = countable (R .scene .accepted) sound-after (R .scene .objects-limit) (R .scene .references-limit) (handed-fits R) (t R);
+          countable = countable (R .scene .accepted) sound-after (R .scene .objects-limit) (R .scene .references-limit) (handed-fits R) h;
           counted = refl;
         }
 

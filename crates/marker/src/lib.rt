@@ -75,7 +75,7 @@ pub fn check(
 }
 
 // The runs that a block tells of: none where the worker carries nothing.
-fn top_of(r: Block) -> Top
+pub fn top_of(r: Block) -> Top
     ensures { λ t. ⌜ t ≡ topFor r ⌝ }
 {
     let status = r.status;

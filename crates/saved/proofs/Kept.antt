@@ -3,14 +3,11 @@
 use mathlib.Core.Path.{_≡_, refl}
 use mathlib.Core.Bool.{true}
 use mathlib.Core.List.{List}
-use Prim.Native.Nat.{ℕ, _≤_}
+use Prim.Native.Nat.{ℕ}
 use native.Mathlib.Omega.{arith}
 use lib.ListN.{length}
 use Rattle.laws.proofs.Test.{both-true, both-is, same-equal, equal-same}
-use Rattle.graph.specs.Graph.{Graph, objects, references}
-use Rattle.graph.specs.Chain.{reached, leavingReached}
-use Rattle.graph.proofs.OverMarked.{over-degree, over-total}
-use Rattle.graph.proofs.Reached.{reached-length}
+use Rattle.graph.specs.Graph.{Graph, objects}
 use Rattle.desk.specs.Lengths.{savedLength}
 use Rattle.machine.specs.Machine.{Setting, State, Entry, turns}
 use Rattle.machine.specs.Accepted.{Accepted}
@@ -18,7 +15,7 @@ use Rattle.machine.specs.Sound.{Sound}
 use Rattle.machine.specs.Demand2.{outcome}
 use Rattle.theorems.specs.Waiting.{Waits}
 use Rattle.theorems.proofs.Facts.{runs-room}
-use Rattle.theorems.proofs.Demand3.{demand3}
+use Rattle.theorems.proofs.Demand3.{reached-limit, demand3}
 use Rattle.theorems.proofs.Start.{sound, sound-turns}
 use Rattle.theorems.proofs.Waiting.{waits-all}
 use Rattle.saved.specs.Layout.{savedWords, stateOf, Shaped}
@@ -44,13 +41,6 @@ module _ {G : Graph} {starts : List ℕ} {W : ℕ} {g : Setting} (A : Accepted G
 
   -- ---- a collection begun afresh
 
-  -- no more references leave reachable objects than there are
-  reached-limit : leavingReached G starts ≤ references G
-  unfolding leavingReached
-  reached-limit =
-      let long = reached-length G starts in
-      omega (arith, over-degree G (A .formed) (reached G starts) long, over-total G (A .formed) (reached G starts) long)
-
   -- what it saves is sound
   pub fresh-run : (xs : List Entry) → SavedRun G starts W g (savedWords (objects G) (outcome G starts W g xs)) (outcome G starts W g xs)
   fresh-run xs =
@@ -60,8 +50,8 @@ module _ {G : Graph} {starts : List ℕ} {W : ℕ} {g : Setting} (A : Accepted G
         saved =
             record {
               sound = sound A xs;
-              moved-limit = omega (arith, D .moved, reached-limit);
-              handed-limit = omega (arith, D .handed, reached-limit);
+              moved-limit = omega (arith, D .moved, reached-limit A);
+              handed-limit = omega (arith, D .handed, reached-limit A);
             };
       }
 

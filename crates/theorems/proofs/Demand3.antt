@@ -8,10 +8,10 @@ use native.Mathlib.Omega.{arith}
 use lib.ListN.{length}
 use Rattle.laws.specs.Sum.{sum, hit}
 use Rattle.laws.proofs.Sum.{sum-one, sum-below, sum-below-each, sum-combine}
-use Rattle.graph.specs.Graph.{Graph, Leaves, degree}
+use Rattle.graph.specs.Graph.{Graph, Leaves, references, degree}
 use Rattle.graph.specs.Chain.{Reach, reached, leavingReached}
 use Rattle.graph.proofs.OverMarked.{over-below, over-degree, over-total, over-once, over-leaves, over-source}
-use Rattle.graph.proofs.Reached.{reached-chain, chain-reached}
+use Rattle.graph.proofs.Reached.{reached-length, reached-chain, chain-reached}
 use Rattle.machine.specs.Machine.{Setting, State, Entry, Worker, idle, asking, denied, ended, given, busy, Cell, empty, from, worker, carriedBy, carriedAll, start, allEnded, result, stopped}
 use Rattle.machine.specs.Accepted.{Accepted}
 use Rattle.machine.specs.Sound.{Marked, Supplied, cellTurns, turnsOf, upTo, Sound, Fresh}
@@ -26,6 +26,13 @@ use Rattle.theorems.proofs.Demand2.{none-held, all-marked}
 use Rattle.theorems.proofs.Events.{moved-counts, replies-count}
 use Rattle.theorems.proofs.Passes.{reserve-limit}
 use Rattle.theorems.proofs.Progress.{Spent, stretches-spend}
+
+-- no more references leave reachable objects than there are
+pub reached-limit : {G : Graph} {starts : List ℕ} {W : ℕ} {g : Setting} → Accepted G starts W g → leavingReached G starts ≤ references G
+unfolding leavingReached
+reached-limit {G} {starts} A =
+    let long = reached-length G starts in
+    omega (arith, over-degree G (A .formed) (reached G starts) long, over-total G (A .formed) (reached G starts) long)
 
 cell-turns-limit : (c : Cell) → cellTurns c ≤ 2
 cell-turns-limit empty = omega arith

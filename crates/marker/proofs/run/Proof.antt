@@ -45,7 +45,8 @@ take-turns-requires c κs =
 settle-requires : tie.Need-settle-requires
 settle-requires c κs =
     let t = turned c in
-    settle-ready (take-turns-requires (t .before) (t .take-turns .lifetimes)) (t .take-turns .ensures)
+    let r = take-turns-requires (t .before) (t .take-turns .lifetimes) in
+    settle-ready r (t .take-turns .ensures r)
 
 returns : tie.Need-returns
 unfolding turns-ready take-turns-requires
@@ -53,8 +54,8 @@ returns c =
     let settled = c .before .before in
     let t = turned (settled .before) in
     let m = made (started (cleared t)) in
-    run-leaves (entry m .pre) (m .setup-of .ensures)
-    (leaves (take-turns-requires (t .before) (t .take-turns .lifetimes)) (t .take-turns .ensures) (settled .settle .ensures))
+    let r = take-turns-requires (t .before) (t .take-turns .lifetimes) in
+    run-leaves (entry m .pre) (m .setup-of .ensures) (leaves r (t .take-turns .ensures r) (settled .settle .ensures))
 
 pub run-spec : {M : Type 1} → statement M
 run-spec =

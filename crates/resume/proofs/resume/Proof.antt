@@ -113,7 +113,8 @@ take-turns-requires c κs =
 settle-requires : tie.Need-settle-requires
 settle-requires c κs =
     let t = turned c in
-    settle-ready (take-turns-requires (t .before) (t .take-turns .lifetimes)) (t .take-turns .ensures)
+    let r = take-turns-requires (t .before) (t .take-turns .lifetimes) in
+    settle-ready r (t .take-turns .ensures r)
 
 save-requires : tie.Need-save-requires
 unfolding restore-requires resumable resume-ready take-turns-requires
@@ -127,7 +128,7 @@ save-requires c κs =
     let X = e .before .is-sound .ensures .right (not-false _ (e .if1 .left)) in
     resume-savable x X
     (resume-leaves x X (m .setup-of .ensures)
-    (leaves (take-turns-requires (u .before) (u .take-turns .lifetimes)) (u .take-turns .ensures) (s .settle .ensures)))
+    (let r = take-turns-requires (u .before) (u .take-turns .lifetimes) in leaves r (u .take-turns .ensures r) (s .settle .ensures)))
 
 answer-requires : tie.Need-answer-requires
 answer-requires c κs =
@@ -158,7 +159,7 @@ returns-3 c =
     let X = e .before .is-sound .ensures .right (not-false _ (e .if1 .left)) in
     let l =
     resume-leaves x X (m .setup-of .ensures)
-    (leaves (take-turns-requires (u .before) (u .take-turns .lifetimes)) (u .take-turns .ensures) (s .settle .ensures)) in
+    (let r = take-turns-requires (u .before) (u .take-turns .lifetimes) in leaves r (u .take-turns .ensures r) (s .settle .ensures)) in
     continued-fine finds (t .enum-told .given .1)
     (answers-fine (test-right x X) l (resume-saved x X l (saved .save .ensures)) (c .before .answer .result) (c .before .answer .ensures))
     (λ z. c .answer-low .ensures)
