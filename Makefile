@@ -40,8 +40,11 @@ library: target/staticlib/libkullneyra.a
 target/staticlib/libkullneyra.a: tools/library crates.txt $(shell find crates -type f)
 	@tools/library
 
-# The command over an OCI image layout; needs Go and the Debian packages that tests/go/packages lists.
-oci: library
+# The command over an OCI image layout; needs Go and the Debian packages that runtime/go/packages lists, and asks for them before
+# anything is proved.
+oci:
+	@bash -c '. tools/need-packages && need_packages oci runtime/go/packages'
+	@$(MAKE) --no-print-directory --silent library
 	@. tools/go-env && cd runtime/go && go build -o ../../target/bin/kullneyra-oci ./cmd/kullneyra-oci
 
 oci-stress: oci
@@ -76,7 +79,7 @@ install: library
 	@if command -v go >/dev/null && [ -d /usr/share/gocode/src/github.com/spf13/cobra ]; then \
 	    $(MAKE) --no-print-directory install-oci; \
 	else \
-	    echo "kullneyra-oci is not installed: it needs what tests/go/packages lists" >&2; \
+	    echo "kullneyra-oci is not installed: it needs what runtime/go/packages lists" >&2; \
 	fi
 
 # The command over an OCI image layout, and its man pages.

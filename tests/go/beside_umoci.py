@@ -7,8 +7,8 @@ SCALE divides the numbers of blobs of the second table, 1 by default.
 """
 
 import json
-import os
 import shutil
+import statistics
 import subprocess
 import sys
 import tempfile
@@ -144,27 +144,45 @@ def layers(layout, count):
         made.put(layout, b"\x1f\x8b" + number.to_bytes(4, "big") * (1 << 20))
 
 
+RUNS = 5
+
+
+def medians(sides, template, folder):
+    """Milliseconds and MiB of each command on copies of a layout, run in turns."""
+    rows = [[] for _ in sides]
+    for _ in range(RUNS):
+        for words, row in zip(sides, rows):
+            subprocess.run(["cp", "-a", template, folder / "copy"], check=True)
+            _, status, took, memory = collect(words, folder / "copy")
+            assert status == 0, words
+            row.append((took, memory))
+            shutil.rmtree(folder / "copy")
+    return [tuple(statistics.median(column) for column in zip(*row)) for row in rows]
+
+
 def second(scale):
     print("| Layout | `umoci gc`: ms | MiB | `prune`: ms | MiB | with `--retention 0`: ms | MiB | `plan`: ms | MiB |")
     print("|---|--:|--:|--:|--:|--:|--:|--:|--:|")
+    hashed = []
     for name, fill, count in (("1,000 blobs, half of them dead", large, 1000), ("10,000 blobs, half of them dead", large, 10000),
                               ("50,000 blobs, half of them dead", large, 50000), ("200 dead layers of 4 MiB", layers, 200)):
         folder = Path(tempfile.mkdtemp())
         try:
-            row = []
-            for words in (UMOCI, PRUNE[:-2], PRUNE, PLAN):
-                layout = folder / "layout"
-                layout.mkdir()
-                (layout / "oci-layout").write_text('{"imageLayoutVersion":"1.0.0"}')
-                (layout / "index.json").write_text('{"schemaVersion":2,"manifests":[]}')
-                fill(layout, count // scale)
-                _, status, took, memory = collect(words, layout)
-                assert status == 0, (name, words)
-                row.append(f"{took:.0f} | {memory:.0f}")
-                shutil.rmtree(layout)
-            print(f"| {name} | {' | '.join(row)} |", flush=True)
+            layout = folder / "layout"
+            layout.mkdir()
+            (layout / "oci-layout").write_text('{"imageLayoutVersion":"1.0.0"}')
+            (layout / "index.json").write_text('{"schemaVersion":2,"manifests":[]}')
+            fill(layout, count // scale)
+            row = medians((UMOCI, PRUNE[:-2], PRUNE, PLAN), layout, folder)
+            print(f"| {name} | {' | '.join(f'{took:.0f} | {memory:.0f}' for took, memory in row)} |", flush=True)
+            hashed.append((name, medians((["sh", "-c", 'cd "$0" && exec find blobs -type f -exec sha256sum {} +'], [*PLAN, "--verify"]), layout, folder)))
         finally:
             shutil.rmtree(folder)
+    print()
+    print("| Layout | `sha256sum` of all blobs: ms | `plan --verify`: ms |")
+    print("|---|--:|--:|")
+    for name, ((theirs, _), (ours, _)) in hashed:
+        print(f"| {name} | {theirs:.0f} | {ours:.0f} |")
 
 
 if __name__ == "__main__":

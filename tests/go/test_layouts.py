@@ -1,5 +1,6 @@
 """kullneyra-oci on layouts that skopeo, umoci and buildah made: what it lists and deletes, and that every tag still works."""
 
+import fcntl
 import hashlib
 import json
 import os
@@ -81,6 +82,11 @@ def blobs(layout):
     return {path.name for path in (layout / "blobs").glob("*/*")}
 
 
+def unpack(layout, tag, bundle):
+    rootless = () if os.getuid() == 0 else ("--rootless",)
+    run("umoci", "unpack", *rootless, "--image", f"{layout}:{tag}", bundle)
+
+
 def fill(layout, count):
     """So many images of four blobs each, every other one listed."""
     entries = []
@@ -104,7 +110,7 @@ class Layouts(unittest.TestCase):
         for number, tag in enumerate(("one", "two", "three")):
             bundle = cls.made / f"bundle-{tag}"
             base = ("empty", "one", "one")[number]
-            run("umoci", "unpack", "--image", f"{cls.umoci}:{base}", bundle)
+            unpack(cls.umoci, base, bundle)
             (bundle / "rootfs" / tag).write_bytes(os.urandom(20_000))
             run("umoci", "repack", "--image", f"{cls.umoci}:{tag}", bundle)
 
@@ -118,6 +124,7 @@ class Layouts(unittest.TestCase):
         shutil.copytree(self.umoci, self.layout, symlinks=True)
 
     def tearDown(self):
+        run("chmod", "-R", "u+rwX", self.folder)  # who is not root cannot delete from folders that are closed
         shutil.rmtree(self.folder)
 
     def tags(self):
@@ -127,7 +134,7 @@ class Layouts(unittest.TestCase):
         """Every tag can be copied, with all of its blobs, and unpacked."""
         for tag in self.tags():
             run("skopeo", "copy", "--insecure-policy", f"oci:{self.layout}:{tag}", f"oci:{self.folder}/copy-{tag}:{tag}")
-            run("umoci", "unpack", "--image", f"{self.layout}:{tag}", self.folder / f"unpacked-{tag}")
+            unpack(self.layout, tag, self.folder / f"unpacked-{tag}")
             self.assertTrue((self.folder / f"unpacked-{tag}" / "rootfs" / tag).exists() or tag == "empty")
 
     def pruned(self, *words):
@@ -245,6 +252,15 @@ class Layouts(unittest.TestCase):
         oci("plan", self.layout)
         self.assertIn(manifest["layers"][-1]["digest"], self.refused("--verify"))
 
+    def test_progress(self):
+        """Told on a terminal, and not in a pipe."""
+        self.assertEqual(oci("plan", "--verify", self.layout).stderr, "")
+        ours, theirs = os.openpty()
+        subprocess.run([COMMAND, "plan", "--verify", self.layout], stdout=subprocess.DEVNULL, stderr=theirs, check=True)
+        self.assertIn(b"hashed", os.read(ours, 4096))
+        os.close(ours)
+        os.close(theirs)
+
     def test_kept_by_tag(self):
         self.assertEqual(self.pruned("--keep", "one"), set())
         self.assertIn("no such tag", self.refused("--keep", "four"))
@@ -260,9 +276,15 @@ class Layouts(unittest.TestCase):
             said = oci(*words, status=2).stderr
             self.assertIn("usage:", said)
             self.assertIn(told, said)
+            answer = json.loads(oci(*words, "--json", status=2).stdout)
+            self.assertEqual((answer["schemaVersion"], answer["status"]), (1, 2))
+            self.assertTrue(answer["error"])
         for words in (("--help",), ("prune", "--help"), ("help", "prune")):
             self.assertIn("Usage:", oci(*words).stdout)
         self.assertIn("version", oci("--version").stdout)
+        for shell in ("bash", "zsh", "fish"):
+            self.assertIn("kullneyra-oci", oci("completion", shell).stdout)
+        self.assertIn("--retention", oci("__complete", "prune", "--ret").stdout)
         oci("plan", self.folder / "nowhere", status=1)
         # Options may stand behind the layout.
         self.assertEqual(json.loads(oci("plan", self.layout, "--json", "--grace=0").stdout)["dead"], [])
@@ -273,12 +295,13 @@ class Layouts(unittest.TestCase):
         self.assertEqual(list(self.folder.glob("*completion*")), [])
 
     def test_locked(self):
-        import fcntl
-
-        with open(self.layout / ".kullneyra-oci.lock", "w") as lock:
+        lock = os.open(self.layout, os.O_RDONLY)
+        try:
             fcntl.flock(lock, fcntl.LOCK_EX)
             self.assertIn("another prune", oci("prune", self.layout, status=1).stderr)
             oci("plan", self.layout)
+        finally:
+            os.close(lock)
         self.assertEqual(self.pruned(), set())
 
     def test_catalogue(self):
@@ -379,28 +402,37 @@ class Layouts(unittest.TestCase):
 
     def test_not_allowed(self):
         """Nothing may be written: nothing is done, and a plan is made. One folder may not: the rest is done."""
-        if os.getuid() != 0:
-            self.skipTest("needs another user")
         unlist(self.layout, "two")
         data = b"\x1f\x8bof another algorithm"
         stuck = self.layout / "blobs" / "sha512" / hashlib.sha512(data).hexdigest()
         stuck.parent.mkdir()
         stuck.write_bytes(data)
         before = blobs(self.layout)
-        command = shutil.copy(COMMAND, self.folder / "command")
-        nobody = ("setpriv", "--reuid=65534", "--regid=65534", "--clear-groups", command)
-        for path in (self.folder, command, self.layout, *self.layout.rglob("*")):
+        command, allowed = [shutil.copy(COMMAND, self.folder / "command")], 0o755
+        for path in (self.folder, command[0], *self.layout.rglob("*")):
             os.chmod(path, 0o755)
-        self.assertEqual(len(json.loads(run(*nobody, "plan", "--json", "--grace", "0", self.layout).stdout)["dead"]), 4)
-        told = json.loads(run(*nobody, "prune", "--json", *NOW, self.layout, status=1).stdout)
+        # Modes do not bind root, so another user runs the command there.
+        if os.getuid() == 0:
+            command, allowed = ["setpriv", "--reuid=65534", "--regid=65534", "--clear-groups", *command], 0o777
+        closed = (self.layout, self.layout / "blobs", self.layout / "blobs" / "sha256", stuck.parent)
+        for path in closed:
+            os.chmod(path, 0o555)
+        self.assertEqual(len(json.loads(run(*command, "plan", "--json", "--grace", "0", self.layout).stdout)["dead"]), 4)
+        told = json.loads(run(*command, "prune", "--json", *NOW, self.layout, status=1).stdout)
         self.assertIn("permission denied", told["error"])
         self.assertEqual(blobs(self.layout), before)
-        for path in (self.layout, self.layout / "blobs", self.layout / "blobs" / "sha256"):
-            os.chmod(path, 0o777)
-        told = json.loads(run(*nobody, "prune", "--json", *NOW, self.layout, status=3).stdout)
+        for path in closed[:-1]:
+            os.chmod(path, allowed)
+        told = json.loads(run(*command, "prune", "--json", *NOW, self.layout, status=3).stdout)
         self.assertEqual((told["status"], len(told["deleted"]), [one["digest"] for one in told["failed"]]), (3, 3, ["sha512:" + stuck.name]))
         self.assertTrue(stuck.exists())
+        os.chmod(stuck.parent, 0o755)
         self.works()
+
+    def test_full_disk(self):
+        """In a file system of its own, which is full or read-only: nothing is lost, and it is told."""
+        own = ["unshare", "--mount"] + ([] if os.getuid() == 0 else ["--map-root-user"])
+        run(*own, sys.executable, TOP / "tests" / "go" / "full_disk.py", self.layout, self.folder)
 
     def test_pushes_beside_prune(self):
         """Some pushes beside prunes: after one further prune no finished push lacks a blob (tests/go/stress has more)."""

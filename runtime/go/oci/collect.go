@@ -203,15 +203,15 @@ func (l *Layout) slices(references []Reference, keep []int, most limits) ([]slic
 
 // Plan is what a finished collection found dead.
 type Plan struct {
-	Dead    []Blob // below blobs/, by number
+	Dead    []*Blob // below blobs/, by number
 	Freed   uint64
 	Live    uint64
 	Missing []Missing
 	Damaged []Damage // told: those that live, and those that are held because they may be live
 	Young   int      // dead, and held because they are younger than the grace
 	// What was moved before.
-	Return []Blob // live by now: to be put back
-	Moved  []Blob // dead still
+	Return []*Blob // live by now: to be put back
+	Moved  []*Blob // dead still
 	// Entries of index.json without a tag, and what would be freed besides if they were taken out.
 	Untagged      int
 	UntaggedFreed uint64
@@ -444,8 +444,15 @@ func (l *Layout) Plan(ctx context.Context, s Settings) (*Plan, error) {
 		}
 	}
 	plan.live = live
+	count := 0
+	for number := range live {
+		if !live[number] {
+			count++
+		}
+	}
+	plan.Dead = make([]*Blob, 0, count)
 	for number := range l.Blobs {
-		blob := l.Blobs[number]
+		blob := &l.Blobs[number]
 		switch {
 		case live[number]:
 			plan.Live++
@@ -460,7 +467,9 @@ func (l *Layout) Plan(ctx context.Context, s Settings) (*Plan, error) {
 			plan.Freed += uint64(blob.Size)
 		}
 	}
-	plan.Moved = append(plan.Moved, l.copies...)
+	for k := range l.copies {
+		plan.Moved = append(plan.Moved, &l.copies[k])
+	}
 	l.tellMissing(plan)
 	if plan.Untagged = l.untagged; l.untagged > 0 && !s.Untagged {
 		return plan, l.weighUntagged(ctx, plan, references, held, keep)

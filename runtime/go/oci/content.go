@@ -50,6 +50,22 @@ var kinds = map[string]string{
 	"application/vnd.docker.distribution.manifest.v1+prettyjws; charset=utf-8": Manifest,
 }
 
+// mediaTypes are the known ones by themselves, so that a text's bytes need not be copied.
+var mediaTypes = func() map[string]string {
+	all := map[string]string{}
+	for name := range kinds {
+		all[name] = name
+	}
+	return all
+}()
+
+func mediaType(word []byte) string {
+	if name, known := mediaTypes[string(word)]; known {
+		return name
+	}
+	return string(word)
+}
+
 // kindOf is what the media type says; what it does not know is Unknown.
 func kindOf(mediaType string) string {
 	if kind, known := kinds[mediaType]; known {
@@ -147,19 +163,25 @@ func parse(text []byte) *content {
 	if len(d.Subject) > 0 && string(d.Subject) != "null" {
 		c.subject(d.Subject)
 	}
-	switch said := kindOf(mediaType); {
-	case said == Index || len(d.Manifests) > 0:
-		c.kind = Index
-	case said == Artifact || len(d.Blobs) > 0:
-		c.kind = Artifact
-	case said == Manifest || configures || len(d.Layers) > 0 || len(d.FSLayers) > 0 || isObject(d.Subject):
-		c.kind = Manifest
-	}
+	c.kind = kindBy(kindOf(mediaType), len(d.Manifests) > 0, len(d.Blobs) > 0, configures || len(d.Layers) > 0 || len(d.FSLayers) > 0 || isObject(d.Subject))
 	// The scan sees bytes as they stand; what is written with escapes, or in base 64, it sees here.
 	if bytes.IndexByte(text, '\\') >= 0 || bytes.Contains(bytes.ToLower(text), []byte("data")) {
 		c.spell(text)
 	}
 	return c
+}
+
+// kindBy is what a text is, by what its media type says and by the keys that it has.
+func kindBy(said string, manifests, blobs, others bool) string {
+	switch {
+	case said == Index || manifests:
+		return Index
+	case said == Artifact || blobs:
+		return Artifact
+	case said == Manifest || others:
+		return Manifest
+	}
+	return Unknown
 }
 
 // wrong keeps the first fault.

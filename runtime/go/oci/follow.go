@@ -43,6 +43,8 @@ type follower struct {
 	owners []int // the object of each text
 	batch  texts
 	buffer []byte
+	glance glance
+	verify bool // what is read whole is hashed
 }
 
 // group is names of one width, numbered from 0 on, where the first names the object `base`.
@@ -52,12 +54,12 @@ type group struct {
 }
 
 // follow looks at every blob, reads the texts among them, and gathers the references.
-func (l *Layout) follow(ctx context.Context) error {
+func (l *Layout) follow(ctx context.Context, verify bool) error {
 	top, err := l.readIndex()
 	if err != nil {
 		return err
 	}
-	f := &follower{Layout: l, groups: l.groups(), buffer: make([]byte, headBytes)}
+	f := &follower{Layout: l, groups: l.groups(), buffer: make([]byte, headBytes), verify: verify}
 	if err := f.take(0, l.index, top); err != nil {
 		return err
 	}
@@ -83,7 +85,7 @@ func (l *Layout) follow(ctx context.Context) error {
 
 // distinct sorts references by their numbers and leaves each once.
 func distinct(all []Reference) []Reference {
-	sort.Slice(all, func(a, b int) bool {
+	before := func(a, b int) bool {
 		x, y := all[a], all[b]
 		if x.From != y.From {
 			return x.From < y.From
@@ -92,7 +94,10 @@ func distinct(all []Reference) []Reference {
 			return x.To < y.To
 		}
 		return !x.Subject && y.Subject
-	})
+	}
+	if !sort.SliceIsSorted(all, before) {
+		sort.Slice(all, before)
+	}
 	kept := all[:0]
 	for k, one := range all {
 		if k == 0 || one != all[k-1] {
@@ -212,23 +217,33 @@ func (l *Layout) name(by int, one descriptor) {
 
 // links: what a link leads to is held by it.
 func (l *Layout) links() {
-	places := map[identity]int{}
+	var links []int
 	for number := range l.Blobs {
-		if blob := &l.Blobs[number]; blob.link && !blob.absent {
-			places[blob.file] = 0
+		if l.Blobs[number].link && !l.Blobs[number].absent {
+			links = append(links, number)
 		}
 	}
-	if len(places) == 0 {
+	if len(links) == 0 {
 		return
 	}
+	type identity struct{ device, number uint64 }
+	file := func(number int) (identity, bool) {
+		var stat syscall.Stat_t
+		err := syscall.Stat(l.tree.at(l.place(&l.Blobs[number]).path()), &stat)
+		return identity{uint64(stat.Dev), stat.Ino}, err == nil
+	}
+	files := map[identity]int{}
 	for number := 1; number < len(l.Blobs); number++ {
-		if _, led := places[l.Blobs[number].file]; led && !l.Blobs[number].link {
-			places[l.Blobs[number].file] = number
+		if l.Blobs[number].link {
+			continue
+		}
+		if one, there := file(number); there {
+			files[one] = number
 		}
 	}
-	for number := range l.Blobs {
-		if blob := &l.Blobs[number]; blob.link && places[blob.file] != 0 {
-			l.References = append(l.References, Reference{From: number, To: places[blob.file]})
+	for _, number := range links {
+		if one, there := file(number); there && files[one] != 0 {
+			l.References = append(l.References, Reference{From: number, To: files[one]})
 		}
 	}
 }
@@ -267,7 +282,7 @@ func (l *Layout) suspects(ctx context.Context) error {
 
 // hash compares a blob with its digest.
 func (l *Layout) hash(ctx context.Context, blob *Blob, buffer []byte, count func(int)) (int64, error) {
-	file, err := os.Open(l.place(blob))
+	file, err := os.Open(l.tree.at(l.place(blob).path()))
 	if err != nil {
 		return 0, err
 	}
@@ -296,15 +311,6 @@ func (l *Layout) hash(ctx context.Context, blob *Blob, buffer []byte, count func
 	return all, nil
 }
 
-// again repeats a call that a signal ended.
-func again(call func() error) error {
-	for {
-		if err := call(); err != syscall.EINTR {
-			return err
-		}
-	}
-}
-
 // look reads how a blob begins, and all of it if it may be a text. What cannot be read is damaged.
 func (f *follower) look(number int) error {
 	blob := &f.Blobs[number]
@@ -315,7 +321,7 @@ func (f *follower) look(number int) error {
 	case errors.Is(fault, syscall.ENOENT):
 		blob.absent = true
 		if blob.link {
-			f.Stray = append(f.Stray, f.relative(blob))
+			f.Stray = append(f.Stray, f.place(blob).path())
 		}
 	case fault != nil:
 		blob.damage = &Damage{blob.Digest, fault, true}
@@ -323,43 +329,59 @@ func (f *follower) look(number int) error {
 	return nil
 }
 
+// readSome reads from a file as far as one call does.
+func readSome(fd int, into []byte) (int, error) {
+	for {
+		n, err := syscall.Read(fd, into)
+		if err != syscall.EINTR {
+			return max(n, 0), err
+		}
+	}
+}
+
 // lookInto answers a fault of the blob, and an error that ends the reading.
 func (f *follower) lookInto(number int) (fault, err error) {
 	blob := &f.Blobs[number]
-	flags := syscall.O_RDONLY | syscall.O_CLOEXEC | syscall.O_NONBLOCK
+	flags := 0
 	if !blob.link {
-		flags |= syscall.O_NOFOLLOW
+		flags = syscall.O_NOFOLLOW
 	}
-	place, fd := f.place(blob), -1
-	if err := again(func() (err error) { fd, err = syscall.Open(place, flags, 0); return }); err != nil {
-		return &os.PathError{Op: "open", Path: place, Err: err}, nil
+	at := f.place(blob)
+	fd, err := f.tree.file(at, flags)
+	if err != nil {
+		return err, nil
 	}
 	defer syscall.Close(fd)
+	failed := func(what string, err error) error {
+		return &os.PathError{Op: what, Path: f.tree.at(at.path()), Err: err}
+	}
 	var stat syscall.Stat_t
 	if err := syscall.Fstat(fd, &stat); err != nil {
-		return &os.PathError{Op: "stat", Path: place, Err: err}, nil
+		return failed("stat", err), nil
 	}
 	if stat.Mode&syscall.S_IFMT != syscall.S_IFREG {
 		return syscall.ENOENT, nil
 	}
-	blob.Size, blob.file = stat.Size, identity{uint64(stat.Dev), stat.Ino}
+	blob.Size = stat.Size
 	if blob.changed = stat.Mtim.Nano(); stat.Ctim.Nano() > blob.changed {
 		blob.changed = stat.Ctim.Nano()
 	}
-	read := func(into []byte) (n int, err error) {
-		err = again(func() (err error) { n, err = syscall.Read(fd, into); return })
-		return max(n, 0), err
-	}
-	head, err := read(f.buffer[:headBytes])
+	head, err := readSome(fd, f.buffer[:headBytes])
 	small := head < headBytes && int64(head) == blob.Size
 	for err == nil && head == headBytes && len(bytes.TrimLeft(f.buffer[:head], spaces)) == 0 {
-		head, err = read(f.buffer[:headBytes])
+		head, err = readSome(fd, f.buffer[:headBytes])
 	}
 	if err != nil {
-		return &os.PathError{Op: "read", Path: place, Err: err}, nil
+		return failed("read", err), nil
 	}
 	if blob.Size == 0 && !blob.foreign && !matches(blob.Digest, nil) {
 		return errContent, nil
+	}
+	if f.verify && small && !blob.foreign {
+		if !matches(blob.Digest, f.buffer[:head]) {
+			return errContent, nil
+		}
+		blob.hashed = true
 	}
 	if !mayBeText(f.buffer[:head]) {
 		return nil, nil
@@ -367,25 +389,29 @@ func (f *follower) lookInto(number int) (fault, err error) {
 	text := f.buffer[:head]
 	if !small {
 		if _, err := syscall.Seek(fd, 0, io.SeekStart); err != nil {
-			return &os.PathError{Op: "seek", Path: place, Err: err}, nil
+			return failed("seek", err), nil
 		}
 		if blob.Size > mostText {
-			return f.pieces(number, read)
+			return f.pieces(number, fd)
 		}
-		if text, err = f.whole(int(blob.Size), read); err != nil {
-			return &os.PathError{Op: "read", Path: place, Err: err}, nil
+		if text, err = f.whole(int(blob.Size), fd); err != nil {
+			return failed("read", err), nil
 		}
 	}
-	c := parse(text)
+	c, told := f.glance.read(text)
+	if !told {
+		c = parse(text)
+	}
 	if c == nil {
 		return nil, nil
 	}
 	if err := f.take(number, text, c); err != nil {
 		return nil, err
 	}
-	if !blob.foreign && !matches(blob.Digest, text) {
+	if !blob.foreign && !blob.hashed && !matches(blob.Digest, text) {
 		return errContent, nil
 	}
+	blob.hashed = !blob.foreign
 	if c.fault != nil && (!errors.Is(c.fault, errNoJSON) || written(text)) {
 		blob.damage = &Damage{blob.Digest, c.fault, false}
 	}
@@ -424,7 +450,7 @@ func max(a, b int) int {
 }
 
 // whole reads all of a file.
-func (f *follower) whole(size int, read func([]byte) (int, error)) ([]byte, error) {
+func (f *follower) whole(size, fd int) ([]byte, error) {
 	if len(f.buffer) < size+1 {
 		f.buffer = make([]byte, 2*size+1)
 	}
@@ -433,7 +459,7 @@ func (f *follower) whole(size int, read func([]byte) (int, error)) ([]byte, erro
 		if all == len(f.buffer) {
 			f.buffer = append(f.buffer, make([]byte, len(f.buffer))...)
 		}
-		n, err := read(f.buffer[all:])
+		n, err := readSome(fd, f.buffer[all:])
 		if n == 0 || err != nil {
 			return f.buffer[:all], err
 		}
@@ -442,7 +468,7 @@ func (f *follower) whole(size int, read func([]byte) (int, error)) ([]byte, erro
 }
 
 // pieces scans and hashes a large text, piece by piece; pieces overlap, so that no name is cut.
-func (f *follower) pieces(number int, read func([]byte) (int, error)) (fault, err error) {
+func (f *follower) pieces(number, fd int) (fault, err error) {
 	blob := &f.Blobs[number]
 	if err := f.take(number, nil, &content{kind: Unknown}); err != nil {
 		return nil, err
@@ -453,7 +479,7 @@ func (f *follower) pieces(number int, read func([]byte) (int, error)) (fault, er
 		verifier = blob.Digest.Verifier()
 	}
 	for {
-		n, err := read(buffer[kept:])
+		n, err := readSome(fd, buffer[kept:])
 		if err != nil {
 			return err, nil
 		}

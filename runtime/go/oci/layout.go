@@ -12,7 +12,6 @@ import (
 	"encoding/json"
 	"errors"
 	"fmt"
-	"io"
 	"io/fs"
 	"os"
 	"path/filepath"
@@ -43,11 +42,8 @@ type Blob struct {
 	foreign bool // its algorithm is not known: it is never moved
 	absent  bool // it went while the layout was read, or its link leads nowhere
 	suspect bool // a list of manifests names it, and it is none
-	file    identity
+	hashed  bool // its content is what its name says
 }
-
-// identity tells files apart.
-type identity struct{ device, number uint64 }
 
 // Reference is an arrow between two objects, by their numbers. A subject's goes from what names it to what is named.
 type Reference struct {
@@ -80,6 +76,7 @@ type Layout struct {
 	Stray      []string    // what stands below blobs/ and is no blob, relative to Path; it is left alone
 	Shared     string      // why nothing may be moved here, if that is so
 
+	tree       *tree
 	entries    []descriptor // of index.json
 	index      []byte
 	tagged     []byte // index.json without the entries that have no tag
@@ -89,6 +86,10 @@ type Layout struct {
 	copies     []Blob                  // lie among what was moved, and are there besides
 	subjectsOf []named
 	began      time.Time
+	folder     struct { // the last one that was asked for
+		key  [2]string
+		path string
+	}
 }
 
 // Options of Open.
@@ -114,14 +115,15 @@ func (f *Fault) Unwrap() error { return f.Err }
 
 // Open reads a layout. It changes nothing.
 func Open(ctx context.Context, path string, o Options) (*Layout, error) {
-	l := &Layout{Path: path, holders: map[digest.Digest][]int{}, began: time.Now()}
+	l := &Layout{Path: path, tree: newTree(path), holders: map[digest.Digest][]int{}, began: time.Now()}
+	defer l.tree.close()
 	if err := l.readHead(); err != nil {
 		return nil, err
 	}
 	if err := l.list(); err != nil {
 		return nil, err
 	}
-	if err := l.follow(ctx); err != nil {
+	if err := l.follow(ctx, o.Verify); err != nil {
 		return nil, err
 	}
 	if o.Verify {
@@ -156,7 +158,7 @@ func (l *Layout) readHead() error {
 // list finds the blobs, in the order of their digests, and what stands among them that is none.
 func (l *Layout) list() error {
 	l.Shared = shared(l.Path)
-	if err := l.listFolder(blobs, ""); err != nil {
+	if err := l.listFolder(""); err != nil {
 		return err
 	}
 	if err := l.listMoved(); err != nil {
@@ -186,33 +188,36 @@ func (l *Layout) list() error {
 	return nil
 }
 
-// listFolder takes in the blobs of a folder that is laid out as blobs/ is.
-func (l *Layout) listFolder(folder, moved string) error {
-	algorithms, err := os.ReadDir(filepath.Join(l.Path, folder))
+// listFolder takes in the blobs of the layout, or of a folder of what was moved.
+func (l *Layout) listFolder(moved string) error {
+	top := blobsOf(moved)
+	var algorithms []string
+	err := l.tree.entries(top, func(name []byte, _ int) { algorithms = append(algorithms, string(name)) })
 	if errors.Is(err, fs.ErrNotExist) {
 		return nil
 	}
 	if err != nil {
 		return &Fault{Err: err}
 	}
+	sort.Strings(algorithms)
 	for _, algorithm := range algorithms {
-		folder := filepath.Join(folder, algorithm.Name())
-		info, err := os.Stat(filepath.Join(l.Path, folder))
+		folder := top + "/" + algorithm
+		info, err := os.Stat(l.tree.at(folder))
 		if err != nil || !info.IsDir() {
 			l.Stray = append(l.Stray, folder)
 			continue
 		}
-		known := digest.Algorithm(algorithm.Name()).Available()
+		known := digest.Algorithm(algorithm).Available()
+		prefix := algorithm + ":"
 		var names []digest.Digest
 		links := map[digest.Digest]bool{}
-		err = eachEntry(filepath.Join(l.Path, folder), func(file fs.DirEntry) {
-			name := digest.NewDigestFromEncoded(digest.Algorithm(algorithm.Name()), file.Name())
-			link := file.Type()&fs.ModeSymlink != 0
-			if !link && !file.Type().IsRegular() || known && !valid(name) {
-				l.Stray = append(l.Stray, filepath.Join(folder, file.Name()))
+		err = l.tree.entries(folder, func(file []byte, kind int) {
+			name := digest.Digest(prefix + string(file))
+			if kind != fileEntry && kind != linkEntry || known && !valid(name) {
+				l.Stray = append(l.Stray, folder+"/"+string(file))
 				return
 			}
-			if names = append(names, name); link {
+			if names = append(names, name); kind == linkEntry {
 				links[name] = true
 			}
 		})
@@ -230,27 +235,6 @@ func (l *Layout) listFolder(folder, moved string) error {
 	return nil
 }
 
-// eachEntry goes over a folder, some entries at a time.
-func eachEntry(path string, do func(fs.DirEntry)) error {
-	folder, err := os.Open(path)
-	if err != nil {
-		return err
-	}
-	defer folder.Close()
-	for {
-		some, err := folder.ReadDir(1024)
-		for _, one := range some {
-			do(one)
-		}
-		if errors.Is(err, io.EOF) {
-			return nil
-		}
-		if err != nil {
-			return err
-		}
-	}
-}
-
 // valid says whether a digest of a known algorithm is one.
 func valid(name digest.Digest) bool {
 	const prefix = "sha256:"
@@ -266,13 +250,22 @@ func valid(name digest.Digest) bool {
 	return true
 }
 
-// place is where a blob lies.
-func (l *Layout) place(blob *Blob) string {
-	algorithm, encoded, _ := strings.Cut(string(blob.Digest), ":")
-	if blob.Moved != "" {
-		return l.Path + "/" + movedFolder + "/" + blob.Moved + "/" + algorithm + "/" + encoded
+// blobsOf is the folder of the blobs, or of those that were moved at this time.
+func blobsOf(moved string) string {
+	if moved == "" {
+		return blobs
 	}
-	return l.Path + "/" + blobs + "/" + algorithm + "/" + encoded
+	return movedFolder + "/" + moved + "/" + blobs
+}
+
+// place is where a blob lies.
+func (l *Layout) place(blob *Blob) place {
+	algorithm, encoded, _ := strings.Cut(string(blob.Digest), ":")
+	key := [2]string{blob.Moved, algorithm}
+	if l.folder.key != key {
+		l.folder.key, l.folder.path = key, blobsOf(blob.Moved)+"/"+algorithm
+	}
+	return place{l.folder.path, encoded}
 }
 
 // find is the number of the object with this digest, and 0 if the layout has none.

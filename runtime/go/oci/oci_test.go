@@ -516,8 +516,9 @@ func TestSpelling(t *testing.T) {
 func TestLinks(t *testing.T) {
 	s := newStore(t)
 	image, dead := s.image("image", nil, s.layer("image")), s.image("dead", nil, s.layer("dead"))
-	s.list(image)
-	for _, one := range []v1.Descriptor{image, dead} {
+	nested := s.put(v1.MediaTypeImageIndex, text(v1.Index{Versioned: specs.Versioned{SchemaVersion: 2}, Manifests: []v1.Descriptor{s.image("nested", nil, s.layer("nested"))}}))
+	s.list(image, s.put(v1.MediaTypeImageIndex, text(v1.Index{Versioned: specs.Versioned{SchemaVersion: 2}, Manifests: []v1.Descriptor{nested}})))
+	for _, one := range []v1.Descriptor{image, dead, nested} {
 		place := filepath.Join(s.path, pathOf(one.Digest))
 		if err := os.Rename(place, filepath.Join(s.path, one.Digest.Encoded())); err != nil {
 			t.Fatal(err)
@@ -528,7 +529,7 @@ func TestLinks(t *testing.T) {
 	}
 	s.expect(s.dead())
 	loose := s.layer("loose")
-	if _, err := s.prune(0); err != nil || s.there(loose) || !s.there(image) || !s.there(dead) {
+	if _, err := s.prune(0); err != nil || s.there(loose) || !s.there(image) || !s.there(dead) || !s.there(nested) {
 		t.Error(err)
 	}
 	// One content under two names, one of which leads to the other.
@@ -580,12 +581,18 @@ func TestLock(t *testing.T) {
 		t.Fatal(err)
 	}
 	again()
-	// What a crash left locks nobody out.
-	s.write(".kullneyra-oci.lock", nil)
+	// Prune takes the lock itself, and plan does not ask for it.
 	if again, err = oci.Lock(s.path); err != nil {
 		t.Fatal(err)
 	}
+	if _, err := s.prune(0); !errors.Is(err, oci.ErrLocked) {
+		t.Error(err)
+	}
+	s.plan(oci.Settings{})
 	again()
+	if _, err := s.prune(0); err != nil {
+		t.Error(err)
+	}
 }
 
 func TestLimits(t *testing.T) {

@@ -8,7 +8,6 @@ import (
 	"io/fs"
 	"os"
 	"path/filepath"
-	"sort"
 	"syscall"
 	"time"
 
@@ -16,10 +15,8 @@ import (
 )
 
 const (
-	// lockFile stands in the layout while it is pruned. The lock goes with the process, so what a crash leaves locks nobody out.
-	lockFile = ".kullneyra-oci.lock"
 	// ownFolder is a folder of the layout that no reader looks at. Each prune moves what is dead into a folder of its own in
-	// it, which has the time as its name and is laid out as blobs/ is.
+	// it, which has the time as its name and is laid out as the layout is.
 	ownFolder   = ".kullneyra-oci"
 	movedFolder = ownFolder + "/dead"
 	timeFormat  = "20060102T150405.000000000Z"
@@ -38,17 +35,9 @@ var (
 
 // The calls that change something; tests let them fail.
 var (
-	renameFile = rename
-	removeFile = os.Remove
+	renameFile = (*tree).rename
+	removeFile = (*tree).remove
 )
-
-// rename is one call to the system.
-func rename(from, to string) error {
-	if err := again(func() error { return syscall.Rename(from, to) }); err != nil {
-		return &os.LinkError{Op: "rename", Old: from, New: to, Err: err}
-	}
-	return nil
-}
 
 // shared says why nothing may be moved in a layout.
 func shared(path string) string {
@@ -100,55 +89,31 @@ func (l *Layout) listMoved() error {
 			l.Stray = append(l.Stray, path)
 			continue
 		}
-		if err := l.listFolder(path, folder.Name()); err != nil {
+		if err := l.listFolder(folder.Name()); err != nil {
 			return err
 		}
 	}
 	return nil
 }
 
-// relative is where a blob lies in the layout.
-func (l *Layout) relative(blob *Blob) string {
-	path, err := filepath.Rel(l.Path, l.place(blob))
-	if err != nil {
-		return l.place(blob)
-	}
-	return path
-}
-
-// Lock keeps a second prune out until the function that it answers is called.
+// Lock keeps a second prune out until the function that it answers is called. The folder itself is locked, so that a full disk is
+// no hindrance, and the lock goes with the process.
 func Lock(path string) (func(), error) {
-	for {
-		file, err := os.OpenFile(filepath.Join(path, lockFile), os.O_CREATE|os.O_RDWR, 0o644)
-		if err != nil {
-			return nil, err
-		}
-		if err := syscall.Flock(int(file.Fd()), syscall.LOCK_EX|syscall.LOCK_NB); err != nil {
-			file.Close()
-			if errors.Is(err, syscall.EWOULDBLOCK) {
-				return nil, ErrLocked
-			}
-			return nil, err
-		}
-		// Whoever held it before may have taken the file away between opening and locking.
-		if same(file) {
-			return func() {
-				os.Remove(file.Name())
-				file.Close()
-			}, nil
-		}
-		file.Close()
-	}
-}
-
-// same says whether the open file is the one that stands under its name.
-func same(file *os.File) bool {
-	held, err := file.Stat()
+	folder, err := os.Open(path)
 	if err != nil {
-		return false
+		return nil, err
 	}
-	there, err := os.Stat(file.Name())
-	return err == nil && os.SameFile(held, there)
+	for err = syscall.EINTR; err == syscall.EINTR; {
+		err = syscall.Flock(int(folder.Fd()), syscall.LOCK_EX|syscall.LOCK_NB)
+	}
+	if err == nil {
+		return func() { folder.Close() }, nil
+	}
+	folder.Close()
+	if err == syscall.EWOULDBLOCK {
+		return nil, ErrLocked
+	}
+	return nil, &os.PathError{Op: "lock", Path: path, Err: err}
 }
 
 // What happens to a blob.
@@ -162,7 +127,7 @@ const (
 // Event is what happened, or could not be done.
 type Event struct {
 	What string
-	Blob Blob
+	Blob *Blob
 	Err  error
 }
 
@@ -180,9 +145,9 @@ type PruneSettings struct {
 type Result struct {
 	Layout  *Layout
 	Plan    *Plan
-	Moved   []Blob
-	PutBack []Blob
-	Deleted []Blob
+	Moved   []*Blob
+	PutBack []*Blob
+	Deleted []*Blob
 	Failed  []Event
 	Listed  int // entries that were taken out of index.json
 }
@@ -194,7 +159,7 @@ func (r *Result) done() bool { return len(r.Moved)+len(r.PutBack)+len(r.Deleted)
 type pruner struct {
 	*Result
 	settings PruneSettings
-	path     string
+	tree     *tree
 }
 
 // Prune moves what is dead into a folder of the layout that no reader looks at; looks at the layout again, and puts back what
@@ -219,10 +184,12 @@ func work(ctx context.Context, path string, s PruneSettings, do func(*pruner, co
 		return nil, err
 	}
 	defer unlock()
-	p := &pruner{&Result{}, s, path}
+	p := &pruner{&Result{}, s, newTree(path)}
+	defer p.tree.close()
 	if p.Layout, p.Plan, err = p.plan(ctx); err != nil {
 		return p.Result, err
 	}
+	p.Layout.tree = p.tree
 	if p.Layout.Shared != "" {
 		return p.Result, fmt.Errorf("%w: %s", ErrShared, p.Layout.Shared)
 	}
@@ -239,16 +206,16 @@ func work(ctx context.Context, path string, s PruneSettings, do func(*pruner, co
 	case err != nil:
 		return p.Result, err
 	case len(p.Failed) > 0 && p.done():
-		return p.Result, fmt.Errorf("%w: %d files could not be moved or deleted", ErrPartly, len(p.Failed))
+		return p.Result, fmt.Errorf("%w: %d files could not be moved or deleted, the first: %v", ErrPartly, len(p.Failed), p.Failed[0].Err)
 	case len(p.Failed) > 0:
-		return p.Result, fmt.Errorf("%d files could not be moved or deleted: %w", len(p.Failed), p.Failed[0].Err)
+		return p.Result, fmt.Errorf("%d files could not be moved or deleted, the first: %w", len(p.Failed), p.Failed[0].Err)
 	}
 	return p.Result, nil
 }
 
 // plan reads the layout and finds what is dead.
 func (p *pruner) plan(ctx context.Context) (*Layout, *Plan, error) {
-	l, err := Open(ctx, p.path, p.settings.Options)
+	l, err := Open(ctx, p.tree.path, p.settings.Options)
 	if err != nil {
 		return nil, nil, err
 	}
@@ -272,7 +239,7 @@ func (l *Layout) WithTags(s Settings, tags []string) (Settings, error) {
 	return s, nil
 }
 
-func (p *pruner) log(what string, blob Blob, err error) {
+func (p *pruner) log(what string, blob *Blob, err error) {
 	if err != nil {
 		p.Failed = append(p.Failed, Event{what, blob, err})
 	}
@@ -293,7 +260,7 @@ func (p *pruner) prune(ctx context.Context) error {
 	moved := p.move(ctx, p.Plan.Dead)
 	// Again, whatever the context says: what was moved is looked at once more.
 	gone := p.Plan.Moved
-	if changed, err := p.Layout.changed(moved); err != nil || changed {
+	if changed, err := p.Layout.changed(); err != nil || changed {
 		var plan *Plan
 		if err == nil {
 			// An entry without a tag that has come meanwhile counts.
@@ -330,14 +297,29 @@ func depth(blob *Blob) int {
 	return 2
 }
 
+// inOrder are these blobs by their depth, the least first or the greatest.
+func inOrder(all []*Blob, greatest bool) []*Blob {
+	out := make([]*Blob, 0, len(all))
+	for k := 0; k < 3; k++ {
+		deep := k
+		if greatest {
+			deep = 2 - k
+		}
+		for _, blob := range all {
+			if depth(blob) == deep {
+				out = append(out, blob)
+			}
+		}
+	}
+	return out
+}
+
 // move takes what is dead out of the sight of readers, and answers what it moved.
-func (p *pruner) move(ctx context.Context, dead []Blob) []Blob {
-	dead = append([]Blob(nil), dead...)
-	sort.SliceStable(dead, func(a, b int) bool { return depth(&dead[a]) < depth(&dead[b]) })
-	folder := time.Now().UTC().Format(timeFormat)
-	var moved []Blob
-	made := map[digest.Algorithm]error{}
-	for _, blob := range dead {
+func (p *pruner) move(ctx context.Context, dead []*Blob) []*Blob {
+	at := time.Now().UTC().Format(timeFormat)
+	moved := make([]*Blob, 0, len(dead))
+	made := map[string]error{}
+	for _, blob := range inOrder(dead, false) {
 		if ctx.Err() != nil {
 			break
 		}
@@ -345,54 +327,56 @@ func (p *pruner) move(ctx context.Context, dead []Blob) []Blob {
 			p.log(Moved, blob, errors.New("is never moved"))
 			continue
 		}
-		there := blob
-		there.Moved = folder
-		algorithm := blob.Digest.Algorithm()
-		if _, tried := made[algorithm]; !tried {
-			made[algorithm] = os.MkdirAll(filepath.Dir(p.Layout.place(&there)), 0o755)
-		}
-		err := made[algorithm]
-		if err == nil {
-			err = renameFile(p.Layout.place(&blob), p.Layout.place(&there))
+		from := p.Layout.place(blob)
+		to := place{movedFolder + "/" + at + "/" + from.folder, from.name}
+		err, tried := made[from.folder]
+		if !tried {
+			err = os.MkdirAll(p.tree.at(to.folder), 0o755)
+			made[from.folder] = err
 		}
 		if err == nil {
-			moved = append(moved, there)
-			p.Moved = append(p.Moved, blob)
+			err = renameFile(p.tree, from, to)
+		}
+		if err == nil {
+			blob.Moved = at
+			moved = append(moved, blob)
 		}
 		p.log(Moved, blob, err)
 	}
+	p.Moved = append(p.Moved, moved...)
 	return moved
 }
 
 // putBack moves blobs back, what is referred to before what refers.
-func (p *pruner) putBack(all []Blob) {
-	all = append([]Blob(nil), all...)
-	sort.SliceStable(all, func(a, b int) bool { return depth(&all[a]) > depth(&all[b]) })
-	for _, blob := range all {
-		there := blob
-		there.Moved = ""
+func (p *pruner) putBack(all []*Blob) {
+	for _, blob := range inOrder(all, true) {
+		from := p.Layout.place(blob)
+		back := *blob
+		back.Moved = ""
+		to := p.Layout.place(&back)
 		// Whoever wrote it anew meanwhile is not overwritten.
-		if _, err := os.Lstat(p.Layout.place(&there)); err == nil {
+		if _, err := os.Lstat(p.tree.at(to.path())); err == nil {
 			continue
 		}
-		err := os.MkdirAll(filepath.Dir(p.Layout.place(&there)), 0o755)
+		err := os.MkdirAll(p.tree.at(to.folder), 0o755)
 		if err == nil {
-			err = renameFile(p.Layout.place(&blob), p.Layout.place(&there))
+			err = renameFile(p.tree, from, to)
 		}
 		if err == nil {
-			p.PutBack = append(p.PutBack, there)
+			blob.Moved = ""
+			p.PutBack = append(p.PutBack, blob)
 		}
-		p.log(PutBack, there, err)
+		p.log(PutBack, blob, err)
 	}
 }
 
 // delete removes what was moved so long ago.
-func (p *pruner) delete(ctx context.Context, all []Blob) {
+func (p *pruner) delete(ctx context.Context, all []*Blob) {
 	for _, blob := range all {
 		if ctx.Err() != nil || !p.old(blob) {
 			continue
 		}
-		err := removeFile(p.Layout.place(&blob))
+		err := removeFile(p.tree, p.Layout.place(blob))
 		if err == nil {
 			p.Deleted = append(p.Deleted, blob)
 		}
@@ -402,7 +386,7 @@ func (p *pruner) delete(ctx context.Context, all []Blob) {
 
 // old says whether a blob has lain among what was moved for the retention, by the name of its folder and by the time at which
 // its own name was changed, when the layout was read.
-func (p *pruner) old(blob Blob) bool {
+func (p *pruner) old(blob *Blob) bool {
 	if p.settings.Retention <= 0 {
 		return true
 	}
@@ -410,7 +394,7 @@ func (p *pruner) old(blob Blob) bool {
 	if err != nil {
 		return false
 	}
-	info, err := os.Lstat(p.Layout.place(&blob))
+	info, err := os.Lstat(p.tree.at(p.Layout.place(blob).path()))
 	if err != nil {
 		return false
 	}
@@ -422,31 +406,36 @@ func (p *pruner) old(blob Blob) bool {
 	return p.Layout.began.Sub(at) >= p.settings.Retention
 }
 
-// tidy removes the folders that are empty.
-func (p *pruner) tidy() {
-	top := filepath.Join(p.path, movedFolder)
-	folders, _ := os.ReadDir(top)
-	for _, folder := range folders {
-		algorithms, _ := os.ReadDir(filepath.Join(top, folder.Name()))
-		for _, algorithm := range algorithms {
-			os.Remove(filepath.Join(top, folder.Name(), algorithm.Name()))
-		}
-		os.Remove(filepath.Join(top, folder.Name()))
+// tidy removes the folders of what was moved that are empty.
+func (p *pruner) tidy() { removeEmpty(p.tree.at(ownFolder)) }
+
+// removeEmpty removes a folder and those in it, as far as they hold no file.
+func removeEmpty(path string) {
+	if os.Remove(path) == nil {
+		return
 	}
-	os.Remove(top)
-	os.Remove(filepath.Join(p.path, ownFolder))
+	entries, _ := os.ReadDir(path)
+	for _, one := range entries {
+		if !one.IsDir() {
+			return
+		}
+	}
+	for _, one := range entries {
+		removeEmpty(filepath.Join(path, one.Name()))
+	}
+	os.Remove(path)
 }
 
 // changed says whether index.json or the names below blobs/ are others than they were, apart from what was moved.
-func (l *Layout) changed(moved []Blob) (bool, error) {
-	now := &Layout{Path: l.Path}
+func (l *Layout) changed() (bool, error) {
+	now := &Layout{Path: l.Path, tree: l.tree}
 	if err := now.readHead(); err != nil {
 		return false, err
 	}
 	if !bytes.Equal(now.index, l.index) || shared(l.Path) != l.Shared {
 		return true, nil
 	}
-	// What is to be there: each name once, and nothing else.
+	// What is to be there: each name once, and nothing else. What was moved has its mark.
 	due, count := make([]bool, len(l.Blobs)), 0
 	for number := 1; number < len(l.Blobs); number++ {
 		if l.Blobs[number].Moved == "" {
@@ -454,33 +443,30 @@ func (l *Layout) changed(moved []Blob) (bool, error) {
 			count++
 		}
 	}
-	for _, blob := range moved {
-		if number, there := l.Number(blob.Digest); there && due[number] {
-			due[number] = false
-			count--
-		}
-	}
 	strays := map[string]bool{}
 	for _, path := range l.Stray {
 		strays[path] = true
 	}
-	algorithms, err := os.ReadDir(filepath.Join(l.Path, blobs))
+	var algorithms []string
+	err := l.tree.entries(blobs, func(name []byte, _ int) { algorithms = append(algorithms, string(name)) })
 	if err != nil && !errors.Is(err, fs.ErrNotExist) {
 		return false, err
 	}
 	changed := false
 	for _, algorithm := range algorithms {
-		folder := filepath.Join(blobs, algorithm.Name())
+		folder := blobs + "/" + algorithm
 		if strays[folder] {
 			continue
 		}
-		err := eachEntry(filepath.Join(l.Path, folder), func(file fs.DirEntry) {
-			number := l.find(digest.Digest(algorithm.Name() + ":" + file.Name()))
+		name := []byte(algorithm + ":")
+		err := l.tree.entries(folder, func(file []byte, kind int) {
+			name = append(name[:len(algorithm)+1], file...)
+			number := l.find(digest.Digest(name))
 			switch {
-			case number > 0 && due[number] && l.Blobs[number].link == (file.Type()&fs.ModeSymlink != 0):
+			case number > 0 && due[number] && l.Blobs[number].link == (kind == linkEntry):
 				due[number] = false
 				count--
-			case number == 0 && strays[filepath.Join(folder, file.Name())]:
+			case number == 0 && strays[folder+"/"+string(file)]:
 			default:
 				changed = true
 			}
@@ -527,5 +513,5 @@ func (l *Layout) writeIndex() error {
 	if !bytes.Equal(now, l.index) {
 		return &Fault{Err: errors.New("index.json has changed meanwhile; nothing was taken out of it")}
 	}
-	return renameFile(file.Name(), path)
+	return renameFile(l.tree, place{"", filepath.Base(file.Name())}, place{"", indexFile})
 }

@@ -172,15 +172,15 @@ func TestTagWhileMoving(t *testing.T) {
 		live, dead := f.image("live", "a"), f.image("dead", "b", "c", "d")
 		f.tag(live[0], "live")
 		count := 0
-		renameFile = func(from, to string) error {
+		renameFile = func(in *tree, from, to place) error {
 			if count == when {
 				f.tag(dead[0], "pushed")
 			}
 			count++
-			return os.Rename(from, to)
+			return in.rename(from, to)
 		}
 		result, err := f.prune(PruneSettings{})
-		renameFile = rename
+		renameFile = (*tree).rename
 		if err != nil || !f.there(dead...) || !f.there(live...) || len(result.Deleted) != 0 {
 			t.Error(when, err, result.Deleted)
 		}
@@ -193,14 +193,14 @@ func TestSignatureWhileMoving(t *testing.T) {
 	live, dead := f.image("live", "a"), f.image("dead", "b")
 	f.tag(live[0], "live")
 	var signature digest.Digest
-	renameFile = func(from, to string) error {
+	renameFile = func(in *tree, from, to place) error {
 		if signature == "" {
 			signature = f.put(fmt.Sprintf(`{"schemaVersion":2,"layers":[{"digest":"%s"}],"subject":{"digest":"%s"}}`, dead[1], live[0]))
 		}
-		return rename(from, to)
+		return in.rename(from, to)
 	}
 	_, err := f.prune(PruneSettings{})
-	renameFile = rename
+	renameFile = (*tree).rename
 	if err != nil || !f.there(signature, dead[1]) || !f.there(live...) || f.there(dead[0]) {
 		t.Error(err)
 	}
@@ -213,8 +213,8 @@ func TestUntaggedWhileMoving(t *testing.T) {
 	f.tag(live[0], "live")
 	f.tag(old[0], "")
 	count := 0
-	renameFile = func(from, to string) error {
-		err := rename(from, to)
+	renameFile = func(in *tree, from, to place) error {
+		err := in.rename(from, to)
 		if count++; count == 2 { // the first is index.json
 			f.list = f.list[:1]
 			f.tag(dead[0], "")
@@ -222,7 +222,7 @@ func TestUntaggedWhileMoving(t *testing.T) {
 		return err
 	}
 	result, err := f.prune(PruneSettings{Settings: Settings{Untagged: true}})
-	renameFile = rename
+	renameFile = (*tree).rename
 	if err != nil || !f.there(dead...) || !f.there(live...) || f.there(old[0]) || result.Listed != 1 {
 		t.Error(err, result.Deleted)
 	}
@@ -233,12 +233,12 @@ func TestUnreadableWhileMoving(t *testing.T) {
 	f := newFolder(t)
 	live, dead := f.image("live", "a"), f.image("dead", "b")
 	f.tag(live[0], "live")
-	renameFile = func(from, to string) error {
+	renameFile = func(in *tree, from, to place) error {
 		f.write("index.json", "")
-		return os.Rename(from, to)
+		return in.rename(from, to)
 	}
 	_, err := f.prune(PruneSettings{})
-	renameFile = rename
+	renameFile = (*tree).rename
 	if !errors.Is(err, ErrChanged) || errors.Is(err, ErrPartly) || !f.there(dead...) || !f.there(live...) {
 		t.Error(err)
 	}
@@ -249,20 +249,20 @@ func TestFaultsAtRename(t *testing.T) {
 	f := newFolder(t)
 	f.tag(f.image("live", "a")[0], "live")
 	dead := f.image("dead", "b", "c", "d")
-	fails := func(name digest.Digest, do func(string, string) error) func(string, string) error {
-		return func(from, to string) error {
-			if strings.HasSuffix(from, name.Encoded()) {
-				return errors.New("no")
-			}
-			return do(from, to)
+	renameFile = func(in *tree, from, to place) error {
+		if from.name == dead[2].Encoded() {
+			return errors.New("no")
 		}
+		return in.rename(from, to)
 	}
-	renameFile = fails(dead[2], os.Rename)
-	removeFile = func(path string) error {
-		return fails(dead[3], func(path, _ string) error { return os.Remove(path) })(path, "")
+	removeFile = func(in *tree, at place) error {
+		if at.name == dead[3].Encoded() {
+			return errors.New("no")
+		}
+		return in.remove(at)
 	}
 	result, err := f.prune(PruneSettings{})
-	renameFile, removeFile = rename, os.Remove
+	renameFile, removeFile = (*tree).rename, (*tree).remove
 	if !errors.Is(err, ErrPartly) || len(result.Failed) != 2 || len(result.Moved) != 3 || len(result.Deleted) != 2 || !f.there(dead[2]) {
 		t.Error(err, result.Failed, result.Moved, result.Deleted)
 	}
@@ -271,9 +271,9 @@ func TestFaultsAtRename(t *testing.T) {
 	}
 	// Nothing done is another fault.
 	dead = f.image("dead")
-	renameFile = func(string, string) error { return errors.New("no") }
+	renameFile = func(*tree, place, place) error { return errors.New("no") }
 	_, err = f.prune(PruneSettings{})
-	renameFile = rename
+	renameFile = (*tree).rename
 	if err == nil || errors.Is(err, ErrPartly) || !f.there(dead[0]) {
 		t.Error(err)
 	}
@@ -323,9 +323,9 @@ func TestCancelled(t *testing.T) {
 	live, dead := f.image("live", "a"), f.image("dead", "b", "c")
 	f.tag(live[0], "live")
 	ctx, cancel := context.WithCancel(context.Background())
-	renameFile = func(from, to string) error { cancel(); return os.Rename(from, to) }
+	renameFile = func(in *tree, from, to place) error { cancel(); return in.rename(from, to) }
 	result, err := Prune(ctx, f.path, PruneSettings{})
-	renameFile = rename
+	renameFile = (*tree).rename
 	if !errors.Is(err, ErrPartly) || len(result.Moved) != 1 || len(result.Deleted) != 0 || !f.there(live...) {
 		t.Error(err, result.Moved)
 	}
@@ -467,34 +467,4 @@ func TestWhy(t *testing.T) {
 	if _, err = l.Why(context.Background(), digest.FromString("nowhere"), Settings{}); err == nil {
 		t.Error("a blob that is not there")
 	}
-}
-
-// Whatever a text is, reading it ends without a panic; every valid digest of a descriptor and of a subject is found by the scan,
-// in the text or beside it.
-func FuzzParse(f *testing.F) {
-	name := digest.FromString("x")
-	for _, text := range []string{
-		``, `{`, `{}`, ` {"layers":[]}`, `{"manifests":null}`, `{"layers":[{"digest":"` + string(name) + `"}]}`, `{"layers":[{"digest":"sha256:\u0061"}]}`,
-		`{"config":{"digest":"` + string(name) + `","data":"e30="}}`, `{"subject":{"digest":"` + string(name) + `","size":"x"}}`, `{"data":"eyJkYXRhIjoiZTMwPSJ9","layers":[[]]}`,
-		`{"fsLayers":[{"blobSum":"` + string(name) + `"}]}`, `{"layers":[{"digest":"sha256:2\u0064711642b726b04401627ca9fbac32f5c8530fb1903cc4db02258717921a4881"}]}`,
-	} {
-		f.Add([]byte(text))
-	}
-	f.Fuzz(func(t *testing.T, text []byte) {
-		c := parse(text)
-		if c == nil {
-			return
-		}
-		seen := string(text) + "\n" + string(c.more)
-		for _, one := range c.refers {
-			if one.Digest.Validate() == nil && !strings.Contains(seen, one.Digest.Encoded()) {
-				t.Errorf("%s is not seen in %q", one.Digest, text)
-			}
-		}
-		for _, one := range c.subjects {
-			if one.Validate() == nil && !strings.Contains(seen, one.Encoded()) {
-				t.Errorf("%s is not seen in %q", one, text)
-			}
-		}
-	})
 }

@@ -6,11 +6,14 @@ import (
 	"sync"
 )
 
-// verify hashes every blob that is there, on all cores, with one buffer each. What does not match is damaged.
+// verify hashes every blob that is there and was not hashed yet, on all cores, with one buffer each. What does not match is damaged.
 func (l *Layout) verify(ctx context.Context, progress func(done, all int64)) error {
 	var all, done int64
-	for _, blob := range l.Blobs[1:] {
-		all += blob.Size
+	for k := range l.Blobs[1:] {
+		blob := &l.Blobs[1+k]
+		if all += blob.Size; blob.hashed {
+			done += blob.Size
+		}
 	}
 	var lock sync.Mutex
 	next := 0
@@ -36,7 +39,7 @@ func (l *Layout) verify(ctx context.Context, progress func(done, all int64)) err
 			defer workers.Done()
 			buffer := make([]byte, 1<<17)
 			for blob := take(); blob != nil && ctx.Err() == nil; blob = take() {
-				if blob.absent || blob.foreign || blob.damage != nil && blob.damage.content {
+				if blob.hashed || blob.absent || blob.foreign || blob.damage != nil && blob.damage.content {
 					continue
 				}
 				if _, err := l.hash(ctx, blob, buffer, count); err != nil {

@@ -14,6 +14,7 @@ import (
 	"strings"
 	"syscall"
 	"time"
+	"unsafe"
 
 	"github.com/docker/go-units"
 	digest "github.com/opencontainers/go-digest"
@@ -58,8 +59,9 @@ func main() {
 
 // terminal says whether someone looks on.
 func terminal(file *os.File) bool {
-	info, err := file.Stat()
-	return err == nil && info.Mode()&os.ModeCharDevice != 0
+	var settings syscall.Termios
+	_, _, number := syscall.Syscall(syscall.SYS_IOCTL, file.Fd(), syscall.TCGETS, uintptr(unsafe.Pointer(&settings)))
+	return number == 0
 }
 
 // run is the command; it answers the exit status.
@@ -74,7 +76,7 @@ func run(ctx context.Context, words []string, out, said io.Writer) int {
 		return statusDone
 	}
 	status := statusOf(err, c.began)
-	if c.machine && c.began {
+	if c.machine || asksJSON(words) {
 		c.printFailure(ran.Name(), err, status)
 	}
 	fmt.Fprintln(said, "kullneyra-oci:", plain(err.Error()))
@@ -82,6 +84,19 @@ func run(ctx context.Context, words []string, out, said io.Writer) int {
 		fmt.Fprintf(said, "usage: %s\n", ran.UseLine())
 	}
 	return status
+}
+
+// asksJSON says whether --json stands among the words: a wrong one before it keeps it from being read as an option.
+func asksJSON(words []string) bool {
+	for _, word := range words {
+		switch word {
+		case "--":
+			return false
+		case "--json", "--json=true":
+			return true
+		}
+	}
+	return false
 }
 
 // statusOf is the exit status: what goes wrong before the work begins is a fault of the command line.
@@ -116,6 +131,7 @@ type command struct {
 	keep                              []string
 	grace, retention                  time.Duration
 	result                            *answer
+	scratch                           []byte
 }
 
 func (c *command) root() *cobra.Command {
@@ -314,7 +330,7 @@ func (c *command) log(event oci.Event) {
 	if event.Err != nil {
 		fmt.Fprintf(c.said, "not %s: %s: %s\n", event.What, event.Blob.Digest, plain(event.Err.Error()))
 	} else if !c.machine {
-		fmt.Fprintf(c.out, "%s  %s  %s  %s\n", event.What, event.Blob.Digest, size(event.Blob.Size), event.Blob.Kind)
+		c.line(event.What+"  ", event.Blob)
 	}
 }
 

@@ -3,7 +3,6 @@ package main
 import (
 	"encoding/json"
 	"fmt"
-	"text/tabwriter"
 
 	digest "github.com/opencontainers/go-digest"
 	"kullneyra.example/go/oci"
@@ -41,14 +40,29 @@ func (c *command) tell(layout *oci.Layout, plan *oci.Plan) {
 	}
 }
 
+// line is a blob for people: digest, size, kind.
+func (c *command) line(before string, blob *oci.Blob) error {
+	size := size(blob.Size)
+	line := append(append(append(c.scratch[:0], before...), blob.Digest...), "          "[min(len(size), 9):]...)
+	line = append(append(append(append(line, size...), "  "...), blob.Kind...), '\n')
+	c.scratch = line
+	_, err := c.out.Write(line)
+	return err
+}
+
+func min(a, b int) int {
+	if a < b {
+		return a
+	}
+	return b
+}
+
 // table is the plan for people.
 func (c *command) table(plan *oci.Plan, verb string) error {
-	table := tabwriter.NewWriter(c.out, 0, 0, 2, ' ', 0)
 	for _, blob := range plan.Dead {
-		fmt.Fprintf(table, "%s\t%s\t%s\n", blob.Digest, size(blob.Size), blob.Kind)
-	}
-	if err := table.Flush(); err != nil {
-		return err
+		if err := c.line("", blob); err != nil {
+			return err
+		}
 	}
 	_, err := fmt.Fprintf(c.out, "%d blobs dead, %s %s, %d objects live\n", len(plan.Dead), size(int64(plan.Freed)), verb, plan.Live)
 	if err == nil && len(plan.Moved)+len(plan.Return) > 0 {
@@ -57,7 +71,7 @@ func (c *command) table(plan *oci.Plan, verb string) error {
 	return err
 }
 
-func bytesOf(all []oci.Blob) (sum int64) {
+func bytesOf(all []*oci.Blob) (sum int64) {
 	for _, blob := range all {
 		sum += blob.Size
 	}
@@ -118,7 +132,7 @@ type answer struct {
 	Failed        []faultJSON   `json:"failed"`
 }
 
-func listOf(all []oci.Blob) []blobJSON {
+func listOf(all []*oci.Blob) []blobJSON {
 	out := []blobJSON{}
 	for _, blob := range all {
 		out = append(out, blobJSON{blob.Digest, blob.Size, blob.Kind})
