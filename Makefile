@@ -1,8 +1,8 @@
 # `make test` is the gate; `make run` builds what it needs and runs the main job on the sample store.
 # `make install PREFIX=/usr/local DESTDIR=` installs program, library, header and kullneyra.pc, and kullneyra-oci where Go is.
 # `make compare CASES=n SEED=s` compares the library with the reference for longer than the gate does.
-# `make oci` builds target/bin/kullneyra-oci, the command over an OCI image layout.
-# `make oci-stress` runs 600 pushes beside prunes and 200 kills, some minutes.
+# `make oci` builds target/bin/kullneyra-oci, the command over an OCI image layout or the folder of a registry.
+# `make oci-stress` runs 800 pushes beside prunes and 200 kills, some minutes.
 # `make course` opens the page that draws a run, turn by turn.
 # `make deal` builds what deals the cards and seeds of a case, for tools/case.py.
 # `make pause` builds target/bin/pause, the program that stops a collection and goes on.
@@ -40,7 +40,7 @@ library: target/staticlib/libkullneyra.a
 target/staticlib/libkullneyra.a: tools/library crates.txt $(shell find crates -type f)
 	@tools/library
 
-# The command over an OCI image layout; needs Go and the Debian packages that runtime/go/packages lists, and asks for them before
+# The command over an OCI image layout or the folder of a registry; needs Go and the Debian packages that runtime/go/packages lists, and asks for them before
 # anything is proved.
 oci:
 	@bash -c '. tools/need-packages && need_packages oci runtime/go/packages'
@@ -49,6 +49,7 @@ oci:
 
 oci-stress: oci
 	@PYTHONDONTWRITEBYTECODE=1 tests/go/stress
+	@PYTHONDONTWRITEBYTECODE=1 tests/registry/stress
 
 # The programs behind the course: `steps` takes the turns of a case one by one, `deal` deals its cards and seeds.
 steps: target/course/steps

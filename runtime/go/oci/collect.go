@@ -5,6 +5,7 @@ import (
 	"encoding/binary"
 	"errors"
 	"fmt"
+	"os"
 	"sort"
 	"time"
 
@@ -26,13 +27,13 @@ type limits struct{ objects, references int }
 
 var graphLimits = limits{kullneyra.MostObjects, kullneyra.MostReferences}
 
-// ErrTooLarge says that a layout does not fit, not even in slices.
-var ErrTooLarge = errors.New("the layout is too large")
+// ErrTooLarge says that a store does not fit, not even in slices.
+var ErrTooLarge = errors.New("the store is too large")
 
-// slice is a part of a layout: every object with an arrow out of it, and some of the others. Nothing goes out of those
+// slice is a part of a store: every object with an arrow out of it, and some of the others. Nothing goes out of those
 // others, so what is dead in a slice is dead in the whole, and what lives lives.
 type slice struct {
-	objects    []int // the layout's numbers, ascending; the first is index.json
+	objects    []int // the store's numbers, ascending; the first holds from outside
 	references []Reference
 }
 
@@ -46,21 +47,21 @@ func (s slice) places(objects []int) []int {
 }
 
 // catalogue is the slice as store.cat, with leases on these objects.
-func (l *Layout) catalogue(s slice, keep []int) []byte {
+func (s *Store) catalogue(of slice, keep []int) []byte {
 	var out []byte
 	record := func(kind, length uint16) {
 		out = binary.LittleEndian.AppendUint16(binary.LittleEndian.AppendUint16(out, length), kind)
 	}
 	word := func(number int) { out = binary.LittleEndian.AppendUint32(out, uint32(number)) }
 	record(headerKind, headerLength)
-	word(len(s.objects))
-	word(len(s.references))
+	word(len(of.objects))
+	word(len(of.references))
 	word(0)
-	for _, number := range s.objects {
+	for _, number := range of.objects {
 		record(objectKind, objectLength)
-		out = binary.LittleEndian.AppendUint64(out, uint64(l.Blobs[number].Size))
+		out = binary.LittleEndian.AppendUint64(out, uint64(s.Blobs[number].Size))
 	}
-	for _, reference := range s.references {
+	for _, reference := range of.references {
 		kind := uint16(referenceKind)
 		if reference.Subject {
 			kind = subjectKind
@@ -77,10 +78,10 @@ func (l *Layout) catalogue(s slice, keep []int) []byte {
 }
 
 // kept are the numbers of digests that are to be kept.
-func (l *Layout) kept(keep []digest.Digest) ([]int, error) {
+func (s *Store) kept(keep []digest.Digest) ([]int, error) {
 	var all []int
 	for _, name := range keep {
-		number, there := l.Number(name)
+		number, there := s.Number(name)
 		if !there {
 			return nil, &Fault{name, errors.New("is to be kept and is not there")}
 		}
@@ -89,44 +90,44 @@ func (l *Layout) kept(keep []digest.Digest) ([]int, error) {
 	return all, nil
 }
 
-// Tags are the digests that index.json lists under a tag.
-func (l *Layout) Tags(tag string) []digest.Digest {
-	var all []digest.Digest
-	for _, one := range l.entries {
-		if tagOf(one) == tag {
-			all = append(all, one.Digest)
+// Tags are those under which a digest is listed; one that is listed without a tag adds an empty one.
+func (s *Store) Tags(name digest.Digest) []string {
+	var all []string
+	for _, one := range s.top.entries {
+		if one.Digest == name {
+			all = append(all, one.tag)
 		}
 	}
 	return all
 }
 
-// whole is the layout as one slice.
-func (l *Layout) whole() slice {
-	s := slice{objects: make([]int, len(l.Blobs)), references: l.References}
-	for number := range s.objects {
-		s.objects[number] = number
+// whole is the store as one slice.
+func (s *Store) whole() slice {
+	cut := slice{objects: make([]int, len(s.Blobs)), references: s.References}
+	for number := range cut.objects {
+		cut.objects[number] = number
 	}
-	return s
+	return cut
 }
 
-// Catalogue is the layout as store.cat, with leases on these digests. A digest that is not there is an error.
-func (l *Layout) Catalogue(keep []digest.Digest) ([]byte, error) {
-	numbers, err := l.kept(keep)
+// Catalogue is the store as store.cat, with leases on these digests. A digest that is not there is an error.
+func (s *Store) Catalogue(keep []digest.Digest) ([]byte, error) {
+	numbers, err := s.kept(keep)
 	if err != nil {
 		return nil, err
 	}
-	return l.catalogue(l.whole(), numbers), nil
+	return s.catalogue(s.whole(), numbers), nil
 }
 
 // slices cuts the graph of these references so that each part fits.
-func (l *Layout) slices(references []Reference, keep []int, most limits) ([]slice, error) {
-	if len(l.Blobs) <= most.objects && len(references) <= most.references {
-		s := l.whole()
-		s.references = references
-		return []slice{s}, nil
+func (s *Store) slices(references []Reference, keep []int, most limits) ([]slice, error) {
+	if len(s.Blobs) <= most.objects && len(references) <= most.references {
+		cut := s.whole()
+		cut.references = references
+		return []slice{cut}, nil
 	}
 	// What has an arrow out of it is in every slice, and so is what is kept.
-	inner := make([]bool, len(l.Blobs))
+	inner := make([]bool, len(s.Blobs))
 	inner[0] = true
 	for _, reference := range references {
 		if reference.Subject {
@@ -139,7 +140,7 @@ func (l *Layout) slices(references []Reference, keep []int, most limits) ([]slic
 		inner[number] = true
 	}
 	var common []int
-	named := make([]int, len(l.Blobs)) // references to what has none
+	named := make([]int, len(s.Blobs)) // references to what has none
 	between := 0
 	for _, reference := range references {
 		switch {
@@ -157,7 +158,7 @@ func (l *Layout) slices(references []Reference, keep []int, most limits) ([]slic
 		}
 	}
 	refused := func(count int, what string, limit int) error {
-		return fmt.Errorf("%w: %d %s, where one collection takes %d; split the layout, or take tags out of it and prune in steps", ErrTooLarge, count, what, limit)
+		return fmt.Errorf("%w: %d %s, where one collection takes %d; split the store, or take tags out of it and prune in steps", ErrTooLarge, count, what, limit)
 	}
 	if len(common) >= most.objects {
 		return nil, refused(len(common), "manifests and indexes", most.objects-1)
@@ -167,7 +168,7 @@ func (l *Layout) slices(references []Reference, keep []int, most limits) ([]slic
 	}
 	var parts [][]int
 	part, count := []int(nil), between
-	for number := range l.Blobs {
+	for number := range s.Blobs {
 		if inner[number] {
 			continue
 		}
@@ -181,29 +182,29 @@ func (l *Layout) slices(references []Reference, keep []int, most limits) ([]slic
 	}
 	parts = append(parts, part)
 	var all []slice
-	place := make([]int, len(l.Blobs))
+	place := make([]int, len(s.Blobs))
 	for _, part := range parts {
-		s := slice{objects: append(append([]int(nil), common...), part...)}
-		sort.Ints(s.objects)
+		cut := slice{objects: append(append([]int(nil), common...), part...)}
+		sort.Ints(cut.objects)
 		for number := range place {
 			place[number] = -1
 		}
-		for k, number := range s.objects {
+		for k, number := range cut.objects {
 			place[number] = k
 		}
 		for _, one := range references {
 			if from, to := place[one.From], place[one.To]; from >= 0 && to >= 0 {
-				s.references = append(s.references, Reference{from, to, one.Subject})
+				cut.references = append(cut.references, Reference{from, to, one.Subject})
 			}
 		}
-		all = append(all, s)
+		all = append(all, cut)
 	}
 	return all, nil
 }
 
 // Plan is what a finished collection found dead.
 type Plan struct {
-	Dead    []*Blob // below blobs/, by number
+	Dead    []*Blob // in their places, by number
 	Freed   uint64
 	Live    uint64
 	Missing []Missing
@@ -212,7 +213,7 @@ type Plan struct {
 	// What was moved before.
 	Return []*Blob // live by now: to be put back
 	Moved  []*Blob // dead still
-	// Entries of index.json without a tag, and what would be freed besides if they were taken out.
+	// What is listed without a tag, and what would be freed besides if they were taken out.
 	Untagged      int
 	UntaggedFreed uint64
 
@@ -237,46 +238,46 @@ func RoundRobin(workers uint32, turns int) Order {
 	return Order{kullneyra.Settings{Workers: workers, Batch: batch, Cutoff: cutoff}, schedule}
 }
 
-// Store is a layout, or a slice of it, as the proved reader read it, with what is kept as leases.
-type Store struct {
+// Graph is a store, or a slice of it, as the proved reader read it, with what is kept as leases.
+type Graph struct {
 	graph  kullneyra.Graph
 	sizes  []uint64
 	starts []uint32
 }
 
-// Read makes the catalogue of the layout, with leases on these digests, and lets the proved reader read it.
-func (l *Layout) Read(keep []digest.Digest) (*Store, error) {
-	numbers, err := l.kept(keep)
+// Read makes the catalogue of the store, with leases on these digests, and lets the proved reader read it.
+func (s *Store) Read(keep []digest.Digest) (*Graph, error) {
+	numbers, err := s.kept(keep)
 	if err != nil {
 		return nil, err
 	}
-	return l.read(l.whole(), numbers)
+	return s.read(s.whole(), numbers)
 }
 
-func (l *Layout) read(of slice, keep []int) (*Store, error) {
-	catalogue := l.catalogue(of, keep)
+func (s *Store) read(of slice, keep []int) (*Graph, error) {
+	catalogue := s.catalogue(of, keep)
 	refused := func(err error) error {
-		return fmt.Errorf("a layout of %d objects, %d references and %d kept: %w", len(of.objects), len(of.references), len(keep), err)
+		return fmt.Errorf("a store of %d objects, %d references and %d kept: %w", len(of.objects), len(of.references), len(keep), err)
 	}
 	head, err := kullneyra.Header(catalogue)
 	if err != nil {
 		return nil, refused(err)
 	}
-	s := &Store{
+	graph := &Graph{
 		graph:  kullneyra.Graph{Offsets: make([]uint32, head.N+1), Targets: make([]uint32, head.M)},
 		sizes:  make([]uint64, head.N),
 		starts: make([]uint32, kullneyra.Starts),
 	}
-	store, err := kullneyra.Read(catalogue, s.graph.Offsets, s.graph.Targets, s.sizes, s.starts)
+	store, err := kullneyra.Read(catalogue, graph.graph.Offsets, graph.graph.Targets, graph.sizes, graph.starts)
 	if err != nil {
 		return nil, refused(err)
 	}
-	s.starts = s.starts[:store.Starts]
-	return s, nil
+	graph.starts = graph.starts[:store.Starts]
+	return graph, nil
 }
 
 // hops is how many references lead to each object, at least.
-func (s *Store) hops() ([]uint32, error) {
+func (s *Graph) hops() ([]uint32, error) {
 	n := len(s.sizes)
 	words, err := kullneyra.HopWords(uint32(n))
 	if err != nil {
@@ -288,7 +289,7 @@ func (s *Store) hops() ([]uint32, error) {
 
 // Rounds is how many rounds of so many workers finish every collection of the store: demand 3's bound, 7R + 4W + 2. R, the
 // references that leave reachable objects, is told by the hops.
-func (s *Store) Rounds(workers uint32) (int, error) {
+func (s *Graph) Rounds(workers uint32) (int, error) {
 	hops, err := s.hops()
 	if err != nil {
 		return 0, err
@@ -303,7 +304,7 @@ func (s *Store) Rounds(workers uint32) (int, error) {
 }
 
 // Enough is the shortest round-robin order that the bound guarantees to finish.
-func (s *Store) Enough(workers uint32) (Order, error) {
+func (s *Graph) Enough(workers uint32) (Order, error) {
 	rounds, err := s.Rounds(workers)
 	if err != nil {
 		return Order{}, err
@@ -312,7 +313,7 @@ func (s *Store) Enough(workers uint32) (Order, error) {
 }
 
 // SeedOrder is the order of as many rounds of cards drawn from a seed.
-func (s *Store) SeedOrder(seed kullneyra.Seed, workers uint32) (Order, error) {
+func (s *Graph) SeedOrder(seed kullneyra.Seed, workers uint32) (Order, error) {
 	rounds, err := s.Rounds(workers)
 	if err != nil {
 		return Order{}, err
@@ -332,7 +333,7 @@ func (s *Store) SeedOrder(seed kullneyra.Seed, workers uint32) (Order, error) {
 var ErrUnfinished = errors.New("the schedule does not finish the collection, so nothing is known to be dead")
 
 // Dead runs the proved marker and sweep on the store, and answers the numbers of what is dead.
-func (s *Store) Dead(order Order) ([]uint32, error) {
+func (s *Graph) Dead(order Order) ([]uint32, error) {
 	n, workers := len(s.sizes), int(order.Settings.Workers)
 	buffers := kullneyra.Buffers{
 		Marks:   make([]byte, n),
@@ -355,17 +356,17 @@ func (s *Store) Dead(order Order) ([]uint32, error) {
 }
 
 // mark says of each object whether it lives, by a collection of one worker for each slice.
-func (l *Layout) mark(ctx context.Context, references []Reference, keep []int, most limits) ([]bool, error) {
-	parts, err := l.slices(references, keep, most)
+func (s *Store) mark(ctx context.Context, references []Reference, keep []int, most limits) ([]bool, error) {
+	parts, err := s.slices(references, keep, most)
 	if err != nil {
 		return nil, err
 	}
-	live, seen := make([]bool, len(l.Blobs)), make([]bool, len(l.Blobs))
+	live, seen := make([]bool, len(s.Blobs)), make([]bool, len(s.Blobs))
 	for _, part := range parts {
 		if err := ctx.Err(); err != nil {
 			return nil, err
 		}
-		store, err := l.read(part, part.places(keep))
+		store, err := s.read(part, part.places(keep))
 		if err != nil {
 			return nil, err
 		}
@@ -383,7 +384,7 @@ func (l *Layout) mark(ctx context.Context, references []Reference, keep []int, m
 		}
 		for k, number := range part.objects {
 			if seen[number] && live[number] == is[k] {
-				return nil, fmt.Errorf("%s lives in one slice and is dead in another", l.Blobs[number].Digest)
+				return nil, fmt.Errorf("%s lives in one slice and is dead in another", s.Blobs[number].Digest)
 			}
 			live[number], seen[number] = !is[k], true
 		}
@@ -395,37 +396,37 @@ func (l *Layout) mark(ctx context.Context, references []Reference, keep []int, m
 type Settings struct {
 	Keep         []digest.Digest // held as a download in progress, with all that they refer to
 	Grace        time.Duration   // what is younger is held, with all that it refers to
-	AllowMissing bool            // a manifest that index.json lists may be absent
+	AllowMissing bool            // a manifest that is listed may be absent
 	DropDamaged  bool            // what is damaged is not held for that
-	Untagged     bool            // entries of index.json without a tag hold nothing
+	Untagged     bool            // what is listed without a tag holds nothing
 }
 
 // Plan finds what is dead.
-func (l *Layout) Plan(ctx context.Context, s Settings) (*Plan, error) {
-	keep, err := l.kept(s.Keep)
+func (s *Store) Plan(ctx context.Context, settings Settings) (*Plan, error) {
+	keep, err := s.kept(settings.Keep)
 	if err != nil {
 		return nil, err
 	}
-	if err := l.complete(s); err != nil {
+	if err := s.complete(settings); err != nil {
 		return nil, err
 	}
-	references := l.References
-	if s.DropDamaged {
-		references = l.withoutDamaged(references)
+	references := s.References
+	if settings.DropDamaged {
+		references = s.withoutDamaged(references)
 	}
-	if s.Untagged {
-		if references, err = l.onlyTagged(references); err != nil {
+	if settings.Untagged {
+		if references, err = s.onlyTagged(references); err != nil {
 			return nil, err
 		}
 	}
-	// First what index.json holds: damage there is a fault.
-	live, err := l.mark(ctx, references, keep, graphLimits)
+	// First what is held from outside: damage there is a fault.
+	live, err := s.mark(ctx, references, keep, graphLimits)
 	if err != nil {
 		return nil, err
 	}
 	plan := &Plan{}
-	for number := range l.Blobs {
-		blob := &l.Blobs[number]
+	for number := range s.Blobs {
+		blob := &s.Blobs[number]
 		if damage := blob.damage; damage != nil {
 			if live[number] && damage.content {
 				return nil, &Fault{blob.Digest, fmt.Errorf("is live, and damaged: %w", damage.Err)}
@@ -436,10 +437,10 @@ func (l *Layout) Plan(ctx context.Context, s Settings) (*Plan, error) {
 		}
 	}
 	// Then what is held besides.
-	held := l.besides(live, s)
+	held := s.besides(live, settings)
 	plan.Young = held.young
 	if len(held.objects) > 0 {
-		if live, err = l.mark(ctx, held.with(references), keep, graphLimits); err != nil {
+		if live, err = s.mark(ctx, held.with(references), keep, graphLimits); err != nil {
 			return nil, err
 		}
 	}
@@ -451,12 +452,18 @@ func (l *Layout) Plan(ctx context.Context, s Settings) (*Plan, error) {
 		}
 	}
 	plan.Dead = make([]*Blob, 0, count)
-	for number := range l.Blobs {
-		blob := &l.Blobs[number]
+	unlinked := map[int]bool{}
+	for _, link := range s.links {
+		if link.moved != "" && !link.copy && link.object > 0 {
+			unlinked[link.object] = true
+		}
+	}
+	for number := range s.Blobs {
+		blob := &s.Blobs[number]
 		switch {
 		case live[number]:
 			plan.Live++
-			if blob.Moved != "" {
+			if blob.Moved != "" || unlinked[number] {
 				plan.Return = append(plan.Return, blob)
 			}
 		case blob.absent:
@@ -467,51 +474,56 @@ func (l *Layout) Plan(ctx context.Context, s Settings) (*Plan, error) {
 			plan.Freed += uint64(blob.Size)
 		}
 	}
-	for k := range l.copies {
-		plan.Moved = append(plan.Moved, &l.copies[k])
+	for k := range s.copies {
+		plan.Moved = append(plan.Moved, &s.copies[k])
 	}
-	l.tellMissing(plan)
-	if plan.Untagged = l.untagged; l.untagged > 0 && !s.Untagged {
-		return plan, l.weighUntagged(ctx, plan, references, held, keep)
+	s.tellMissing(plan)
+	if plan.Untagged = s.top.untagged; plan.Untagged > 0 && !settings.Untagged {
+		return plan, s.weighUntagged(ctx, plan, references, held, keep)
 	}
 	return plan, nil
 }
 
-// complete says whether all that index.json lists is there.
-func (l *Layout) complete(s Settings) error {
-	for _, one := range l.entries {
-		if _, there := l.Number(one.Digest); !there && len(one.Data) == 0 && !s.AllowMissing {
-			return &Fault{one.Digest, errors.New("is listed in index.json and is not there, so what it refers to is not known (--allow-missing)")}
+// complete says whether all that is listed is there.
+func (s *Store) complete(settings Settings) error {
+	for _, one := range s.top.entries {
+		if settings.Untagged && one.tag == "" {
+			continue
+		}
+		if _, there := s.Number(one.Digest); !there && len(one.Data) == 0 && !settings.AllowMissing {
+			return &Fault{one.Digest, fmt.Errorf("is listed in %s and is not there, so what it refers to is not known (--allow-missing)", s.Top)}
 		}
 	}
 	return nil
 }
 
 // withoutDamaged leaves out the subjects that damaged texts name.
-func (l *Layout) withoutDamaged(all []Reference) []Reference {
+func (s *Store) withoutDamaged(all []Reference) []Reference {
 	var kept []Reference
 	for _, one := range all {
-		if !one.Subject || l.Blobs[one.From].damage == nil {
+		if !one.Subject || s.Blobs[one.From].damage == nil {
 			kept = append(kept, one)
 		}
 	}
 	return kept
 }
 
-// onlyTagged puts what index.json without its untagged entries names in the place of what index.json names.
-func (l *Layout) onlyTagged(all []Reference) ([]Reference, error) {
-	if l.untagged == 0 {
+// onlyTagged puts what is listed under tags in the place of all that is listed.
+func (s *Store) onlyTagged(all []Reference) ([]Reference, error) {
+	if s.top.untagged == 0 {
 		return all, nil
 	}
-	if l.untagged == len(l.entries) {
-		return nil, &Fault{Err: errors.New("no entry of index.json has a tag: without them nothing would be left")}
+	if s.top.untagged == len(s.top.entries) {
+		return nil, &Fault{Err: fmt.Errorf("none of the %s has a tag: without them nothing would be left", s.Entry)}
 	}
-	f := &follower{Layout: &Layout{Path: l.Path, Blobs: l.Blobs, holders: map[digest.Digest][]int{}}, groups: l.groups()}
-	c := parse(l.tagged)
-	if c == nil {
-		return nil, &Fault{Err: errors.New("index.json without its untagged entries is no index")}
+	f := &follower{Store: &Store{Path: s.Path, Blobs: s.Blobs, holders: map[digest.Digest][]int{}}, groups: s.groups()}
+	c := &content{kind: Index}
+	if !s.top.lines {
+		if c = parse(s.top.tagged); c == nil {
+			return nil, &Fault{Err: fmt.Errorf("%s without its untagged entries is no index", s.Top)}
+		}
 	}
-	if err := f.take(0, l.tagged, c); err != nil {
+	if err := f.take(0, s.top.tagged, c); err != nil {
 		return nil, err
 	}
 	if err := f.scan(); err != nil {
@@ -528,21 +540,21 @@ func (l *Layout) onlyTagged(all []Reference) ([]Reference, error) {
 }
 
 // weighUntagged tells what the entries without a tag hold alone.
-func (l *Layout) weighUntagged(ctx context.Context, plan *Plan, references []Reference, held besides, keep []int) error {
-	if l.untagged == len(l.entries) {
+func (s *Store) weighUntagged(ctx context.Context, plan *Plan, references []Reference, held besides, keep []int) error {
+	if s.top.untagged == len(s.top.entries) {
 		return nil
 	}
-	tagged, err := l.onlyTagged(references)
+	tagged, err := s.onlyTagged(references)
 	if err != nil {
 		return err
 	}
-	live, err := l.mark(ctx, held.with(tagged), keep, graphLimits)
+	live, err := s.mark(ctx, held.with(tagged), keep, graphLimits)
 	if err != nil {
 		return err
 	}
-	for number := range l.Blobs {
-		if plan.live[number] && !live[number] && l.Blobs[number].Moved == "" {
-			plan.UntaggedFreed += uint64(l.Blobs[number].Size)
+	for number := range s.Blobs {
+		if plan.live[number] && !live[number] && s.Blobs[number].Moved == "" {
+			plan.UntaggedFreed += uint64(s.Blobs[number].Size)
 		}
 	}
 	return nil
@@ -554,7 +566,7 @@ type besides struct {
 	young   int
 }
 
-// with is these references, and one from index.json to each object that is held besides.
+// with is these references, and one from outside to each object that is held besides.
 func (b besides) with(references []Reference) []Reference {
 	all := append([]Reference(nil), references...)
 	for _, number := range b.objects {
@@ -563,26 +575,50 @@ func (b besides) with(references []Reference) []Reference {
 	return distinct(all)
 }
 
-func (l *Layout) besides(live []bool, s Settings) besides {
+func (s *Store) besides(live []bool, settings Settings) besides {
 	var held besides
-	for number := 1; number < len(l.Blobs); number++ {
-		blob := &l.Blobs[number]
+	for number := 1; number < len(s.Blobs); number++ {
+		blob := &s.Blobs[number]
 		if live[number] || blob.Moved != "" || blob.absent {
 			continue
 		}
-		young := s.Grace > 0 && l.began.UnixNano()-blob.changed < int64(s.Grace)
+		young := s.young(number, settings.Grace)
 		if young {
 			held.young++
 		}
-		if young || blob.link || blob.foreign || blob.damage != nil && !s.DropDamaged {
+		if young || blob.link || blob.foreign || blob.damage != nil && !settings.DropDamaged {
 			held.objects = append(held.objects, number)
 		}
 	}
 	return held
 }
 
+// young says whether a blob, or what hangs on it, is younger than the grace: a push may be about to name it.
+func (s *Store) young(number int, grace time.Duration) bool {
+	if grace <= 0 {
+		return false
+	}
+	since := s.began.UnixNano() - int64(grace)
+	if s.Blobs[number].changed > since {
+		return true
+	}
+	for _, link := range s.linksOf(number) {
+		if link.moved != "" {
+			continue
+		}
+		if s.busy[link.group] > since {
+			return true
+		}
+		info, err := os.Lstat(s.tree.at(link.at.path() + "/" + linkFile))
+		if err == nil && info.ModTime().UnixNano() > since {
+			return true
+		}
+	}
+	return false
+}
+
 // tellMissing lists what live objects refer to and what is not there.
-func (l *Layout) tellMissing(plan *Plan) {
+func (s *Store) tellMissing(plan *Plan) {
 	told := map[digest.Digest]bool{}
 	tell := func(one Missing) {
 		if !told[one.Digest] && plan.live[one.by] {
@@ -590,34 +626,34 @@ func (l *Layout) tellMissing(plan *Plan) {
 			plan.Missing = append(plan.Missing, one)
 		}
 	}
-	for _, one := range l.missing {
+	for _, one := range s.missing {
 		tell(one)
 	}
-	for _, one := range l.References {
-		if to := &l.Blobs[one.To]; to.absent && !one.Subject {
-			tell(Missing{Digest: to.Digest, By: l.Blobs[one.From].Digest, by: one.From})
+	for _, one := range s.References {
+		if to := &s.Blobs[one.To]; to.absent && !one.Subject {
+			tell(Missing{Digest: to.Digest, By: s.Blobs[one.From].Digest, by: one.From})
 		}
 	}
 	sort.SliceStable(plan.Missing, func(a, b int) bool { return plan.Missing[a].Digest < plan.Missing[b].Digest })
 }
 
-// Why is the chain of names that leads from index.json, or from what is kept, to an object: digests, index.json as an empty
+// Why is the chain of names that leads from outside, or from what is kept, to an object: digests, what holds from outside as an empty
 // one. It is empty for what is dead.
-func (l *Layout) Why(ctx context.Context, name digest.Digest, s Settings) ([]digest.Digest, error) {
-	target, there := l.Number(name)
+func (s *Store) Why(ctx context.Context, name digest.Digest, settings Settings) ([]digest.Digest, error) {
+	target, there := s.Number(name)
 	if !there {
 		return nil, &Fault{name, errors.New("is not there")}
 	}
-	keep, err := l.kept(s.Keep)
+	keep, err := s.kept(settings.Keep)
 	if err != nil {
 		return nil, err
 	}
-	parts, err := l.slices(l.References, append(keep, target), graphLimits)
+	parts, err := s.slices(s.References, append(keep, target), graphLimits)
 	if err != nil {
 		return nil, err
 	}
 	part := parts[0]
-	store, err := l.read(part, part.places(keep))
+	store, err := s.read(part, part.places(keep))
 	if err != nil {
 		return nil, err
 	}
@@ -637,28 +673,28 @@ func (l *Layout) Why(ctx context.Context, name digest.Digest, s Settings) ([]dig
 				break
 			}
 		}
-		chain = append([]digest.Digest{l.Blobs[part.objects[at]].Digest}, chain...)
+		chain = append([]digest.Digest{s.Blobs[part.objects[at]].Digest}, chain...)
 	}
 	return chain, nil
 }
 
 // Besides says why a blob to which no chain of names leads is held all the same; it is empty if nothing of it says so.
-func (l *Layout) Besides(name digest.Digest, s Settings) string {
-	number, there := l.Number(name)
+func (s *Store) Besides(name digest.Digest, settings Settings) string {
+	number, there := s.Number(name)
 	if !there {
 		return ""
 	}
-	switch blob := &l.Blobs[number]; {
+	switch blob := &s.Blobs[number]; {
 	case blob.Moved != "":
 		return ""
 	case blob.link:
 		return "it is a link"
 	case blob.foreign:
 		return "its algorithm is not known"
-	case blob.damage != nil && !s.DropDamaged:
+	case blob.damage != nil && !settings.DropDamaged:
 		return "it is damaged, and may be a signature"
-	case s.Grace > 0 && l.began.UnixNano()-blob.changed < int64(s.Grace):
-		return "it is younger than " + s.Grace.String()
+	case s.young(number, settings.Grace):
+		return "it, or what links it, is younger than " + settings.Grace.String()
 	}
 	return ""
 }

@@ -83,7 +83,8 @@ type descriptor struct {
 	Annotations map[string]string `json:"annotations"`
 	Data        []byte            `json:"data"`
 
-	listed bool // it stands in a list of manifests
+	listed bool   // it stands in a list of manifests
+	tag    string // the one that what holds from outside has it under
 }
 
 // document has the fields of every kind of manifest and index, of which each has some. They are read one by one, so that

@@ -36,9 +36,9 @@ var (
 // errContent says that bytes are not those that a name stands for.
 var errContent = errors.New("its content has another digest")
 
-// follower reads the texts of a layout and gathers what they name.
+// follower reads the texts of a store and gathers what they name.
 type follower struct {
-	*Layout
+	*Store
 	groups []group
 	owners []int // the object of each text
 	batch  texts
@@ -54,16 +54,12 @@ type group struct {
 }
 
 // follow looks at every blob, reads the texts among them, and gathers the references.
-func (l *Layout) follow(ctx context.Context, verify bool) error {
-	top, err := l.readIndex()
-	if err != nil {
+func (s *Store) follow(ctx context.Context, verify bool) error {
+	f := &follower{Store: s, groups: s.groups(), buffer: make([]byte, headBytes), verify: verify}
+	if err := f.take(0, s.top.text, s.top.content()); err != nil {
 		return err
 	}
-	f := &follower{Layout: l, groups: l.groups(), buffer: make([]byte, headBytes), verify: verify}
-	if err := f.take(0, l.index, top); err != nil {
-		return err
-	}
-	for number := 1; number < len(l.Blobs); number++ {
+	for number := 1; number < len(s.Blobs); number++ {
 		if err := ctx.Err(); err != nil {
 			return err
 		}
@@ -74,13 +70,21 @@ func (l *Layout) follow(ctx context.Context, verify bool) error {
 	if err := f.scan(); err != nil {
 		return err
 	}
-	f.links()
+	f.symbolic()
 	f.subjects()
-	if err := l.suspects(ctx); err != nil {
+	if err := s.suspects(ctx); err != nil {
 		return err
 	}
-	l.References = distinct(l.References)
+	s.References = distinct(s.References)
 	return nil
+}
+
+// content is what a top says. One that has nothing but names says what it lists.
+func (t *top) content() *content {
+	if t.said == nil {
+		return &content{kind: Index, refers: t.entries}
+	}
+	return t.said
 }
 
 // distinct sorts references by their numbers and leaves each once.
@@ -108,10 +112,10 @@ func distinct(all []Reference) []Reference {
 }
 
 // groups are the names of the blobs, by width, so many to a group as a scan takes.
-func (l *Layout) groups() []group {
+func (s *Store) groups() []group {
 	var all []group
-	for number := 1; number < len(l.Blobs); number++ {
-		blob := &l.Blobs[number]
+	for number := 1; number < len(s.Blobs); number++ {
+		blob := &s.Blobs[number]
 		if blob.foreign {
 			continue
 		}
@@ -119,7 +123,7 @@ func (l *Layout) groups() []group {
 		last := len(all) - 1
 		// Blobs of one algorithm stand side by side.
 		if last < 0 || all[last].names.width != len(name) || all[last].base+len(all[last].names.objects) != number || len(all[last].names.objects) == mostNames {
-			most := len(l.Blobs) - number
+			most := len(s.Blobs) - number
 			if most > mostNames {
 				most = mostNames
 			}
@@ -151,7 +155,7 @@ func (f *follower) scan() error {
 // add gives bytes of a text to the scan.
 func (f *follower) add(text []byte) error {
 	if len(f.owners) > mostNames {
-		return fmt.Errorf("%w: more than %d manifests and indexes; split the layout, or remove what is not needed by hand", ErrTooLarge, mostNames-1)
+		return fmt.Errorf("%w: more than %d manifests and indexes; split the store, or remove what is not needed by hand", ErrTooLarge, mostNames-1)
 	}
 	if len(f.batch.bytes) > 0 && len(f.batch.bytes)+len(text) > batchBytes {
 		if err := f.scan(); err != nil {
@@ -194,15 +198,15 @@ type named struct {
 }
 
 // name keeps what a descriptor says of a blob.
-func (l *Layout) name(by int, one descriptor) {
-	number, there := l.Number(one.Digest)
+func (s *Store) name(by int, one descriptor) {
+	number, there := s.Number(one.Digest)
 	if !there {
 		if len(one.Data) == 0 {
-			l.missing = append(l.missing, Missing{one.Digest, l.Blobs[by].Digest, len(one.URLs) > 0, by})
+			s.missing = append(s.missing, Missing{one.Digest, s.Blobs[by].Digest, len(one.URLs) > 0, by})
 		}
 		return
 	}
-	blob, kind := &l.Blobs[number], kindOf(one.MediaType)
+	blob, kind := &s.Blobs[number], kindOf(one.MediaType)
 	if one.listed || kind == Index || kind == Manifest || kind == Artifact {
 		blob.suspect = true
 	}
@@ -211,15 +215,15 @@ func (l *Layout) name(by int, one descriptor) {
 	}
 	// The scan finds every other name.
 	if blob.foreign {
-		l.References = append(l.References, Reference{From: by, To: number})
+		s.References = append(s.References, Reference{From: by, To: number})
 	}
 }
 
-// links: what a link leads to is held by it.
-func (l *Layout) links() {
+// symbolic: what a symbolic link leads to is held by it.
+func (s *Store) symbolic() {
 	var links []int
-	for number := range l.Blobs {
-		if l.Blobs[number].link && !l.Blobs[number].absent {
+	for number := range s.Blobs {
+		if s.Blobs[number].link && !s.Blobs[number].absent {
 			links = append(links, number)
 		}
 	}
@@ -229,12 +233,12 @@ func (l *Layout) links() {
 	type identity struct{ device, number uint64 }
 	file := func(number int) (identity, bool) {
 		var stat syscall.Stat_t
-		err := syscall.Stat(l.tree.at(l.place(&l.Blobs[number]).path()), &stat)
+		err := syscall.Stat(s.tree.at(s.file(&s.Blobs[number]).path()), &stat)
 		return identity{uint64(stat.Dev), stat.Ino}, err == nil
 	}
 	files := map[identity]int{}
-	for number := 1; number < len(l.Blobs); number++ {
-		if l.Blobs[number].link {
+	for number := 1; number < len(s.Blobs); number++ {
+		if s.Blobs[number].link {
 			continue
 		}
 		if one, there := file(number); there {
@@ -243,34 +247,34 @@ func (l *Layout) links() {
 	}
 	for _, number := range links {
 		if one, there := file(number); there && files[one] != 0 {
-			l.References = append(l.References, Reference{From: number, To: files[one]})
+			s.References = append(s.References, Reference{From: number, To: files[one]})
 		}
 	}
 }
 
 // subjects: what names a subject is held by it, and by what holds the subject in a descriptor's data.
-func (l *Layout) subjects() {
-	for _, one := range l.subjectsOf {
-		if number, there := l.Number(one.subject); there {
-			l.References = append(l.References, Reference{From: one.by, To: number, Subject: true})
+func (s *Store) subjects() {
+	for _, one := range s.subjectsOf {
+		if number, there := s.Number(one.subject); there {
+			s.References = append(s.References, Reference{From: one.by, To: number, Subject: true})
 		}
-		for _, holder := range l.holders[one.subject] {
+		for _, holder := range s.holders[one.subject] {
 			if holder != one.by {
-				l.References = append(l.References, Reference{From: one.by, To: holder, Subject: true})
+				s.References = append(s.References, Reference{From: one.by, To: holder, Subject: true})
 			}
 		}
 	}
 }
 
 // suspects are hashed: what is listed as a manifest and does not begin as one may be a damaged one.
-func (l *Layout) suspects(ctx context.Context) error {
+func (s *Store) suspects(ctx context.Context) error {
 	buffer := make([]byte, 1<<16)
-	for number := 1; number < len(l.Blobs); number++ {
-		blob := &l.Blobs[number]
+	for number := 1; number < len(s.Blobs); number++ {
+		blob := &s.Blobs[number]
 		if !blob.suspect || blob.text || blob.absent || blob.foreign || blob.damage != nil {
 			continue
 		}
-		if _, err := l.hash(ctx, blob, buffer, nil); err != nil {
+		if _, err := s.hash(ctx, blob, buffer, nil); err != nil {
 			if ctx.Err() != nil {
 				return err
 			}
@@ -281,8 +285,8 @@ func (l *Layout) suspects(ctx context.Context) error {
 }
 
 // hash compares a blob with its digest.
-func (l *Layout) hash(ctx context.Context, blob *Blob, buffer []byte, count func(int)) (int64, error) {
-	file, err := os.Open(l.tree.at(l.place(blob).path()))
+func (s *Store) hash(ctx context.Context, blob *Blob, buffer []byte, count func(int)) (int64, error) {
+	file, err := os.Open(s.tree.at(s.file(blob).path()))
 	if err != nil {
 		return 0, err
 	}
@@ -321,7 +325,7 @@ func (f *follower) look(number int) error {
 	case errors.Is(fault, syscall.ENOENT):
 		blob.absent = true
 		if blob.link {
-			f.Stray = append(f.Stray, f.place(blob).path())
+			f.Stray = append(f.Stray, f.file(blob).path())
 		}
 	case fault != nil:
 		blob.damage = &Damage{blob.Digest, fault, true}
@@ -346,8 +350,13 @@ func (f *follower) lookInto(number int) (fault, err error) {
 	if !blob.link {
 		flags = syscall.O_NOFOLLOW
 	}
-	at := f.place(blob)
+	at := f.file(blob)
 	fd, err := f.tree.file(at, flags)
+	if errors.Is(err, syscall.ELOOP) && !blob.link {
+		// The place is a folder, and the file in it a link.
+		blob.link = true
+		fd, err = f.tree.file(at, 0)
+	}
 	if err != nil {
 		return err, nil
 	}

@@ -108,13 +108,13 @@ func FuzzUntagged(f *testing.F) {
 		return one
 	}
 	f.Fuzz(func(t *testing.T, text []byte) {
-		l := &Layout{index: text}
-		if _, err := l.readIndex(); err != nil {
+		l, err := readIndex(text)
+		if err != nil {
 			return
 		}
-		before, after := read(t, l.index), read(t, l.tagged)
+		before, after := read(t, l.text), read(t, l.tagged)
 		if len(after.list)+l.untagged != len(before.list) || fmt.Sprint(before.all) != fmt.Sprint(after.all) {
-			t.Fatalf("%q\n%q", l.index, l.tagged)
+			t.Fatalf("%q\n%q", l.text, l.tagged)
 		}
 		for _, entry := range before.list {
 			if len(after.list) > 0 && string(after.list[0]) == string(entry) {
@@ -122,7 +122,7 @@ func FuzzUntagged(f *testing.F) {
 			}
 		}
 		if len(after.list) > 0 {
-			t.Errorf("%q\n%q", l.index, l.tagged)
+			t.Errorf("%q\n%q", l.text, l.tagged)
 		}
 	})
 }

@@ -83,7 +83,7 @@ func (s *store) list(one ...v1.Descriptor) {
 	s.save()
 }
 
-func (s *store) open() *oci.Layout {
+func (s *store) open() *oci.Store {
 	s.t.Helper()
 	l, err := oci.Open(context.Background(), s.path, oci.Options{Verify: true})
 	if err != nil {
@@ -296,7 +296,11 @@ func TestStray(t *testing.T) {
 	if err := os.Symlink("nowhere", filepath.Join(s.path, "blobs/sha256", strings.Repeat("b", 64))); err != nil {
 		t.Fatal(err)
 	}
-	if l := s.open(); len(l.Stray) != 5 {
+	for _, name := range []string{"notes", "20260102T030405.000000000Z/notes", "20260102T030405.000000000Z/blobs/notes"} {
+		s.write(".kullneyra-oci/dead/"+name, []byte("stray"))
+		stray = append(stray, ".kullneyra-oci/dead/"+name)
+	}
+	if l := s.open(); len(l.Stray) != 8 {
 		t.Errorf("stray: %v", l.Stray)
 	}
 	if _, err := s.prune(0); err != nil {

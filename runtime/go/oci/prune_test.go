@@ -298,7 +298,7 @@ func TestUntagged(t *testing.T) {
 		t.Fatal(err)
 	}
 	f.tag(old[0], "new")
-	if err := l.writeIndex(); err == nil {
+	if _, err := l.kind.untag(l.tree, l.top); err == nil {
 		t.Error("written over a change")
 	}
 	f.list = f.list[:2]
@@ -343,7 +343,7 @@ func TestSlices(t *testing.T) {
 	tried := 0
 	for round := 0; round < 300; round++ {
 		n := 3 + random.Intn(20)
-		l := &Layout{Blobs: make([]Blob, n)}
+		l := &Store{Blobs: make([]Blob, n)}
 		inner := 1 + random.Intn(n)
 		for number := range l.Blobs {
 			l.Blobs[number] = Blob{Digest: digest.Digest(fmt.Sprintf("sha256:%064d", number)), Size: int64(random.Intn(9))}

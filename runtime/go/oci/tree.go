@@ -3,6 +3,7 @@ package oci
 import (
 	"os"
 	"path/filepath"
+	"strings"
 	"syscall"
 	"unsafe"
 )
@@ -12,13 +13,25 @@ type place struct{ folder, name string }
 
 func (p place) path() string { return filepath.Join(p.folder, p.name) }
 
-// tree is a folder, with those of its folders open that are in use, so that the system need not walk to each file from its root.
-type tree struct {
-	path string
-	open map[string]int
+// parent is the folder that it lies in: a name may have folders of its own.
+func (p place) parent() string {
+	if k := strings.LastIndexByte(p.name, '/'); k >= 0 {
+		return p.folder + "/" + p.name[:k]
+	}
+	return p.folder
 }
 
-func newTree(path string) *tree { return &tree{path, map[string]int{}} }
+// tree is a folder, with those of its folders open that are in use, so that the system need not walk to each file from its root.
+type tree struct {
+	path   string
+	open   map[string]int
+	buffer []byte // for the entries of a folder, while nobody uses it
+}
+
+// mostOpen is how many folders stay open.
+const mostOpen = 200
+
+func newTree(path string) *tree { return &tree{path: path, open: map[string]int{}} }
 
 // close gives the open folders back; the tree can be used again.
 func (t *tree) close() {
@@ -35,6 +48,9 @@ func (t *tree) at(path string) string { return filepath.Join(t.path, path) }
 func (t *tree) folder(path string) (int, error) {
 	if fd, is := t.open[path]; is {
 		return fd, nil
+	}
+	if len(t.open) == mostOpen {
+		t.close()
 	}
 	fd, err := openFolder(t.at(path))
 	if err == nil {
@@ -76,6 +92,9 @@ func (t *tree) file(p place, flags int) (int, error) {
 
 // rename moves a file within the tree, to a folder that is there.
 func (t *tree) rename(from, to place) error {
+	if len(t.open) > mostOpen-2 {
+		t.close()
+	}
 	source, err := t.folder(from.folder)
 	if err != nil {
 		return err
@@ -108,6 +127,21 @@ func (t *tree) remove(p place) error {
 	return nil
 }
 
+// removeFolder deletes an empty folder.
+func (t *tree) removeFolder(p place) error {
+	path := t.at(p.path())
+	for {
+		err := syscall.Rmdir(path)
+		if err == syscall.EINTR {
+			continue
+		}
+		if err != nil {
+			return &os.PathError{Op: "remove", Path: path, Err: err}
+		}
+		return nil
+	}
+}
+
 // Types of entries that are told apart.
 const (
 	otherEntry = iota
@@ -123,7 +157,11 @@ func (t *tree) entries(path string, do func(name []byte, kind int)) error {
 		return err
 	}
 	defer syscall.Close(fd)
-	buffer := make([]byte, 1<<15)
+	buffer := t.buffer
+	if t.buffer = nil; buffer == nil {
+		buffer = make([]byte, 1<<15)
+	}
+	defer func() { t.buffer = buffer }()
 	for {
 		n, err := syscall.ReadDirent(fd, buffer)
 		if err == syscall.EINTR {

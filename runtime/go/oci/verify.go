@@ -7,10 +7,10 @@ import (
 )
 
 // verify hashes every blob that is there and was not hashed yet, on all cores, with one buffer each. What does not match is damaged.
-func (l *Layout) verify(ctx context.Context, progress func(done, all int64)) error {
+func (s *Store) verify(ctx context.Context, progress func(done, all int64)) error {
 	var all, done int64
-	for k := range l.Blobs[1:] {
-		blob := &l.Blobs[1+k]
+	for k := range s.Blobs[1:] {
+		blob := &s.Blobs[1+k]
 		if all += blob.Size; blob.hashed {
 			done += blob.Size
 		}
@@ -20,8 +20,8 @@ func (l *Layout) verify(ctx context.Context, progress func(done, all int64)) err
 	take := func() *Blob {
 		lock.Lock()
 		defer lock.Unlock()
-		if next++; next < len(l.Blobs) {
-			return &l.Blobs[next]
+		if next++; next < len(s.Blobs) {
+			return &s.Blobs[next]
 		}
 		return nil
 	}
@@ -42,7 +42,7 @@ func (l *Layout) verify(ctx context.Context, progress func(done, all int64)) err
 				if blob.hashed || blob.absent || blob.foreign || blob.damage != nil && blob.damage.content {
 					continue
 				}
-				if _, err := l.hash(ctx, blob, buffer, count); err != nil {
+				if _, err := s.hash(ctx, blob, buffer, count); err != nil {
 					blob.damage = &Damage{blob.Digest, err, true}
 				}
 			}

@@ -20,9 +20,9 @@ func (c *command) catalogueCommand() *cobra.Command {
 	var turns int
 	var seed string
 	one := &cobra.Command{
-		Use:   "catalogue LAYOUT FOLDER",
+		Use:   "catalogue STORE FOLDER",
 		Short: "Writes store.cat, order.run and objects.txt (number, digest, size, kind) into FOLDER",
-		Args:  exactly("LAYOUT", "FOLDER"),
+		Args:  exactly("STORE", "FOLDER"),
 		RunE: func(one *cobra.Command, words []string) error {
 			order, err := orderOf(uint32(boxes), turns, seed)
 			if err != nil {
@@ -41,7 +41,7 @@ func (c *command) catalogueCommand() *cobra.Command {
 }
 
 // orderOf is the schedule that the options ask for: without any, as many turns as are sure to finish.
-func orderOf(boxes uint32, turns int, seed string) (func(*oci.Store) (oci.Order, error), error) {
+func orderOf(boxes uint32, turns int, seed string) (func(*oci.Graph) (oci.Order, error), error) {
 	if boxes < 1 || boxes > kullneyra.MostWorkers {
 		return nil, fmt.Errorf("%w: --boxes is 1 to %d", errUsage, kullneyra.MostWorkers)
 	}
@@ -55,27 +55,27 @@ func orderOf(boxes uint32, turns int, seed string) (func(*oci.Store) (oci.Order,
 		if !both || err != nil || err2 != nil {
 			return nil, fmt.Errorf("%w: --seed %q is no A,B", errUsage, seed)
 		}
-		return func(s *oci.Store) (oci.Order, error) {
+		return func(s *oci.Graph) (oci.Order, error) {
 			return s.SeedOrder(kullneyra.Seed{First: uint32(a), Second: uint32(b)}, boxes)
 		}, nil
 	}
 	if turns < 0 {
-		return func(s *oci.Store) (oci.Order, error) { return s.Enough(boxes) }, nil
+		return func(s *oci.Graph) (oci.Order, error) { return s.Enough(boxes) }, nil
 	}
-	return func(*oci.Store) (oci.Order, error) { return oci.RoundRobin(boxes, turns), nil }, nil
+	return func(*oci.Graph) (oci.Order, error) { return oci.RoundRobin(boxes, turns), nil }, nil
 }
 
 // catalogue writes the files of the course and of support.
-func (c *command) catalogue(ctx context.Context, path, folder string, order func(*oci.Store) (oci.Order, error)) error {
-	layout, err := oci.Open(ctx, path, oci.Options{})
+func (c *command) catalogue(ctx context.Context, path, folder string, order func(*oci.Graph) (oci.Order, error)) error {
+	store, err := oci.Open(ctx, path, oci.Options{})
 	if err != nil {
 		return err
 	}
 	s, tags := c.settings()
-	if s, err = layout.WithTags(s, tags); err != nil {
+	if s, err = store.WithTags(s, tags); err != nil {
 		return err
 	}
-	read, err := layout.Read(s.Keep)
+	read, err := store.Read(s.Keep)
 	if err != nil {
 		return err
 	}
@@ -83,14 +83,14 @@ func (c *command) catalogue(ctx context.Context, path, folder string, order func
 	if err != nil {
 		return err
 	}
-	store, err := layout.Catalogue(s.Keep)
+	catalogue, err := store.Catalogue(s.Keep)
 	if err != nil {
 		return err
 	}
 	if err := os.MkdirAll(folder, 0o755); err != nil {
 		return err
 	}
-	if err := os.WriteFile(filepath.Join(folder, "store.cat"), store, 0o644); err != nil {
+	if err := os.WriteFile(filepath.Join(folder, "store.cat"), catalogue, 0o644); err != nil {
 		return err
 	}
 	head := binary.LittleEndian.AppendUint16([]byte{byte(made.Settings.Workers)}, uint16(made.Settings.Batch))
@@ -98,20 +98,20 @@ func (c *command) catalogue(ctx context.Context, path, folder string, order func
 	if err := os.WriteFile(filepath.Join(folder, "order.run"), append(head, made.Schedule...), 0o644); err != nil {
 		return err
 	}
-	return writeObjects(filepath.Join(folder, "objects.txt"), layout)
+	return writeObjects(filepath.Join(folder, "objects.txt"), store)
 }
 
-func writeObjects(path string, layout *oci.Layout) error {
+func writeObjects(path string, store *oci.Store) error {
 	file, err := os.Create(path)
 	if err != nil {
 		return err
 	}
 	defer file.Close()
 	out := bufio.NewWriter(file)
-	for number, blob := range layout.Blobs {
+	for number, blob := range store.Blobs {
 		name := string(blob.Digest)
 		if name == "" {
-			name = "index.json"
+			name = strings.ReplaceAll(store.Top, " ", "-")
 		}
 		fmt.Fprintf(out, "%d %s %d %s\n", number, name, blob.Size, blob.Kind)
 	}

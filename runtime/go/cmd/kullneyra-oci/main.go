@@ -1,4 +1,4 @@
-// Command kullneyra-oci finds what nothing holds in an OCI image layout, with the proved marker, and moves it away.
+// Command kullneyra-oci finds what nothing holds in an OCI image layout or in the folder of a registry, with the proved marker, and moves it away.
 package main
 
 import (
@@ -38,7 +38,7 @@ var errUsage = errors.New("usage")
 
 func main() {
 	// Most of the memory is lists that stay: less is spent on what may go.
-	debug.SetGCPercent(50)
+	debug.SetGCPercent(80)
 	ctx, stop := signal.NotifyContext(context.Background(), os.Interrupt, syscall.SIGTERM)
 	defer stop()
 	var out io.Writer = os.Stdout
@@ -137,8 +137,8 @@ type command struct {
 func (c *command) root() *cobra.Command {
 	root := &cobra.Command{
 		Use:   "kullneyra-oci",
-		Short: "Finds what nothing holds in an OCI image layout, with a proved marker, and moves it away",
-		Long: `Finds what nothing holds in an OCI image layout, with a proved marker, and moves it away.
+		Short: "Finds what nothing holds in an OCI image layout or in the folder of a registry, with a proved marker, and moves it away",
+		Long: `Finds what nothing holds in an OCI image layout or in the folder of a registry, with a proved marker, and moves it away.
 
 Exit status: 0 done; 1 nothing was done; 2 wrong usage; 3 partly done. Standard error tells why.`,
 		Version:       version,
@@ -174,18 +174,18 @@ func (c *command) held(one *cobra.Command) {
 	flags := one.Flags()
 	flags.BoolVar(&c.machine, "json", false, "print for a machine")
 	flags.BoolVar(&c.verify, "verify", false, "hash every blob first")
-	flags.StringArrayVar(&c.keep, "keep", nil, "hold this digest or tag and what it refers to, as a download in progress (up to 256)")
+	flags.StringArrayVar(&c.keep, "keep", nil, "hold this digest or tag (REPOSITORY:TAG of a registry) and what it refers to, as a download in progress (up to 256)")
 	flags.DurationVar(&c.grace, "grace", time.Hour, "hold what is younger, and what it refers to")
-	flags.BoolVar(&c.missing, "allow-missing", false, "go on where a manifest that index.json lists is absent")
+	flags.BoolVar(&c.missing, "allow-missing", false, "go on where a manifest that a tag or index.json names is absent")
 	flags.BoolVar(&c.damaged, "drop-damaged", false, "do not hold what is damaged and may be a signature")
-	flags.BoolVar(&c.untagged, "untagged", false, "take entries without a tag out of index.json")
+	flags.BoolVar(&c.untagged, "untagged", false, "do not hold what has no tag; takes such entries out of index.json")
 }
 
 func (c *command) planCommand() *cobra.Command {
 	one := &cobra.Command{
-		Use:   "plan LAYOUT",
-		Short: "Lists what nothing holds: neither index.json, nor a subject that lives, nor --keep",
-		Args:  exactly("LAYOUT"),
+		Use:   "plan STORE",
+		Short: "Lists what nothing holds: neither a tag, nor an index, nor a subject that lives, nor --keep",
+		Args:  exactly("STORE"),
 		RunE: func(one *cobra.Command, words []string) error {
 			c.began = true
 			return c.plan(one.Context(), words[0])
@@ -197,11 +197,11 @@ func (c *command) planCommand() *cobra.Command {
 
 func (c *command) pruneCommand() *cobra.Command {
 	one := &cobra.Command{
-		Use:   "prune LAYOUT",
+		Use:   "prune STORE",
 		Short: "Moves what nothing holds out of the sight of readers, and deletes what was moved long ago",
-		Long: `Moves what nothing holds into a folder of the layout that no reader looks at, looks at the layout again, and puts back what
-is named by then. What has lain there for --retention is deleted. What an index names meanwhile is put back first.`,
-		Args: exactly("LAYOUT"),
+		Long: `Moves what nothing holds into a folder of the store that no reader looks at, looks at the store again, and puts back what
+is named by then. What has lain there for --retention is deleted. What is named meanwhile is put back first.`,
+		Args: exactly("STORE"),
 		RunE: func(one *cobra.Command, words []string) error {
 			c.began = true
 			if c.dry {
@@ -218,9 +218,9 @@ is named by then. What has lain there for --retention is deleted. What an index 
 
 func (c *command) restoreCommand() *cobra.Command {
 	one := &cobra.Command{
-		Use:   "restore LAYOUT",
+		Use:   "restore STORE",
 		Short: "Puts back what was moved and is named by now, and does nothing else",
-		Args:  exactly("LAYOUT"),
+		Args:  exactly("STORE"),
 		RunE: func(one *cobra.Command, words []string) error {
 			c.began = true
 			return c.work(one.Context(), "restore", words[0], oci.Restore)
@@ -234,9 +234,9 @@ func (c *command) restoreCommand() *cobra.Command {
 
 func (c *command) whyCommand() *cobra.Command {
 	one := &cobra.Command{
-		Use:   "why DIGEST LAYOUT",
-		Short: "Tells the chain of names from index.json to a blob, or that there is none",
-		Args:  exactly("DIGEST", "LAYOUT"),
+		Use:   "why DIGEST STORE",
+		Short: "Tells the chain of names from a tag to a blob, or that there is none",
+		Args:  exactly("DIGEST", "STORE"),
 		RunE: func(one *cobra.Command, words []string) error {
 			name, err := digest.Parse(words[0])
 			if err != nil {
@@ -285,21 +285,21 @@ func (c *command) options() oci.Options {
 func size(bytes int64) string { return units.BytesSize(float64(bytes)) }
 
 func (c *command) plan(ctx context.Context, path string) error {
-	layout, err := oci.Open(ctx, path, c.options())
+	store, err := oci.Open(ctx, path, c.options())
 	if err != nil {
 		return err
 	}
 	s, tags := c.settings()
-	if s, err = layout.WithTags(s, tags); err != nil {
+	if s, err = store.WithTags(s, tags); err != nil {
 		return err
 	}
-	plan, err := layout.Plan(ctx, s)
+	plan, err := store.Plan(ctx, s)
 	if err != nil {
 		return err
 	}
-	c.tell(layout, plan)
+	c.tell(store, plan)
 	if c.machine {
-		return c.print(answerOf("plan", layout, plan, nil))
+		return c.print(answerOf("plan", store, plan, nil))
 	}
 	return c.table(plan, "would be freed")
 }
@@ -309,13 +309,13 @@ func (c *command) work(ctx context.Context, name, path string, do func(context.C
 	s, tags := c.settings()
 	result, err := do(ctx, path, oci.PruneSettings{
 		Options: c.options(), Settings: s, Retention: c.retention, Tags: tags,
-		Planned: func(layout *oci.Layout, plan *oci.Plan) error { c.tell(layout, plan); return nil },
+		Planned: func(store *oci.Store, plan *oci.Plan) error { c.tell(store, plan); return nil },
 		Log:     c.log,
 	})
 	if result == nil || result.Plan == nil {
 		return err
 	}
-	c.result = answerOf(name, result.Layout, result.Plan, result)
+	c.result = answerOf(name, result.Store, result.Plan, result)
 	if err != nil {
 		return err
 	}
@@ -331,31 +331,35 @@ func (c *command) log(event oci.Event) {
 		fmt.Fprintf(c.said, "not %s: %s: %s\n", event.What, event.Blob.Digest, plain(event.Err.Error()))
 	} else if !c.machine {
 		c.line(event.What+"  ", event.Blob)
+		// Who reads along, or reads what a killed prune has left, finds each thing that happened.
+		if out, buffered := c.out.(*bufio.Writer); buffered {
+			out.Flush()
+		}
 	}
 }
 
 func (c *command) why(ctx context.Context, name digest.Digest, path string) error {
-	layout, err := oci.Open(ctx, path, c.options())
+	store, err := oci.Open(ctx, path, c.options())
 	if err != nil {
 		return err
 	}
 	s, tags := c.settings()
-	if s, err = layout.WithTags(s, tags); err != nil {
+	if s, err = store.WithTags(s, tags); err != nil {
 		return err
 	}
-	chain, err := layout.Why(ctx, name, s)
+	chain, err := store.Why(ctx, name, s)
 	if err != nil {
 		return err
 	}
 	held := ""
 	if len(chain) == 0 {
-		if held, err = c.besides(ctx, layout, name, s); err != nil {
+		if held, err = c.besides(ctx, store, name, s); err != nil {
 			return err
 		}
 	}
 	if c.machine {
 		return c.print(map[string]any{"schemaVersion": schemaVersion, "command": "why", "status": statusDone, "digest": name,
-			"live": len(chain) > 0, "held": held, "chain": append([]digest.Digest{}, chain...)})
+			"live": len(chain) > 0, "held": held, "chain": append([]digest.Digest{}, chain...), "tags": tagsOf(store, chain)})
 	}
 	if len(chain) == 0 {
 		if held == "" {
@@ -369,7 +373,7 @@ func (c *command) why(ctx context.Context, name digest.Digest, path string) erro
 	for deep, one := range chain {
 		word := string(one)
 		if word == "" {
-			word = "index.json"
+			word = topOf(store, chain)
 		}
 		if _, err := fmt.Fprintf(c.out, "%s%s\n", strings.Repeat("  ", deep), word); err != nil {
 			return err
@@ -378,9 +382,30 @@ func (c *command) why(ctx context.Context, name digest.Digest, path string) erro
 	return nil
 }
 
+// tagsOf are those under which the first blob of a chain is listed.
+func tagsOf(store *oci.Store, chain []digest.Digest) []string {
+	all := []string{}
+	if len(chain) > 1 && chain[0] == "" {
+		for _, tag := range store.Tags(chain[1]) {
+			if tag != "" {
+				all = append(all, tag)
+			}
+		}
+	}
+	return all
+}
+
+// topOf is what a chain begins with, for people: what holds from outside, and the tags.
+func topOf(store *oci.Store, chain []digest.Digest) string {
+	if all := tagsOf(store, chain); len(all) > 0 {
+		return store.Top + ": " + plain(strings.Join(all, ", "))
+	}
+	return store.Top
+}
+
 // besides says why a blob is held to which no chain of names leads, and nothing if it is dead.
-func (c *command) besides(ctx context.Context, layout *oci.Layout, name digest.Digest, s oci.Settings) (string, error) {
-	plan, err := layout.Plan(ctx, s)
+func (c *command) besides(ctx context.Context, store *oci.Store, name digest.Digest, s oci.Settings) (string, error) {
+	plan, err := store.Plan(ctx, s)
 	if err != nil {
 		return "", err
 	}
@@ -389,7 +414,7 @@ func (c *command) besides(ctx context.Context, layout *oci.Layout, name digest.D
 			return "", nil
 		}
 	}
-	if why := layout.Besides(name, s); why != "" {
+	if why := store.Besides(name, s); why != "" {
 		return why, nil
 	}
 	return "something that is held for its age or damage, or a link, names it", nil

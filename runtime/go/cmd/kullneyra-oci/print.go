@@ -12,14 +12,14 @@ import (
 const schemaVersion = 1
 
 // tell says on standard error what is not as it should be.
-func (c *command) tell(layout *oci.Layout, plan *oci.Plan) {
-	for _, path := range layout.Stray {
+func (c *command) tell(store *oci.Store, plan *oci.Plan) {
+	for _, path := range store.Stray {
 		fmt.Fprintf(c.said, "left alone, no blob: %s\n", plain(path))
 	}
 	for _, one := range plan.Missing {
 		by, what := string(one.By), "not there"
 		if by == "" {
-			by = "index.json"
+			by = store.Top
 		}
 		if one.Foreign {
 			what = "foreign, and not there"
@@ -29,11 +29,14 @@ func (c *command) tell(layout *oci.Layout, plan *oci.Plan) {
 	for _, one := range plan.Damaged {
 		fmt.Fprintf(c.said, "damaged: %s: %s\n", one.Digest, plain(one.Err.Error()))
 	}
-	if layout.Shared != "" {
-		fmt.Fprintf(c.said, "prune would refuse: %s\n", layout.Shared)
+	if store.Shared != "" {
+		fmt.Fprintf(c.said, "prune would refuse: %s\n", store.Shared)
 	}
 	if plan.Untagged > 0 && !c.untagged {
-		fmt.Fprintf(c.said, "%d entries of index.json have no tag, and alone hold %s; --untagged takes them out\n", plan.Untagged, size(int64(plan.UntaggedFreed)))
+		fmt.Fprintf(c.said, "%d %s have no tag, and alone hold %s; --untagged takes them out\n", plan.Untagged, store.Entry, size(int64(plan.UntaggedFreed)))
+	}
+	if store.Uploads > 0 {
+		fmt.Fprintf(c.said, "%d uploads have begun and not ended; they are left alone\n", store.Uploads)
 	}
 	if plan.Young > 0 {
 		fmt.Fprintf(c.said, "%d dead blobs are younger than %s, and are held\n", plan.Young, c.grace)
@@ -124,11 +127,13 @@ type answer struct {
 	Stray         []string      `json:"stray"`
 	Shared        string        `json:"shared,omitempty"`
 	Untagged      untaggedJSON  `json:"untagged"`
+	Uploads       int           `json:"uploads"`
 	Before        []blobJSON    `json:"movedBefore"`
 	Named         []blobJSON    `json:"movedAndNamed"`
 	Moved         []blobJSON    `json:"moved"`
 	PutBack       []blobJSON    `json:"putBack"`
 	Deleted       []blobJSON    `json:"deleted"`
+	Links         int           `json:"links"` // that went or came with what they hang on
 	Failed        []faultJSON   `json:"failed"`
 }
 
@@ -140,15 +145,15 @@ func listOf(all []*oci.Blob) []blobJSON {
 	return out
 }
 
-func answerOf(command string, layout *oci.Layout, plan *oci.Plan, result *oci.Result) *answer {
+func answerOf(command string, store *oci.Store, plan *oci.Plan, result *oci.Result) *answer {
 	if result == nil {
 		result = &oci.Result{}
 	}
 	a := &answer{
 		SchemaVersion: schemaVersion, Command: command, Live: plan.Live, Freed: plan.Freed, Dead: listOf(plan.Dead), Young: plan.Young,
-		Missing: []missingJSON{}, Damaged: []faultJSON{}, Stray: append([]string{}, layout.Stray...), Shared: layout.Shared,
-		Untagged: untaggedJSON{plan.Untagged, plan.UntaggedFreed, result.Listed},
-		Before:   listOf(plan.Moved), Named: listOf(plan.Return),
+		Missing: []missingJSON{}, Damaged: []faultJSON{}, Stray: append([]string{}, store.Stray...), Shared: store.Shared,
+		Untagged: untaggedJSON{plan.Untagged, plan.UntaggedFreed, result.Listed}, Uploads: store.Uploads, Links: result.Links,
+		Before: listOf(plan.Moved), Named: listOf(plan.Return),
 		Moved: listOf(result.Moved), PutBack: listOf(result.PutBack), Deleted: listOf(result.Deleted), Failed: []faultJSON{},
 	}
 	for _, one := range plan.Missing {
