@@ -4,10 +4,11 @@
 # `make oci` builds target/bin/kullneyra-oci, the command over an OCI image layout or the folder of a registry.
 # `make oci-stress` runs 800 pushes beside prunes and 200 kills, some minutes.
 # `make course` opens the page that draws a run, turn by turn.
+# `make sheets` draws the stored sheets of docs/course anew, and its finished page.
 # `make deal` builds what deals the cards and seeds of a case, for tools/case.py.
 # `make pause` builds target/bin/pause, the program that stops a collection and goes on.
 # `make bench` measures; its table and plots go to target/bench/.
-.PHONY: test run library oci oci-stress steps deal course pause install install-oci compare bench
+.PHONY: test run library oci oci-stress steps deal course sheets pause install install-oci compare bench
 
 CASES ?= 5000000
 SEED ?= 2
@@ -62,6 +63,11 @@ target/course/%: runtime/c/%.c runtime/include/kullneyra.h target/staticlib/libk
 # The page of the course: a run turn by turn, on 127.0.0.1.
 course: steps deal
 	@tools/course.py serve
+
+sheets: steps deal
+	@rm -f docs/course/*.svg
+	@for case in docs/course/*.txt; do tools/course.py sheet "$$case" "$${case%.txt}.svg" || exit 1; done
+	@tools/course.py page docs/course/a.txt docs/course/a.html
 
 # The program that stops a collection and goes on; needs Debian's librust-sha2-dev (tests/runtime/packages).
 pause: library

@@ -26,7 +26,7 @@ A case is lines of words. '#' begins a comment, blank lines are skipped.
                           each names the next, the last the first
     seed A B rounds N     the rounds of N cards drawn from the seed of these two words
 
-Cards and seeds are dealt by the proved library: `make deal` builds the program that does it.
+Cards and seeds are dealt by the proved library, up to 1,048,576 turns in a case: `make deal` builds the program that does it.
 
 References that go and come are an update of the store that the lines above tell. The Rust crate's
 example update takes the ones out, and then adds the others.
@@ -97,6 +97,8 @@ TALLY = ("followed", "won", "lost", "handed")
 # What deals cards, the last card, and why cards are not dealt, by the number of the refusal.
 DEAL = TOP / "target" / "course" / "deal"
 LAST_CARD = 719
+# A case has no more turns than this from cards and seeds.
+MOST_DEALT = 1 << 20
 FOR_BOXES = "cards are for 1 to 6 boxes, whose number stands before them"
 NOT_DEALT = {8: FOR_BOXES, 15: FOR_BOXES, 16: "the first word of a seed is not 0"}
 
@@ -156,7 +158,10 @@ class Case:
 def number(word: str, limit: int) -> int:
     if not word.isascii() or not word.isdigit():
         raise Fault(f"'{word}' is not a decimal number")
-    value = int(word)
+    digits = word.lstrip("0") or "0"
+    if len(digits) > len(str(limit)):
+        raise Fault(f"{digits if len(digits) <= 40 else f'a number of {len(digits)} digits'} is above {limit}")
+    value = int(digits)
     if value > limit:
         raise Fault(f"{value} is above {limit}")
     return value
@@ -170,6 +175,9 @@ def dealt(case: Case, *seed: int, cards: tuple[int, ...] = ()) -> list[tuple[int
     """The turns of these cards, or of the words of a seed and so many rounds, as the library deals them."""
     if not DEAL.exists():
         raise Fault(f"cards are dealt by {DEAL.relative_to(TOP)}, which is not there: make deal builds it")
+    rounds = len(cards) if cards else seed[-1] if seed else 0
+    if len(case.turns) + rounds * case.settings.get("boxes", 0) > MOST_DEALT:
+        raise Fault(f"cards and seeds give a case at most {MOST_DEALT:,} turns")
     words = map(str, (case.settings.get("boxes", 0), *seed))
     done = subprocess.run([DEAL, *words], input=" ".join(map(str, cards)), capture_output=True, text=True)
     if done.returncode:
@@ -178,7 +186,6 @@ def dealt(case: Case, *seed: int, cards: tuple[int, ...] = ()) -> list[tuple[int
     if refusal:
         raise Fault(NOT_DEALT.get(int(refusal[1]), f"{DEAL.name} answers the refusal {refusal[1]}"))
     turns = re.fullmatch(r"(?:turn \d+ \d+\n)*", done.stdout) and re.findall(r"turn (\d+) (\d+)\n", done.stdout)
-    rounds = len(cards) if cards else seed[-1] if seed else 0
     if turns is None or len(turns) != rounds * case.settings.get("boxes", 0):
         raise Fault(f"{DEAL.name} does not answer with the turns of {rounds} rounds")
     return [(int(box), int(asked)) for box, asked in turns]

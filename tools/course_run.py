@@ -1,295 +1,470 @@
 """A case run turn by turn by the proved library, as states and sentences. Nothing here knows the rules of a turn: what a
 sentence tells is read off the state before and the state after, which the library saved."""
 
+import json
+import signal
 import subprocess
+import sys
 import tempfile
-from dataclasses import dataclass, field
+from array import array
 from pathlib import Path
-from typing import Optional
+from threading import Lock, Thread
+from typing import Iterator, NamedTuple, Optional
 
 import case
+from course_read import MOST_TEXT, SECONDS
+from course_words import Words, words
 
 TOP = case.TOP
+READ = Path(__file__).resolve().parent / "course_read.py"
 STEPS = TOP / "target" / "course" / "steps"
-# More turns than this are not taken one by one.
-MOST_TURNS = 20_000
+# Bounds of a run: turns, saved words that the library is given over all turns, changed words that are kept, words of
+# whole states that are kept, and seconds.
+MOST_TURNS, MOST_LOOKED, MOST_CHANGED, MOST_KEPT, MOST_SECONDS = 20_000, 2_000_000_000, 4_000_000, 4_000_000, 60
 NO_HOPS = 4_294_967_295
 NOBODY = None
-LARGEST_SIZE, MOST_BOXES, MOST_LEASES = 1_099_511_627_776, 16, 256
-
-REFUSALS = {
-    1: "the catalogue ends too soon for a record",
-    2: "an unknown kind of record, or a length that its kind does not have",
-    3: "a record that is not due at its place, or one too many",
-    4: "the number of objects or of references is out of range: 1 to 65,536 objects, up to 1,048,576 references",
-    5: "index, from, to or a lease is no object's number",
-    6: "a size above 1,099,511,627,776",
-    7: "a buffer is not as long as it must be",
-    8: "boxes not 1 to 16, or batch or cutoff not 1 to 65,535",
-    9: "a turn of a box that is not there",
-    10: "offsets and targets that are no graph",
-    12: "there is no order",
-    13: "more than 256 leases",
-    14: "saved words that hold no sound collection",
-}
+NO_REFERENCE = 4_294_967_295
+KINDS = ("nothing", "passed", "asked", "ended", "taken", "polled", "handed", "refused", "looked", "followed", "won", "lost")
+FOLLOWS = ("looked", "followed", "won", "lost")
 
 
 class Fault(Exception):
-    """A case that is not run: what is wrong, the number of the refusal if there is one, and the line that causes it."""
+    """A case that is not run: what is wrong, the number of the refusal if there is one, and the line that causes it. `key` and
+    `values` say it in any language."""
 
-    def __init__(self, text: str, number: Optional[int] = None, line: Optional[int] = None):
-        super().__init__(text)
-        self.text, self.number, self.line = text, number, line
+    def __init__(self, key: str, number: Optional[int] = None, line: Optional[int] = None, text: Optional[str] = None, **values):
+        self.key, self.number, self.line, self.given, self.values = key, number, line, text, values
+        super().__init__(self.say(words()))
+
+    def say(self, said: Words) -> str:
+        if self.given is not None:
+            return self.given
+        if self.number is not None:
+            reason = f"refusal-{self.number}" if f"refusal-{self.number}" in said.parts["faults"] else "refusal-other"
+            return said.say("faults", "refusal", number=self.number, reason=said.say("faults", reason))
+        return said.say("faults", self.key, **self.values)
+
+    @property
+    def text(self) -> str:
+        return str(self)
 
 
-@dataclass
 class Box:
-    status: str
-    asker: Optional[int]  # whom its cell holds
-    since: int
-    batch: int
-    runs: list[tuple[int, int]]  # the run that is followed first stands first; the end is excluded
-    tally: dict[str, int]
-    black: bool
+    """A box in a state: its registers, and the rest as it is asked for."""
+
+    def __init__(self, state: "State", b: int):
+        status, cell, self.since, self.batch = state.words[state.registers(b):state.registers(b) + 4]
+        self.state, self.number, self.status = state, b, case.STATUSES[status]
+        self.asker = cell - 1 if cell else NOBODY  # whom its cell holds
+
+    @property
+    def runs(self) -> list[tuple[int, int]]:
+        """The run that is followed first stands first; the end is excluded."""
+        return list(self.stored())[::-1]
+
+    def stored(self) -> Iterator[tuple[int, int]]:
+        """Its runs as its stretch has them, up to the zeros behind them."""
+        saved = self.state.words
+        for at in range(self.state.stretch(self.number), self.state.stretch(self.number + 1), 2):
+            if saved[at + 1] == 0:
+                break
+            yield saved[at], saved[at + 1]
 
     @property
     def carried(self) -> int:
-        return sum(end - first for first, end in self.runs)
+        return sum(end - first for first, end in self.stored())
+
+    @property
+    def tally(self) -> dict[str, int]:
+        at = self.state.tallies(self.number)
+        return {name: self.state.long(at + 2 * place) for place, name in enumerate(case.TALLY)}
+
+    @property
+    def black(self) -> bool:
+        return bool(self.state.words[State.BLACK] >> self.number & 1)
 
 
-@dataclass
 class State:
-    counts: dict[str, int]
-    marks: list[int]
-    boxes: list[Box]
-    holder: int  # of the token
-    token_black: bool
+    """A state, over saved words as SPECIFICATION 8.1 lays them out."""
+
+    HOLDER, COLOUR, BLACK, REGISTERS = 13, 14, 15, 16
+
+    def __init__(self, saved: array, n: int, workers: int):
+        self.words, self.n, self.workers = saved, n, workers
+
+    def registers(self, b: int) -> int:
+        return self.REGISTERS + 4 * b
+
+    def tallies(self, b: int) -> int:
+        return self.REGISTERS + 4 * self.workers + 8 * b
+
+    def stretch(self, b: int) -> int:
+        return self.REGISTERS + 12 * self.workers + self.n + (2 * self.n + 4) * b
+
+    def long(self, at: int) -> int:
+        return self.words[at] + (self.words[at + 1] << 32)
+
+    def __eq__(self, other) -> bool:
+        return self.words == other.words
+
+    @property
+    def counts(self) -> dict[str, int]:
+        return {name: self.long(1 + 2 * at) for at, name in enumerate(case.COUNTS)}
+
+    @property
+    def holder(self) -> int:
+        return self.words[self.HOLDER]
+
+    @property
+    def token_black(self) -> bool:
+        return bool(self.words[self.COLOUR])
+
+    @property
+    def marks(self) -> array:
+        at = self.REGISTERS + 12 * self.workers
+        return self.words[at:at + self.n]
+
+    def mark(self, v: int) -> int:
+        return self.words[self.REGISTERS + 12 * self.workers + v]
+
+    def box(self, b: int) -> Box:
+        return Box(self, b)
+
+    @property
+    def boxes(self) -> list[Box]:
+        return [Box(self, b) for b in range(self.workers)]
 
 
-@dataclass
-class Turn:
-    box: int
-    asked: int
-    state: State
-    kind: str = ""
-    sentence: str = ""
+class Arrow(NamedTuple):
+    """What goes from one box to another: `ask`, `hand`, `no` or `token`. A fresh one goes in this very turn; the others stand:
+    an ask in its cell, a reply until it is taken in. A hand-over has runs of references."""
+
+    kind: str
+    source: int
+    target: int
+    fresh: bool
+    runs: tuple[tuple[int, int], ...] = ()
 
 
-@dataclass
 class Run:
-    """A case that was run: the graph that the library read, the states, and what it found."""
+    """A case that is run: the graph that the library read, and all states. Kept are the first, one every so many turns, and of
+    each turn what it changed. It grows while the library makes turns, until it is `done`."""
 
-    case: case.Case
-    workers: int
-    batch: int
-    cutoff: int
-    offsets: list[int]
-    targets: list[int]
-    sources: list[int]
-    starts: list[int]
-    hops: list[int]
-    first: State
-    turns: list[Turn] = field(default_factory=list)
-    finished: bool = False
-    dead: Optional[list[int]] = None
-    freed: int = 0
-    left: int = 0  # turns of the order that were not taken: they stand behind the end, or there are too many
+    def __init__(self, told: dict, lines: dict[str, list[int]], saved: list[int]):
+        self.n, _, self.workers, self.batch, self.cutoff = lines["store"]
+        self.names, self.deals = told["names"], told["deals"]
+        self.targets, self.starts, self.hops = lines["targets"], lines["starts"], lines["hops"]
+        offsets = lines["offsets"]
+        self.sources = [v for v in range(self.n) for _ in range(offsets[v + 1] - offsets[v])]
+        if saved[0] != case.FORM:
+            raise Fault("broken")
+        self.now = State(array("I", saved), self.n, self.workers)
+        self.every = max(64, -(-MOST_TURNS * len(saved) // MOST_KEPT))
+        self.kept = [self.now.words[:]]
+        self.turn_boxes, self.turn_asked, self.turn_kinds = bytearray(), bytearray(), bytearray()
+        self.looked_at = array("I")  # the reference that each turn looked at, claimed along or followed
+        self.places, self.changes = array("Q", [0]), array("I")
+        self.rounds = array("I", [0])  # whole stretches, each with a turn of every box, after each turn
+        self.seen: set[int] = set()
+        self.tops = [0] * self.workers  # how many runs each box has
+        self.settle(range(self.workers))
+        self.first = State(self.kept[0], self.n, self.workers)
+        self.total = self.left = self.freed = 0
+        self.finished = self.done = False
+        self.dead: Optional[list[int]] = None
+        self.fault: Optional[Fault] = None
+        self.lock, self.latest = Lock(), (0, self.kept[0])
+        self.process: Optional[subprocess.Popen] = None
 
-    def state(self, number: int) -> State:
-        """The state after so many turns."""
-        return self.turns[number - 1].state if number else self.first
+    def __len__(self) -> int:
+        """How many turns are known."""
+        return len(self.turn_kinds)
+
+    def stop(self) -> None:
+        """Makes no further turns."""
+        if self.process and self.process.poll() is None:
+            self.process.kill()
+
+    @property
+    def kinds(self) -> list[str]:
+        return [KINDS[kind] for kind in self.turn_kinds]
+
+    def kind(self, number: int) -> str:
+        return KINDS[self.turn_kinds[number - 1]] if number else ""
 
     @property
     def reached(self) -> int:
         """R: the references that leave objects to which a chain leads, by their hop counts."""
         return sum(self.hops[source] != NO_HOPS for source in self.sources)
 
+    @property
+    def bound(self) -> int:
+        """The stretches, or rounds of cards, after which every order has finished (SPECIFICATION 6)."""
+        return 7 * self.reached + 4 * self.workers + 2
 
-def decode(words: list[int], n: int, workers: int) -> State:
-    """A state from saved words, as SPECIFICATION 8.1 lays them out."""
-    at = iter(words)
+    def settle(self, boxes) -> None:
+        """Counts the runs of these boxes anew, from where they were."""
+        saved = self.now.words
+        for b in boxes:
+            at, top = self.now.stretch(b), self.tops[b]
+            while top < self.n + 2 and saved[at + 2 * top + 1] != 0:
+                top += 1
+            while top and saved[at + 2 * top - 1] == 0:
+                top -= 1
+            self.tops[b] = top
 
-    def take(count: int) -> list[int]:
-        return [next(at) for _ in range(count)]
+    def grow(self, box: int, asked: int, finished: int, changed: list[int]) -> None:
+        """One more turn, which changed these words: places and words in turn."""
+        now = self.now
+        front = now.words[now.stretch(box) + 2 * self.tops[box] - 2] if self.tops[box] else NO_REFERENCE
+        before = glance(now, box)
+        for at, word in zip(changed[::2], changed[1::2]):
+            now.words[at] = word
+        stretches, length = now.stretch(0), 2 * self.n + 4
+        self.settle({(at - stretches) // length for at in changed[::2] if at >= stretches})
+        kind = kind_of(before, glance(now, box), now, not changed)
+        self.changes.extend(changed)
+        self.places.append(len(self.changes))
+        self.looked_at.append(front if kind in FOLLOWS else NO_REFERENCE)
+        self.seen.add(box)
+        whole = len(self.seen) == self.workers
+        self.rounds.append(self.rounds[-1] + whole)
+        if whole:
+            self.seen.clear()
+        self.finished = bool(finished)
+        if (len(self) + 1) % self.every == 0:
+            self.kept.append(now.words[:])
+        self.turn_boxes.append(box)
+        self.turn_asked.append(asked)
+        self.turn_kinds.append(KINDS.index(kind))
 
-    def longs(count: int) -> list[int]:
-        pairs = take(2 * count)
-        return [low + (high << 32) for low, high in zip(pairs[::2], pairs[1::2])]
+    def state(self, number: int) -> State:
+        """The state after so many turns."""
+        with self.lock:
+            latest, saved = self.latest
+            if not number - self.every < latest <= number:
+                latest, saved = number // self.every * self.every, self.kept[number // self.every]
+            saved = saved[:]
+            for at in range(self.places[latest], self.places[number], 2):
+                saved[self.changes[at]] = self.changes[at + 1]
+            self.latest = number, saved
+            return State(saved, self.n, self.workers)
 
-    if take(1) != [case.FORM]:
-        raise Fault("saved words of another form")
-    counts = dict(zip(case.COUNTS, longs(len(case.COUNTS))))
-    holder, token, black = take(3)
-    registers = [take(4) for _ in range(workers)]
-    tallies = [dict(zip(case.TALLY, longs(len(case.TALLY)))) for _ in range(workers)]
-    marks = take(n)
-    boxes = []
-    for b, (status, cell, since, batch) in enumerate(registers):
-        stretch = take(2 * n + 4)
-        pairs = list(zip(stretch[::2], stretch[1::2]))
-        runs = [pair for pair in reversed(pairs) if pair != (0, 0)]
-        boxes.append(Box(case.STATUSES[status], cell - 1 if cell else NOBODY, since, batch, runs, tallies[b], bool(black >> b & 1)))
-    return State(counts, marks, boxes, holder, bool(token))
+    def looked(self, number: int) -> Optional[int]:
+        """The reference that the turn looked at, claimed along or followed."""
+        reference = self.looked_at[number - 1] if number else NO_REFERENCE
+        return None if reference == NO_REFERENCE else reference
+
+    def followed(self, number: int) -> list[int]:
+        """The references that the first so many turns followed."""
+        looked = KINDS.index("looked")
+        return [e for e, kind in zip(self.looked_at[:number], self.turn_kinds) if e != NO_REFERENCE and kind != looked]
+
+    def arrows(self, number: int) -> list[Arrow]:
+        """What goes from box to box in a turn, and what stands after it."""
+        after = self.state(number)
+        before, acting = (self.state(number - 1), self.turn_boxes[number - 1]) if number else (after, None)
+        out = []
+        for b in range(self.workers):
+            old, new = before.box(b), after.box(b)
+            if new.asker is not NOBODY:
+                out.append(Arrow("ask", new.asker, b, new.asker != old.asker))
+            if new.status in ("given", "denied"):
+                fresh = old.status != new.status
+                replier = acting if fresh else self.turn_boxes[self.replied(number, b, new.status)]
+                runs = tuple(new.runs) if new.status == "given" else ()
+                out.append(Arrow("hand" if runs else "no", replier, b, fresh, runs))
+        if number and self.kind(number) == "passed":
+            out.append(Arrow("token", before.holder, after.holder, True))
+        return out
+
+    def replied(self, number: int, b: int, status: str) -> int:
+        """The place of the turn that gave box b the reply which awaits it after so many turns."""
+        register, code = self.now.registers(b), case.STATUSES.index(status)
+        for turn in range(number - 1, -1, -1):
+            places = self.changes[self.places[turn]:self.places[turn + 1]:2]
+            if register in places and self.changes[self.places[turn] + 2 * places.index(register) + 1] == code:
+                return turn
+        raise Fault("broken")
+
+    def sentence(self, number: int, said: Optional[Words] = None) -> str:
+        """What the turn did, with its number."""
+        said = said or words()
+        if not number:
+            return said.say("sentences", "start" if self.first.box(0).status != "idle" else "start-empty")
+        return said.say("sentences", "turn", number=number, sentence=self.told(number, said))
+
+    def told(self, number: int, said: Words) -> str:
+        """What the turn did, read off the states before and after it."""
+        before, after = self.state(number - 1), self.state(number)
+        b, kind = self.turn_boxes[number - 1], self.kind(number)
+        old, new = before.box(b), after.box(b)
+        key, more = kind, {}
+        if kind == "nothing":
+            key, more = f"nothing-{old.status}", {"asked": self.turn_asked[number - 1]}
+        elif kind == "passed":
+            more["colour"] = said.say("sentences", "passed-black" if after.token_black else "passed-white")
+            more["where"] = said.say("sentences", "passed-on" if after.holder != b else "passed-round", to=after.holder)
+            more["whitened"] = said.say("sentences", "whitened") if old.black and not new.black else ""
+        elif kind == "asked":
+            more["asked"] = next(c for c, box in enumerate(after.boxes) if box.asker == b)
+        elif kind == "taken":
+            key = "taken-refusal" if old.status == "denied" else "taken"
+            more["taken"] = said.number("sentences", "reference", new.carried)
+        elif kind == "handed":
+            more["blackened"] = said.say("sentences", "blackened") if new.black and not old.black else ""
+            more["kept"] = said.number("sentences", "reference", new.carried)
+            more["given"] = after.box(old.asker).carried
+        elif kind in FOLLOWS:
+            reference = self.looked(number)
+            target = self.targets[reference]
+            more = {"source": self.sources[reference], "target": target, "owner": before.mark(target) - 1, "behind": ""}
+            if new.status == "idle":
+                more["behind"] = said.say("sentences", "behind" if old.asker is NOBODY else "behind-refuses", asker=old.asker)
+            key = "followed-start" if kind == "followed" and target in self.starts else kind
+        return said.say("sentences", key, box=b, batch=new.batch, **{"asker": old.asker, **more})
 
 
-def count(number: int, noun: str = "reference") -> str:
-    return f"{number} {noun}{'' if number == 1 else 's'}"
+class Glance(NamedTuple):
+    """What tells a turn's kind: of its box the status, cell, colour, won and lost claims, and of the token its holder and colour."""
+
+    status: str
+    cell: int
+    black: int
+    won: int
+    lost: int
+    holder: int
+    colour: int
 
 
-def owner(mark: int) -> str:
-    return f"box {mark - 1}"
+def glance(state: State, b: int) -> Glance:
+    saved, at, tally = state.words, state.registers(b), state.tallies(b)
+    return Glance(case.STATUSES[saved[at]], saved[at + 1], saved[State.BLACK] >> b & 1, saved[tally + 2], saved[tally + 4],
+                  saved[State.HOLDER], saved[State.COLOUR])
 
 
-def told(run: Run, before: State, after: State, turn: Turn) -> tuple[str, str]:
-    """What kind of turn it was, and one sentence on it."""
-    b = turn.box
-    old, new, me = before.boxes[b], after.boxes[b], f"Box {b}"
-    if before == after:
-        why = {
-            "ended": "has ended",
-            "asking": "still waits for a reply",
-            "idle": f"finds nobody to ask: it named box {turn.asked}",
-        }[old.status]
-        return "nothing", f"{me} {why}; nothing changes."
-    if before.holder != after.holder or (before.token_black, before.boxes[b].black) != (after.token_black, after.boxes[b].black) and old.status == "idle":
-        colour = "black" if after.token_black else "white"
-        whitened = " and turns white" if old.black and not new.black else ""
-        to = f"to box {after.holder}" if after.holder != b else "round to itself"
-        return "passed", f"{me} passes a {colour} token {to}{whitened}."
+def kind_of(old: Glance, new: Glance, after: State, same: bool) -> str:
+    """What kind of turn it was."""
+    if same:
+        return "nothing"
+    if old.holder != new.holder or old.status == "idle" and (old.colour, old.black) != (new.colour, new.black):
+        return "passed"
     if old.status == "idle" and new.status == "asking":
-        asked = next(c for c, box in enumerate(after.boxes) if box.asker == b)
-        return "asked", f"{me} asks box {asked}."
+        return "asked"
     if new.status == "ended":
-        return "ended", f"{me} ends."
-    if old.status == "denied":
-        return "taken", f"{me} takes the refusal in and is idle."
-    if old.status == "given":
-        return "taken", f"{me} takes {count(new.carried)} up."
+        return "ended"
+    if old.status in ("denied", "given"):
+        return "taken"
     if old.status == "poll":
-        return polled(after, b, old, new)
-    return followed(run, before, after, b)
-
-
-def polled(after: State, b: int, old: Box, new: Box) -> tuple[str, str]:
-    me, batch = f"Box {b}", f"begins a batch of {new.batch}"
-    if old.asker is NOBODY:
-        return "polled", f"{me} {batch}."
-    asker = after.boxes[old.asker]
-    if asker.status == "given":
-        blackened = "turns black and " if new.black and not old.black else ""
-        return "handed", f"{me} keeps {count(new.carried)} and hands {asker.carried} to box {old.asker}; it {blackened}{batch}."
-    return "refused", f"{me} refuses box {old.asker} and {batch}."
-
-
-def followed(run: Run, before: State, after: State, b: int) -> tuple[str, str]:
-    old, new, me = before.boxes[b], after.boxes[b], f"Box {b}"
-    reference = old.runs[0][0]
-    source, target = run.sources[reference], run.targets[reference]
-    arrow = f"{source} → {target}"
+        if not old.cell:
+            return "polled"
+        return "handed" if after.box(old.cell - 1).status == "given" else "refused"
     if new.status == "claim":
-        return "looked", f"{me} looks at {arrow}: object {target} is unmarked, so it will claim it."
-    behind = ""
-    if new.status == "idle":
-        behind = ", and is left with nothing"
-        if old.asker is not NOBODY:
-            behind += f": it refuses box {old.asker}"
-    if old.status == "look":
-        known = "is a start" if target in run.starts else f"was claimed by {owner(before.marks[target])}"
-        return "followed", f"{me} follows {arrow}: object {target} {known}{behind}."
-    if before.marks[target] == 0:
-        return "won", f"{me} claims object {target} along {arrow}{behind}."
-    return "lost", f"{me} loses the claim of object {target} to {owner(before.marks[target])}{behind}."
+        return "looked"
+    return "won" if new.won != old.won else "lost" if new.lost != old.lost else "followed"
 
 
-def blame(one: case.Case, number: int) -> Optional[int]:
-    """The line that causes this refusal, where one does: of several, that of the part which the library looks at first."""
-    objects, boxes = len(one.sizes), one.settings["boxes"]
-    no_object, zero = lambda v: v >= objects, lambda v: v == 0
-    wrong = {
-        5: {"index": no_object, "reference": lambda ends: no_object(max(ends)), "lease": no_object},
-        6: {"object": lambda size: size > LARGEST_SIZE},
-        8: {"boxes": lambda v: not 1 <= v <= MOST_BOXES, "batch": zero, "cutoff": zero},
-        9: {"turn": lambda turn: turn[0] >= boxes},
-    }
-    if number == 13:
-        return one.lines["lease"][MOST_LEASES]
-    parts = one.parts()
-    lines = (line for name, test in wrong.get(number, {}).items() for line, part in zip(one.lines[name], parts[name]) if test(part))
-    return next(lines, None)
-
-
-def parse(text: str) -> case.Case:
+def read_case(text: str, folder: str, refusal: Optional[int] = None) -> dict:
+    """What `course_read.py` answers on a case; Fault where that has no answer."""
+    if len(text) > MOST_TEXT:
+        raise Fault("too-long", most=f"{MOST_TEXT:,}")
+    command = [sys.executable, str(READ), folder] + ([] if refusal is None else [str(refusal)])
     try:
-        return case.parse(text)
-    except case.Fault as fault:
-        raise Fault(str(fault), line=fault.line) from None
-
-
-def play(text: str, most: int = MOST_TURNS) -> Run:
-    """Runs a case in the text form of case.py. Raises Fault for one that is refused."""
-    one = parse(text)
-    if not STEPS.exists():
-        raise Fault(f"{STEPS.relative_to(TOP)} is not there: make course builds it")
-    with tempfile.TemporaryDirectory() as folder:
-        try:
-            case.save(one, Path(folder))
-        except case.Fault as fault:
-            raise Fault(str(fault)) from None
-        done = subprocess.run([str(STEPS), folder, str(most)], capture_output=True, text=True)
+        done = subprocess.run(command, input=text.encode("utf-8", "surrogatepass"), capture_output=True, timeout=2 * SECONDS)
+    except subprocess.TimeoutExpired:
+        raise Fault("too-slow") from None
+    if done.returncode in (-signal.SIGXCPU, -signal.SIGKILL):
+        raise Fault("too-slow")
     if done.returncode:
-        raise Fault(done.stderr.strip())
-    return read(one, done.stdout)
+        last = done.stderr.decode("utf-8", "replace").strip().splitlines()[-1:]
+        known = {"MemoryError": "too-much", "UnicodeDecodeError": "not-utf8"}
+        raise Fault(known.get(last[0].split(":")[0] if last else "", "broken"))
+    answer = json.loads(done.stdout)
+    if "fault" in answer:
+        raise Fault("given", text=answer["fault"], line=answer["line"])
+    return answer
 
 
-def read(one: case.Case, output: str) -> Run:
-    lines = iter(output.splitlines())
-    told_lines: dict[str, list[int]] = {}
-    run = None
-    for line in lines:
+def begin(text: str, most: int = MOST_TURNS) -> tuple[Run, Thread]:
+    """Begins to run a case in the text form of case.py: the run as it starts, and what makes it grow. Raises Fault for a case that
+    is refused."""
+    if not STEPS.exists():
+        raise Fault("not-built", program=STEPS.relative_to(TOP))
+    with tempfile.TemporaryDirectory() as folder:
+        told = read_case(text, folder)
+        process = subprocess.Popen([str(STEPS), folder, *map(str, (most, MOST_LOOKED, MOST_CHANGED))],
+                                   stdout=subprocess.PIPE, stderr=subprocess.PIPE, text=True)
+        run = begun(told, process, text)
+    run.process = process
+    watch = Thread(target=kill_late, args=(process,), daemon=True)
+    growing = Thread(target=read_turns, args=(run, process), daemon=True)
+    watch.start()
+    growing.start()
+    return run, growing
+
+
+def kill_late(process: subprocess.Popen) -> None:
+    try:
+        process.wait(MOST_SECONDS)
+    except subprocess.TimeoutExpired:
+        process.kill()
+
+
+def begun(told: dict, process: subprocess.Popen, text: str) -> Run:
+    """The run, from the lines before its first turn."""
+    lines: dict[str, list[int]] = {}
+    refusal = None
+    for line in process.stdout:
         word, *rest = line.split()
         if word == "refusal":
-            number = int(rest[0])
-            raise Fault(f"refusal {number}: {REFUSALS.get(number, 'told by the library')}", number, blame(one, number))
+            refusal = int(rest[0])
+            break
+        lines[word] = [int(value) for value in rest]
+        if word == "turns":
+            run = Run(told, lines, lines["saved"])
+            run.total = lines["turns"][0]
+            return run
+    close(process)
+    if refusal is None:
+        raise Fault("broken")
+    with tempfile.TemporaryDirectory() as folder:
+        raise Fault("refusal", refusal, read_case(text, folder, refusal)["line"])
+
+
+def close(process: subprocess.Popen) -> int:
+    """Lets go of the program; the status that it ended with."""
+    process.stdout.close()
+    process.stderr.close()
+    return process.wait()
+
+
+def read_turns(run: Run, process: subprocess.Popen) -> None:
+    """Takes the turns in as they are made, and what the library found at the end."""
+    whole = False
+    for line in process.stdout:
+        word, *rest = line.split()
         numbers = [int(value) for value in rest]
-        if word == "saved" and run is None:
-            run = begun(one, told_lines, numbers)
-        elif word == "saved":
-            run.turns[-1].state = decode(numbers, len(run.offsets) - 1, run.workers)
-        elif word == "turn":
-            run.turns.append(Turn(numbers[0], numbers[1], run.first))
-            run.finished = bool(numbers[2])
+        if not line.endswith("\n"):
+            break  # cut off, where the program was stopped
+        if word == "turn":
+            run.grow(numbers[0], numbers[1], numbers[2], numbers[3:])
         elif word == "left":
-            run.left = numbers[0]
+            run.left, whole = numbers[0], True
         elif word == "freed":
             run.freed = numbers[0]
         elif word == "dead":
             run.dead = numbers
         else:
-            told_lines[word] = numbers
-    before = run.first
-    for turn in run.turns:
-        turn.kind, turn.sentence = told(run, before, turn.state, turn)
-        before = turn.state
+            break
+    if close(process) or not whole:
+        run.left, run.fault = run.total - len(run), Fault("too-slow" if process.returncode == -signal.SIGKILL else "broken")
+    run.done = True
+
+
+def play(text: str, most: int = MOST_TURNS) -> Run:
+    """Runs a case to its end. Raises Fault for one that is refused."""
+    run, growing = begin(text, most)
+    growing.join()
+    if run.fault:
+        raise run.fault
     return run
-
-
-def begun(one: case.Case, lines: dict[str, list[int]], saved: list[int]) -> Run:
-    n, _, workers, batch, cutoff = lines["store"]
-    offsets = lines["offsets"]
-    sources = [v for v in range(n) for _ in range(offsets[v + 1] - offsets[v])]
-    return Run(one, workers, batch, cutoff, offsets, lines["targets"], sources, lines["starts"], lines["hops"], decode(saved, n, workers))
-
-
-def bound(run: Run) -> int:
-    """The stretches, or rounds of cards, after which every order has finished (SPECIFICATION 6)."""
-    return 7 * run.reached + 4 * run.workers + 2
-
-
-def stretches(run: Run, turns: int) -> int:
-    """How many stretches the first so many turns can be cut into, each with a turn of every box."""
-    cut, seen = 0, set()
-    for turn in run.turns[:turns]:
-        seen.add(turn.box)
-        if len(seen) == run.workers:
-            cut, seen = cut + 1, set()
-    return cut

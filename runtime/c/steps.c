@@ -1,12 +1,16 @@
 /* A collection turn by turn: what the library saves after each turn of the order, as lines of numbers, for tools/course.py.
  *
- *     steps FOLDER [MOST]     FOLDER has store.cat and order.run; at most MOST turns are taken, 100,000 if it is not said,
- *                             and none after the end, where nothing changes
+ *     steps FOLDER TURNS LOOKED PRINTED
  *
- * Every line is a word and numbers. A refused call ends the program with the line `refusal NUMBER CALL`. */
-#include <errno.h>
+ * FOLDER has store.cat and order.run. No turn is taken after the end, where nothing changes, none behind the first TURNS, and
+ * none once the library was given LOOKED saved words, or PRINTED changed words were printed.
+ *
+ * Every line is a word and numbers. Behind the start's saved words, each turn has its box, whom it names, whether the
+ * collection is finished, and the saved words that it changed: place and new word of each. The lines come as the turns are
+ * made. A refused call ends the program with the line `refusal NUMBER CALL`. */
 #include <stdio.h>
 #include <stdlib.h>
+#include <string.h>
 
 #include "kullneyra.h"
 
@@ -23,10 +27,17 @@ static void *lend(size_t count, size_t size) {
     return memory;
 }
 
+static void flush(void) {
+    if (fflush(stdout) != 0 || ferror(stdout)) {
+        fail("the output is lost");
+    }
+}
+
 static void check(uint32_t number, const char *call) {
     if (number != KULLNEYRA_OK) {
         printf("refusal %u %s\n", (unsigned)number, call);
-        exit(fflush(stdout) == 0 ? 0 : 2);
+        flush();
+        exit(0);
     }
 }
 
@@ -58,11 +69,26 @@ static void words(const char *name, const uint32_t *word, size_t count) {
     putchar('\n');
 }
 
-int main(int count, char **word) {
-    if (count < 2 || count > 3) {
-        fail("steps FOLDER [MOST]");
+/* Prints the words that are not as before, and makes them so; how many there are. */
+static size_t changes(uint32_t *before, const uint32_t *after, size_t count) {
+    size_t changed = 0;
+    for (size_t i = 0; i < count; i++) {
+        if (before[i] != after[i]) {
+            printf(" %zu %u", i, (unsigned)after[i]);
+            before[i] = after[i];
+            changed++;
+        }
     }
-    const size_t most = count == 3 ? strtoul(word[2], NULL, 10) : 100000;
+    putchar('\n');
+    return changed;
+}
+
+int main(int count, char **word) {
+    if (count != 5) {
+        fail("steps FOLDER TURNS LOOKED PRINTED");
+    }
+    const size_t most = strtoul(word[2], NULL, 10), most_looked = strtoul(word[3], NULL, 10);
+    const size_t most_printed = strtoul(word[4], NULL, 10);
     size_t store_len, order_len;
     const uint8_t *bytes = load(word[1], "store.cat", &store_len), *order = load(word[1], "order.run", &order_len);
 
@@ -111,11 +137,16 @@ int main(int count, char **word) {
     words("hops", hops, store.n);
     words("saved", saved, saved_words);
     const size_t turns = schedule_len / 2;
-    size_t turn = 0;
-    while (turn < turns && turn < most && !stopped.finished) {
+    printf("turns %zu\n", turns);
+    flush();
+    uint32_t *before = lend(saved_words, 4);
+    memcpy(before, saved, saved_words * sizeof *before);
+    size_t turn = 0, looked = 0, printed = 0;
+    while (turn < turns && turn < most && looked < most_looked && printed < most_printed && !stopped.finished) {
         TURNS(resume, 2 * turn, 2);
-        printf("turn %u %u %u\n", (unsigned)schedule[2 * turn], (unsigned)schedule[2 * turn + 1], (unsigned)stopped.finished);
-        words("saved", saved, saved_words);
+        printf("turn %u %u %u", (unsigned)schedule[2 * turn], (unsigned)schedule[2 * turn + 1], (unsigned)stopped.finished);
+        printed += changes(before, saved, saved_words);
+        looked += saved_words;
         turn++;
     }
     printf("left %zu\n", turns - turn);
@@ -128,8 +159,6 @@ int main(int count, char **word) {
         printf("freed %llu\n", (unsigned long long)swept.freed);
         words("dead", list, swept.count);
     }
-    if (fflush(stdout) != 0 || ferror(stdout)) {
-        fail("the output is lost");
-    }
+    flush();
     return 0;
 }

@@ -15,9 +15,10 @@ from pathlib import Path
 
 TOP = Path(__file__).resolve().parents[2]
 sys.path.insert(0, str(TOP / "tools"))
-import course  # noqa: E402
-import course_draw as draw  # noqa: E402
+import course_map  # noqa: E402
 import course_run as play  # noqa: E402
+import course_serve  # noqa: E402
+from course_words import words  # noqa: E402
 import races  # noqa: E402
 
 COMMAND = TOP / "target" / "bin" / "kullneyra-oci"
@@ -444,17 +445,24 @@ class Layouts(unittest.TestCase):
             self.assertEqual(race.broken(), [])
 
     def test_drawn(self):
-        """The course's page draws a layout: the same objects are dead, and a large one is summed up."""
+        """The course's page draws a layout: the same objects are dead, objects have names, and the order is one line; a large one is
+        summed up."""
         unlist(self.layout, "two")
-        run = play.play(course.of_layout(str(self.layout)))
+        text = course_serve.of_layout(str(self.layout))
+        self.assertEqual([line.split()[0] for line in text.splitlines() if line.startswith(("turn", "cards", "seed"))], ["seed"])
+        run = play.play(text)
         self.assertTrue(run.finished)
         self.assertEqual(len(run.dead), len(plan(self.layout)["dead"]))
-        self.assertEqual(draw.map_svg(run, len(run.turns)).count(">dead<"), 3)
+        shown = [owner for _, owner in course_map.node_looks(run, words(), len(run)).values()]
+        self.assertEqual(shown.count("dead"), 3)
+        self.assertEqual(run.names[0], "index.json")
+        self.assertIn("manifest one", run.names)
+        self.assertTrue(all(run.names))
         self.many(110)
-        run = play.play(course.of_layout(str(self.layout)), 40)
-        self.assertIn("too many to draw", draw.map_svg(run, 40))
+        run = play.play(course_serve.of_layout(str(self.layout)), 40)
+        self.assertIn("too many to draw", course_serve.step(run, 40, 2, "en")["title"])
         with self.assertRaises(play.Fault):
-            course.of_layout(str(self.folder / "nowhere"))
+            course_serve.of_layout(str(self.folder / "nowhere"))
 
     def test_built_and_copied(self):
         """What buildah built and skopeo copied into one layout, with a tag moved to a newer image."""
