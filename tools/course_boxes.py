@@ -12,6 +12,7 @@ WIDE, HIGH = 300, 230
 LANE, SMALL_LANE, ROW_GAP, LEAST_GAP = 32, 16, 62, 96
 SMALLEST = 14  # letters
 CHIP, CHIP_ROWS, MOST_ON_ARROW = 22, 2, 3
+EDGE = 2  # so far from the edge of the drawing stands what is on an arrow
 MOST_ACROSS = 4
 
 
@@ -43,6 +44,15 @@ class Grid(NamedTuple):
     def size(self) -> tuple[float, float]:
         across = min(self.across, self.workers)
         return 2 * self.lane + across * WIDE + (across - 1) * self.gap, 2 * self.lane + self.down * HIGH + (self.down - 1) * ROW_GAP
+
+    def between_rows(self, y: float) -> bool:
+        """Whether a reference at this height stands between two rows of boxes."""
+        gaps = (self.lane + row * (HIGH + ROW_GAP) for row in range(1, self.down))
+        return any(below - ROW_GAP <= y - CHIP / 2 and y + CHIP / 2 <= below for below in gaps)
+
+    def within(self, x: float, wide: float) -> float:
+        """The left end of something so wide with its middle at x, moved so that nothing of it is cut off."""
+        return min(max(x - wide / 2, EDGE), self.size()[0] - wide - EDGE)
 
     def over(self, row: int, part: float) -> float:
         """A lane above a row, so far down in its gap."""
@@ -188,24 +198,35 @@ def box(run: Run, said: Words, state: State, b: int, acting: bool, where: Grid) 
     return "".join(out) + "</g>"
 
 
-def on_arrow(run: Run, said: Words, arrow: Arrow, x: float, y: float, token_black: bool) -> str:
-    """What stands on an arrow, x and y in its middle."""
+def on_arrow(run: Run, said: Words, arrow: Arrow, point: Point, token_black: bool, where: Grid) -> str:
+    """What stands on an arrow, its middle at this point, or so near that nothing of it is cut off. References stand below each other,
+    or side by side between two rows of boxes."""
+    x, y = point
     if arrow.kind == "token":
-        return token(x, y, said, token_black)
+        wide = width(said.say("drawing", "token"), SMALLEST, True) + 22
+        return token(where.within(x, wide) + wide / 2, y, said, token_black)
     if arrow.kind != "hand":
         words = said.say("drawing", arrow.kind)
         wide = width(words, SMALLEST, True) + 14
-        return rectangle(x - wide / 2, y - 12, wide, 24, "#fff", thick=1.5 if arrow.fresh else 1, round_by=12) + text(
-            x, y + 5, words, SMALLEST, "middle", "bold" if arrow.fresh else "normal")
+        left = where.within(x, wide)
+        return rectangle(left, y - 12, wide, 24, "#fff", thick=1.5 if arrow.fresh else 1, round_by=12) + text(
+            left + wide / 2, y + 5, words, SMALLEST, "middle", "bold" if arrow.fresh else "normal")
     references = [e for first, end in arrow.runs for e in range(first, min(end, first + MOST_ON_ARROW))][:MOST_ON_ARROW]
     rows = [chip_words(run.sources[e], run.targets[e]) for e in references]
     left = sum(end - first for first, end in arrow.runs) - len(rows)
-    out, top = [], y - (CHIP + 2) * len(rows) / 2
-    for row, words in enumerate(rows):
-        wide = width(words, SMALLEST, True) + 14
-        out.append(chip(x - wide / 2, top + row * (CHIP + 2), words, arrow.fresh))
-    if left:
-        out.append(text(x, top + len(rows) * (CHIP + 2) + 15, said.say("drawing", "more", count=left), SMALLEST, "middle", "bold", halo=True))
+    more = said.say("drawing", "more", count=left) if left else ""
+    wides, out = [width(words, SMALLEST, True) + 14 for words in rows], []
+    if where.between_rows(y):
+        at = where.within(x, sum(wides) + 7 * len(wides) + width(more, SMALLEST, True))
+        for words, wide in zip(rows, wides):
+            out.append(chip(at, y - CHIP / 2, words, arrow.fresh))
+            at += wide + 7
+        return "".join(out) + (text(at, y + 5, more, SMALLEST, "start", "bold", halo=True) if more else "")
+    top = y - (CHIP + 2) * len(rows) / 2
+    for row, (words, wide) in enumerate(zip(rows, wides)):
+        out.append(chip(where.within(x, wide), top + row * (CHIP + 2), words, arrow.fresh))
+    if more:
+        out.append(text(where.within(x, max(wides)) + max(wides) / 2, top + len(rows) * (CHIP + 2) + 15, more, SMALLEST, "middle", "bold", halo=True))
     return "".join(out)
 
 
@@ -231,7 +252,7 @@ def arrows(run: Run, said: Words, number: int, state: State, where: Grid) -> str
                      f'<path d="{rounded(points)}" fill="none" stroke="{ink}" stroke-width="{4 if arrow.fresh else 2}"'
                      f'{f""" stroke-dasharray="{dash}" """ if dash else ""} marker-end="url(#{tip})"/></g>')
         loads.append(f'<g class="load{" fresh" if arrow.fresh else ""}" data-arrow="{at}">'
-                     f'{on_arrow(run, said, arrow, *middle(points), state.token_black)}</g>')
+                     f'{on_arrow(run, said, arrow, middle(points), state.token_black, where)}</g>')
     return f'<g class="arrows">{"".join(lines)}</g><g class="loads" aria-hidden="true">{"".join(loads)}</g>'
 
 

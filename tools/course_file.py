@@ -36,8 +36,9 @@ def stored(run: play.Run, language: str) -> dict:
     for one in steps:
         del one["boxes"]
     return {
-        "language": language, "words": said.parts, "run": serve.head(run, 1), "progress": serve.progress(run, 0, language), "steps": steps,
-        "paper": paper, "boxes": {at: [course_boxes.boxes_svg(run, said, number, at) for number in numbers] for at in across},
+        "language": language, "words": {part: held for part, held in said.parts.items() if part != "case"},
+        "run": serve.head(run, 1), "progress": serve.progress(run, 0, language), "steps": steps, "paper": paper,
+        "boxes": {at: [course_boxes.boxes_svg(run, said, number, at) for number in numbers] for at in across},
         "turns": [(run.kind(number), run.sentence(number, said)) for number in numbers], "legend": serve.legend(language),
         "maps": [serve.map_of(run, *room, language) for room in MAP_ROOMS] if course_map.drawn(run) else [],
     }

@@ -2,7 +2,9 @@
 
 import json
 import subprocess
+from collections import OrderedDict
 from html import escape
+from threading import Lock
 from typing import NamedTuple, Optional
 
 from course_run import NO_HOPS, Fault, Run
@@ -11,13 +13,17 @@ from course_words import Words
 
 # Stores with more objects are summed up and not drawn.
 MOST_DRAWN = 400
-MOST_REFERENCES, MOST_CUT = 2_000, 500
+# Of more references than are routed, dot is told those from line to line, one for each object, and all are drawn behind the objects: each
+# line that an arrow passes would take room, and time. What nobody carries is fainter where there are many.
+MOST_REFERENCES, MOST_ROUTED, MANY = 2_000, 500, 150
 DOT, SECONDS = "dot", 8
 LETTERS = 14
 # Between layers, round the map, and above it for the layers' names.
 LAYER_GAP, MARGIN, HEAD = 40, 10, 26
 FEW, MOST_ONWARD = 30, 50
 LONGEST_LAYERS = 20  # layers that a sum tells
+# The last maps are kept: one more turn, another order or a reload does not change where objects stand.
+MOST_LAID, LAID, LAID_LOCK = 16, OrderedDict(), Lock()
 
 
 class Map(NamedTuple):
@@ -80,15 +86,22 @@ def graph(run: Run, node: tuple[float, float], across: bool, most: int) -> str:
     """The text for dot."""
     lines = [part[at:at + most] for part in layers(run) for at in range(0, len(part), most)]
     rank = {v: at for at, line in enumerate(lines) for v in line}
-    out = [f'digraph {{ rankdir={"LR" if across else "TB"}; splines=true; nodesep={thread(run) / 72:.3f}; ranksep={LAYER_GAP / 72:.3f};',
+    routed = len(run.targets) <= MOST_ROUTED
+    out = [f'digraph {{ rankdir={"LR" if across else "TB"}; splines={"true" if routed else "false"};',
+           f"nodesep={thread(run) / 72:.3f}; ranksep={LAYER_GAP / 72:.3f};",
            f'node [shape=box, fixedsize=true, label="", width={(node[0] + pad(run)) / 72:.3f}, height={(node[1] + pad(run)) / 72:.3f}];']
     anchors = [f"line{at}" for at in range(len(lines))]
     out += [f"{name} [style=invis, width=0.01, height=0.01];" for name in anchors]
     out.append(" -> ".join(anchors) + " [style=invis];")
     out += [f"{{ rank=same; {'; '.join([anchor, *(f'o{v}' for v in line)])} }}" for anchor, line in zip(anchors, lines)]
+    placed: set[int] = set()
     for e, (a, b) in enumerate(zip(run.sources, run.targets)):
         free = "" if rank[a] < rank[b] else ", constraint=false"
-        out.append(f'o{a} -> o{b} [id="{e}"{free}];')
+        if routed:
+            out.append(f'o{a} -> o{b} [id="{e}"{free}];')
+        elif rank[b] == rank[a] + 1 and b not in placed:
+            placed.add(b)
+            out.append(f"o{a} -> o{b};")
     return "\n".join([*out, "}"])
 
 
@@ -107,13 +120,24 @@ def dot(text: str) -> dict:
 
 def lay_out(run: Run, said: Words, wide: float, high: float) -> Map:
     """Lays the map out for a room of this shape, across and down, and takes what is larger there. Arrows need room too, so shorter
-    lines are tried; where arrows are very many, longer ones, since every line that an arrow passes takes time."""
-    node, made = node_size(run, said), []
+    lines are tried."""
+    node, texts = node_size(run, said), []
     for across in (True, False):
         most = split(run, node, across, wide, high)
-        for lines in {max(1, round(most * share)) for share in ((2 / 3, 1) if len(run.targets) <= MOST_CUT else (3 / 2,))}:
-            made.append(read_layout(run, said, dot(graph(run, node, across, lines)), node, across))
-    return max(made, key=lambda laid: (min(wide / laid.size[0], high / laid.size[1], 1), -laid.size[0] * laid.size[1]))
+        for lines in sorted({max(1, round(most * share)) for share in (2 / 3, 1)}):
+            texts.append((graph(run, node, across, lines), across))
+    asked = DOT, tuple(texts), tuple(run.hops), said.language, wide, high
+    with LAID_LOCK:
+        if asked in LAID:
+            LAID.move_to_end(asked)
+            return LAID[asked]
+    made = [read_layout(run, said, dot(text), node, across) for text, across in texts]
+    best = max(made, key=lambda laid: (min(wide / laid.size[0], high / laid.size[1], 1), -laid.size[0] * laid.size[1]))
+    with LAID_LOCK:
+        LAID[asked] = best
+        while len(LAID) > MOST_LAID:
+            LAID.popitem(last=False)
+    return best
 
 
 def read_layout(run: Run, said: Words, laid: dict, node: tuple[float, float], across: bool) -> Map:
@@ -129,6 +153,8 @@ def read_layout(run: Run, said: Words, laid: dict, node: tuple[float, float], ac
         if "id" in one:
             ends = [room_of(places[side[int(one["id"])]], node) for side in (run.sources, run.targets)]
             paths[int(one["id"])] = spline(one["pos"], move, *ends)
+    for e, (a, b) in enumerate(zip(run.sources, run.targets)):
+        paths[e] = paths[e] or direct(places[a], places[b], node, across)
     heads = []
     for at, part in enumerate(layers(run)):
         if part:
@@ -149,6 +175,22 @@ def spline(pos: str, move, source: tuple, target: tuple) -> str:
     points = [move(*map(float, word.split(","))) for word in words]
     return "M{:.1f} {:.1f}L{:.1f} {:.1f}C".format(*onward(points[1], points[0], source), *points[0]) + " ".join(
         "{:.1f} {:.1f}".format(*point) for point in points[1:]) + "L{:.1f} {:.1f}".format(*onward(points[-1], tip, target))
+
+
+def direct(source: Point, target: Point, node: tuple[float, float], across: bool) -> str:
+    """A curve between the sides of two objects that face each other, layer by layer; within one line, between the same sides."""
+    turn = (lambda point: point) if across else (lambda point: point[::-1])  # so that layers go to the right
+    (ax, ay), (bx, by), half = turn(source), turn(target), turn(node)[0] / 2
+    if abs(ax - bx) < 2 * half:
+        out = LAYER_GAP / 2 + abs(by - ay) / 8
+        ay, by = (ay - 8, by + 8) if source == target else (ay, by)
+        points = (ax + half, ay), (ax + half + out, ay), (bx + half + out, by), (bx + half, by)
+    else:
+        side = 1 if ax < bx else -1
+        ax, bx, bend = ax + side * half, bx - side * half, side * max(LAYER_GAP, abs(bx - ax) / 3)
+        points = (ax, ay), (ax + bend, ay), (bx - bend, by), (bx, by)
+    first, *rest = ("{:.1f} {:.1f}".format(*turn(point)) for point in points)
+    return f"M{first}C{' '.join(rest)}"
 
 
 def onward(one: Point, other: Point, room: tuple[float, float, float, float]) -> Point:
@@ -172,9 +214,15 @@ def head_words(run: Run, said: Words, hop: int) -> str:
 # How a reference looks: its ink, thickness, dashes and tip. `now` is the one that a turn looks at or follows, `front` the one
 # that a box follows first.
 EDGES = {"other": (FAINT, 1.2, "", "tip-faint"), "followed": (PALE, 1.6, "", "tip-small")}
+FAINTER = ("#d1d5db", 0.9, "", "tip-faint")
 for _b in range(16):
     EDGES |= {f"carried{_b}": (INKS[_b], 3, DASHES[_b % 8], f"tip{_b}"), f"front{_b}": (INKS[_b], 4.5, DASHES[_b % 8], f"tip{_b}"),
               f"now{_b}": (INKS[_b], 8, "", f"tip-large{_b}")}
+
+
+def looks(run: Run) -> dict[str, tuple[str, float, str, str]]:
+    """How references look on the map of this run."""
+    return EDGES | {"other": FAINTER} if len(run.targets) > MANY else EDGES
 
 
 def edge_looks(run: Run, number: int) -> dict[int, str]:
@@ -203,8 +251,8 @@ def node_looks(run: Run, said: Words, number: int) -> dict[int, tuple[str, str]]
     return out
 
 
-def edge_shape(path: str, e: int, look: str) -> str:
-    ink, thick, dash, tip = EDGES[look]
+def edge_shape(path: str, e: int, look: tuple[str, float, str, str]) -> str:
+    ink, thick, dash, tip = look
     return (f'<path data-e="{e}" d="{path}" fill="none" stroke="{ink}" stroke-width="{thick:g}"{f""" stroke-dasharray="{dash}" """ if dash else ""} '
             f'marker-end="url(#{tip})"/>')
 
@@ -224,11 +272,11 @@ def node_shape(run: Run, said: Words, laid: Map, v: int, look: Optional[tuple[st
 
 def map_inner(run: Run, said: Words, laid: Map, number: Optional[int]) -> str:
     """The inside of the map, after so many turns, or without what a state tells. What looks strong lies above."""
-    edges = {} if number is None else edge_looks(run, number)
+    edges, ways = {} if number is None else edge_looks(run, number), looks(run)
     nodes = {} if number is None else node_looks(run, said, number)
-    order = sorted(range(len(laid.paths)), key=lambda e: EDGES[edges.get(e, "other")][1])
+    order = sorted(range(len(laid.paths)), key=lambda e: ways[edges.get(e, "other")][1])
     out = [text(x, y, words, LETTERS, anchor, fill=PALE) for x, y, words, anchor in laid.heads]
-    out += [edge_shape(laid.paths[e], e, edges.get(e, "other")) for e in order]
+    out += [edge_shape(laid.paths[e], e, ways[edges.get(e, "other")]) for e in order]
     return "".join(out + [node_shape(run, said, laid, v, nodes.get(v)) for v in range(run.n)])
 
 

@@ -112,7 +112,7 @@ def turns(run: play.Run, first: int, count: int, language: str) -> dict:
 
 def map_of(run: play.Run, wide: float, high: float, language: str) -> dict:
     laid = course_map.lay_out(run, words(language), wide, high)
-    return {"svg": course_map.map_svg(run, words(language), laid), "size": laid.size, "looks": course_map.EDGES}
+    return {"svg": course_map.map_svg(run, words(language), laid), "size": laid.size, "looks": course_map.looks(run)}
 
 
 def legend(language: str) -> dict:

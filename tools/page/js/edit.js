@@ -166,13 +166,21 @@
     }
   }
 
-  Course.keep = () => {
+  // A step does not wait for it: it is kept a little later, and at the latest when the page goes.
+  let keeping = null;
+  Course.keep = () => { keeping ??= setTimeout(keepNow, 250); };
+
+  function keepNow() {
+    if (keeping === null) return;
+    clearTimeout(keeping);
+    keeping = null;
     try {
       sessionStorage.setItem(KEPT, JSON.stringify({ text: at("text").value, turn: Course.turn, language: Course.language, open: at("writing").open }));
     } catch {
       // A case too large for the browser's store is not kept over a reload.
     }
-  };
+  }
+  window.addEventListener("pagehide", keepNow);
 
   Course.kept = async () => {
     const held = JSON.parse(sessionStorage.getItem(KEPT) || "null"), link = await linked();

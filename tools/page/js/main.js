@@ -80,7 +80,7 @@
   window.addEventListener("beforeprint", () => {
     document.body.classList.add("printing");
     at("below").prepend(at("turns-part"));
-    if (Course.drawn?.paper) at("boxes").innerHTML = Course.drawn.paper;
+    if (Course.drawn?.paper) Course.draw(Course.drawn.paper);
     // A row of boxes has the whole width, and the map stands below it.
     const { width, height } = at("boxes").querySelector("svg")?.viewBox.baseVal ?? { width: 1, height: 1 };
     document.body.classList.toggle("flat", width > 2 * height);
@@ -89,7 +89,7 @@
   });
   window.addEventListener("afterprint", () => {
     document.body.classList.remove("printing", "flat");
-    if (Course.drawn) at("boxes").innerHTML = Course.drawn.boxes;
+    if (Course.drawn) Course.draw(Course.drawn.boxes);
     Course.turns.fill();
     Course.redraw();
   });

@@ -41,7 +41,7 @@ Course.motion = (() => {
     bead.setAttribute("stroke", "#fff");
     bead.setAttribute("stroke-width", 2);
     bead.classList.add("bead");
-    path.parentNode.append(bead);
+    path.ownerSVGElement.append(bead);
     along(path, time, (point) => {
       bead.setAttribute("cx", point.x);
       bead.setAttribute("cy", point.y);

@@ -49,9 +49,31 @@
     bar("rounds", rounds, run.bound, Course.say("page", over ? "bar-over" : "bar-left", values));
   }
 
-  let asked = 0;
-  const ahead = new Map();
+  // Draws the boxes. Parts that are as they were stay, so that a step costs what it changes; `replaced` counts the others.
+  const PARTS = /(?=<g class="(?:box|arrows|loads)")/, SVG = "http://www.w3.org/2000/svg";
+  let standing = null;
 
+  Course.draw = (svg) => {
+    const [head, ...parts] = svg.replace(/<\/svg>$/, "").split(PARTS), drawn = at("boxes").firstElementChild;
+    if (!drawn || standing?.head !== head || standing.parts.length !== parts.length) {
+      at("boxes").innerHTML = svg;
+      Course.replaced = parts.length;
+    } else {
+      const changed = parts.map((part, place) => [part, place]).filter(([part, place]) => part !== standing.parts[place]);
+      const holder = document.createElementNS(SVG, "svg");
+      for (const [part, place] of changed) {
+        holder.innerHTML = part;
+        drawn.children[place].replaceWith(holder.firstElementChild);
+      }
+      Course.replaced = changed.length;
+    }
+    standing = { head, parts };
+  };
+
+  let asked = 0;
+  const ahead = new Map(), idle = window.requestIdleCallback ?? ((work) => setTimeout(work, 50));
+
+  // What the server tells of a turn; the last answers are kept.
   function step(run, number) {
     const path = `/step/${run.run}/${number}?across=${Course.across}&language=${Course.language}`;
     if (!ahead.has(path)) {
@@ -83,7 +105,7 @@
     at("slider").value = wanted;
     at("slider").setAttribute("aria-valuetext", told.sentence);
     at("where").textContent = `${wanted} / ${run.known}`;
-    at("boxes").innerHTML = told.boxes;
+    Course.draw(told.boxes);
     Course.drawn = told;
     Course.map.look(told);
     bars(run, told);
@@ -94,7 +116,9 @@
     Course.pick.arm();
     if (moving && came) Course.motion.go(told);
     Course.keep();
+    // The turns beside it are asked for before anybody wants them.
     if (wanted < run.known) step(run, wanted + 1).catch(() => {});
+    idle(() => { if (wanted && run === Course.run && mine === asked) step(run, wanted - 1).catch(() => {}); });
   };
 
   function ending(run) {

@@ -33,6 +33,7 @@ Course.turns = (() => {
       waiting = false;
       if (!told || run !== Course.run) return;
       told.turns.forEach(([kind, sentence], place) => add(from + place, kind, sentence));
+      at("rows").replaceChildren(...[...rows].sort(([one], [other]) => one - other).map(([, row]) => row));
     }
     mark(false);
   }
@@ -48,16 +49,16 @@ Course.turns = (() => {
     row.said = sentence;
     row.style.top = `${ROW * number}px`;
     row.addEventListener("click", () => Course.show(number));
-    const behind = [...rows.keys()].filter((other) => other > number).sort((a, b) => a - b)[0];
-    at("rows").insertBefore(row, behind === undefined ? null : rows.get(behind));
     rows.set(number, row);
   }
 
   // Marks the turn that is shown, and brings it into sight. What will be asked about is not told before.
   function mark(scroll = true) {
     for (const [number, row] of rows) {
-      row.setAttribute("aria-selected", number === Course.turn ? "true" : "false");
-      row.textContent = row.title = at("quiz").checked && number > Course.turn ? Course.say("page", "quiz-row", { number }) : row.said;
+      const selected = String(number === Course.turn);
+      const words = at("quiz").checked && number > Course.turn ? Course.say("page", "quiz-row", { number }) : row.said;
+      if (row.getAttribute("aria-selected") !== selected) row.setAttribute("aria-selected", selected);
+      if (row.title !== words) row.textContent = row.title = words;
     }
     at("turns").setAttribute("aria-activedescendant", `turn-${Course.turn}`);
     if (!scroll) return;
@@ -214,8 +215,10 @@ Course.pick = (() => {
 // The cards that were dealt, each with the order of its boxes; the one whose round is shown is marked.
 Course.hand = (() => {
   const at = Course.at;
+  let faces = [], marked = null;
 
   function deal(run) {
+    [faces, marked] = [[], null];
     at("hand-part").hidden = !run.deals.length;
     at("hand").replaceChildren(...run.deals.map(({ turn, card, boxes }, place) => {
       const [item, face, name, order] = ["li", "button", "b", "span"].map((tag) => document.createElement(tag));
@@ -223,8 +226,8 @@ Course.hand = (() => {
       name.textContent = card === null ? Course.say("page", "card-drawn", { round: place + 1 }) : Course.say("page", "card", { card });
       order.textContent = boxes.join(" ");
       face.append(name, order);
-      face.dataset.turn = turn;
-      face.dataset.end = turn + boxes.length;
+      face.setAttribute("aria-current", "false");
+      faces.push({ face, first: turn, end: turn + boxes.length });
       face.addEventListener("click", () => Course.show(turn + 1));
       item.append(face);
       return item;
@@ -232,8 +235,11 @@ Course.hand = (() => {
   }
 
   function mark() {
-    for (const face of at("hand").querySelectorAll("button"))
-      face.setAttribute("aria-current", String(Course.turn > Number(face.dataset.turn) && Course.turn <= Number(face.dataset.end)));
+    const now = faces.find(({ first, end }) => Course.turn > first && Course.turn <= end)?.face ?? null;
+    if (now === marked) return;
+    marked?.setAttribute("aria-current", "false");
+    now?.setAttribute("aria-current", "true");
+    marked = now;
   }
   return { deal, mark };
 })();
