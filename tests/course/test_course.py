@@ -1,5 +1,6 @@
 """Runs as the course tells and draws them, beside the program's own output."""
 
+import functools
 import io
 import json
 import re
@@ -31,6 +32,18 @@ DRAWINGS = sorted((TOP / "docs" / "course").glob("*.txt"))
 CASE_A = (TOP / "samples" / "a.txt").read_text()
 RING = (TOP / "docs" / "course" / "ring.txt").read_text()
 ENGLISH = words("en")
+
+# A run is the same each time, so that tests which only look at one share it; and so are the sheets of a run.
+played = functools.cache(play.play)
+WAYS = unittest.mock.patch("course_sheet.best_way", functools.cache(course_sheet.best_way))
+
+
+def setUpModule():
+    WAYS.start()
+
+
+def tearDownModule():
+    WAYS.stop()
 
 
 def printed(text):
@@ -67,7 +80,7 @@ class Runs(unittest.TestCase):
 
     def test_samples(self):
         for path in SAMPLES + DRAWINGS:
-            self.agree(play.play(path.read_text()), printed(path.read_text()))
+            self.agree(played(path.read_text()), printed(path.read_text()))
 
     def test_case_a_turn_by_turn(self):
         run = play.play(CASE_A)
@@ -90,7 +103,7 @@ class Runs(unittest.TestCase):
 
     def test_each_turn_has_its_sentence(self):
         for path in SAMPLES:
-            run = play.play(path.read_text())
+            run = played(path.read_text())
             moved = 0
             for number in range(1, len(run) + 1):
                 sentence = run.told(number, ENGLISH)
@@ -103,7 +116,7 @@ class Runs(unittest.TestCase):
             self.assertEqual(len(set(run.followed(len(run)))), counts["followed"])
 
     def test_case_a_told(self):
-        run = play.play(CASE_A)
+        run = played(CASE_A)
         told = [run.told(number, ENGLISH) for number in range(1, len(run) + 1)]
         self.assertEqual(told[1], "Box 1 asks box 0.")
         self.assertEqual(told[4], "Box 0 keeps 1 reference and hands 1 to box 1; it turns black and begins a batch of 1.")
@@ -114,28 +127,62 @@ class Runs(unittest.TestCase):
 
     def test_bound(self):
         for path in SAMPLES:
-            run = play.play(path.read_text())
+            run = played(path.read_text())
             self.assertEqual(run.reached, run.state(len(run)).counts["followed"])
             self.assertLessEqual(run.rounds[len(run)], run.bound)
 
     def test_large_case_is_quick(self):
-        """1,000 objects and 13,000 turns: the start within 2 s, and then each step within 50 ms."""
+        """1,000 objects and 13,000 turns: the start within 2 s, and then every step within 50 ms."""
         text, taken = large_case(), []
-        for _ in range(2):  # the quicker of two, since others work on the machine too
+        for _ in range(3):  # the quickest, since others work on the machine too
             began = time.monotonic()
             run, growing = play.begin(text)
             serve.step(run, 0, 2, "en")
             taken.append(time.monotonic() - began)
             growing.join()
+            if taken[-1] < 2:
+                break
         self.assertLess(min(taken), 2)
         self.assertGreaterEqual(len(run), 13_000)
-        times = []
-        for number in (0, 1, 6_500, 6_501, 6_502, 12_999, 40, 9_000, len(run), len(run) - 1):
-            began = time.monotonic()
-            serve.step(run, number, 2, "en")
-            times.append(time.monotonic() - began)
-        self.assertLess(sorted(times)[len(times) // 2], 0.05, times)
+
+        def took(work):
+            """The quickest of three, each without what the one before it left."""
+            times = []
+            for _ in range(3):
+                run.recent.clear()
+                began = time.perf_counter()
+                work()
+                times.append(time.perf_counter() - began)
+            return min(times)
+
+        numbers = [0, 1, len(run), len(run) - 1, *range(40, len(run), 331)]
+        steps = {number: took(lambda: serve.step(run, number, 2, "en")) for number in numbers}
+        self.assertLess(max(steps.values()), 0.05, steps)
+        # The rows of the list that are seen at once, anywhere in it.
+        rows = {number: took(lambda: serve.turns(run, number, 60, "en")) for number in (0, 6_000, 12_900)}
+        self.assertLess(max(rows.values()), 0.05, rows)
         self.assertIn("1000 objects, too many to draw", serve.step(run, 3, 2, "en")["title"])
+
+    def test_turns_beside_each_other_cost_little(self):
+        """A state beside one that was asked for takes what its turn changed, forward and backward."""
+        run = play.play((TOP / "samples" / "cards.txt").read_text())
+        run.every, run.kept = 1 << 20, run.kept[:1]
+
+        class Counted(list):
+            looked = 0
+
+            def __getitem__(self, at):
+                Counted.looked += 1
+                return super().__getitem__(at)
+
+        run.changes = Counted(run.changes)
+        for number in range(len(run) + 1):
+            run.state(number)
+        self.assertLessEqual(Counted.looked, 2 * len(run.changes), "each change once")
+        before = Counted.looked
+        for number in range(len(run), len(run) - run.most_recent, -1):
+            run.state(number)
+        self.assertEqual(Counted.looked, before, "what was asked for last is kept")
 
     def test_refused(self):
         lines = CASE_A.splitlines()
@@ -157,6 +204,26 @@ class Runs(unittest.TestCase):
         with self.assertRaises(play.Fault) as caught:
             play.play(CASE_A + "what 1\n")
         self.assertEqual((caught.exception.number, caught.exception.line), (None, len(lines) + 1))
+
+    def test_faults_of_the_text(self):
+        """What is wrong with a line is said as case.py says it, and in German as well."""
+        german = {
+            "what 1": "„what“ beginnt keine Zeile eines Falls; diese Wörter tun es: index, object, ",
+            "object": "erwartet: object SIZE; gefunden: object",
+            "object x": "„x“ ist keine Dezimalzahl",
+            "turn 256 0": "256 liegt über 255",
+            f"object {'9' * 5000}": "eine Zahl mit 5000 Ziffern liegt über 18446744073709551615",
+            "index 1": "eine zweite Zeile „index“, wo ein Fall eine hat",
+            "seed 0 1 rounds 1": "das erste Wort einer Saat ist nicht 0",
+            "mark 0 1": "„mark“ gehört zu einer angehaltenen Sammlung, und davor steht eine Zeile „saved TURNS“",
+        }
+        for line, said in german.items():
+            with self.assertRaises(case.Fault) as told:
+                case.parse(CASE_A + line)
+            with self.assertRaises(play.Fault) as caught:
+                play.play(CASE_A + line)
+            self.assertEqual((caught.exception.text, caught.exception.line), (told.exception.text, told.exception.line))
+            self.assertTrue(caught.exception.say(words("de")).startswith(said), caught.exception.say(words("de")))
 
     def test_refused_line(self):
         """The line that told what the library refuses, and no other that looks like it."""
@@ -243,12 +310,12 @@ class Bounded(unittest.TestCase):
     def test_case_that_takes_long(self):
         """Each removal by its ends looks at all references."""
         text = "index 0\nobject 1\n" + "reference 0 0\n" * 30_000 + "remove 0 0\n" * 30_000 + "boxes 1\nbatch 1\ncutoff 1\n"
-        fault = self.refused(text, "")
-        self.assertIn(fault.key, ("too-slow", "too-much"))
+        with unittest.mock.patch.object(play, "READ_SECONDS", 1):
+            self.assertIn(self.refused(text, "").key, ("too-slow", "too-much"))
 
     def test_case_that_takes_much(self):
         """Fewer bytes of address space than the interpreter needs for it."""
-        code = "import sys; sys.path.insert(0, 'tools'); import course_read; course_read.MEMORY = 60 << 20; sys.exit(course_read.main(['/nowhere']))"
+        code = "import sys; sys.path.insert(0, 'tools'); import course_read; course_read.MEMORY = 60 << 20; sys.exit(course_read.main(['9', '/nowhere']))"
         text = "index 0\nobject 1\nboxes 1\nbatch 1\ncutoff 1\nturns 0: " + "0 " * 500_000
         done = subprocess.run([sys.executable, "-c", code], input=text, capture_output=True, text=True, cwd=TOP)
         self.assertNotEqual(done.returncode, 0)
@@ -265,7 +332,7 @@ class Bounded(unittest.TestCase):
         for port in ("99999", "-1", "x", "9" * 5000):
             self.told(["serve", f"--port={port}"], 2, "is no port: 0 to 65535")
         self.told(["tell", "/nowhere/case.txt"], 1, "course.py: ")
-        self.told(["sheet", str(TOP / "samples" / "a.txt"), "/tmp/x.png"], 1, "an .svg or an .html file is made")
+        self.told(["sheet", str(TOP / "samples" / "a.txt"), "x.png"], 1, "x.png: an .svg or an .html file is made")
 
     def told(self, given, status, said):
         done = subprocess.run([sys.executable, str(TOP / "tools" / "course.py"), *given], capture_output=True, text=True, timeout=60)
@@ -277,6 +344,11 @@ class Bounded(unittest.TestCase):
 class Words(unittest.TestCase):
     def test_languages_have_the_same_sentences(self):
         self.assertIn("de", LANGUAGES)
+        for language in set(LANGUAGES) - {"en"}:
+            own = json.loads((course_words.FOLDER / f"{language}.json").read_text("utf-8"))
+            for part, said in ENGLISH.parts.items():
+                if part != "language":
+                    self.assertEqual(set(own[part]), set(said), (language, part))
         for language in LANGUAGES:
             for part, said in ENGLISH.parts.items():
                 other = words(language).parts[part]
@@ -293,8 +365,9 @@ class Words(unittest.TestCase):
             (Path(folder) / "en.json").write_text(json.dumps(ENGLISH.parts))
             (Path(folder) / "nl.json").write_text('{"language": "Nederlands", "sentences": {"ended": "Doos {box} stopt."}}')
             dutch = course_words.Words("nl")
-        run = play.play(CASE_A)
+        run = played(CASE_A)
         self.assertEqual((run.told(19, dutch), run.told(2, dutch)), ("Doos 0 stopt.", "Box 1 asks box 0."))
+        self.assertEqual(play.Fault("no-number", part="case", word="x").say(dutch), "'x' is not a decimal number")
 
     def test_page_names_sentences_that_are_there(self):
         source = "".join(path.read_text() for path in serve.PAGE.rglob("*") if path.suffix in (".html", ".js"))
@@ -322,7 +395,7 @@ def inside(point, box):
 
 class Arrows(unittest.TestCase):
     def test_hand_over(self):
-        run = play.play(CASE_A)
+        run = played(CASE_A)
         self.assertEqual(arrow_kinds(run, 2), [("ask", 1, 0, True)])
         self.assertEqual(arrow_kinds(run, 4), [("ask", 1, 0, False)])
         self.assertEqual(arrow_kinds(run, 5), [("hand", 0, 1, True)])
@@ -331,12 +404,12 @@ class Arrows(unittest.TestCase):
         self.assertEqual(arrow_kinds(run, 17), [("token", 0, 1, True)])
 
     def test_refusal(self):
-        run = play.play((TOP / "docs" / "course" / "c.txt").read_text())
+        run = played((TOP / "docs" / "course" / "c.txt").read_text())
         self.assertEqual(arrow_kinds(run, 5), [("no", 0, 1, True)])
 
     def test_reply_waits(self):
         """Between a reply and the turn that takes it in, the arrow stands, from who replied."""
-        run = play.play(RING)
+        run = played(RING)
         self.assertEqual(arrow_kinds(run, 11), [("hand", 1, 2, True)])
         for number in (12, 13, 14):
             self.assertIn(("hand", 1, 2, False), arrow_kinds(run, number))
@@ -361,10 +434,10 @@ class Arrows(unittest.TestCase):
                             points = course_boxes.route(where, source, target, part)
                             for (x0, y0), (x1, y1) in zip(points, points[1:]):
                                 self.assertTrue(x0 == x1 or y0 == y1)
-                                for step in range(41):
-                                    point = x0 + (x1 - x0) * step / 40, y0 + (y1 - y0) * step / 40
-                                    self.assertTrue(0 <= point[0] <= wide and 0 <= point[1] <= high, (workers, across, source, target))
-                                    self.assertFalse(any(inside(point, box) for box in boxes), (workers, across, source, target, part))
+                                (x0, x1), (y0, y1) = sorted((x0, x1)), sorted((y0, y1))
+                                self.assertTrue(0 <= x0 and x1 <= wide and 0 <= y0 and y1 <= high, (workers, across, source, target))
+                                struck = any(x0 < right and left < x1 and y0 < bottom and top < y1 for left, top, right, bottom in boxes)
+                                self.assertFalse(struck, (workers, across, source, target, part))
 
     def test_token_of_one_box(self):
         """A box alone that handed nothing over ends without a pass; the loop to itself stays beside it."""
@@ -424,7 +497,7 @@ class Maps(unittest.TestCase):
 
     def test_small(self):
         for path in SAMPLES + DRAWINGS:
-            run = play.play(path.read_text())
+            run = played(path.read_text())
             for room in ((250, 450), (560, 620), (374, 380)):
                 self.check(run, *room)
 
@@ -433,15 +506,25 @@ class Maps(unittest.TestCase):
         laid = self.check(run, 560, 620)
         self.assertLess(max(laid.size), 2500)
 
-    def test_four_hundred_objects(self):
-        run = play.play(tangle(400, 800))
-        began = time.monotonic()
-        laid = course_map.lay_out(run, ENGLISH, 560, 620)
-        self.assertLess(time.monotonic() - began, 10)
-        self.assertTrue(all(laid.paths))
+    def test_laid_out_once(self):
+        """Another order, or one more turn, leaves the map as it is; another store, room or language does not."""
+        course_map.LAID.clear()
+        with unittest.mock.patch("course_map.dot", side_effect=course_map.dot) as dot:
+            for text in (CASE_A, CASE_A + "turn 0 1\n", CASE_A.replace("object 600", "object 601")):
+                laid = course_map.lay_out(played(text), ENGLISH, 560, 620)
+                self.assertIs(laid, course_map.lay_out(played(CASE_A), ENGLISH, 560, 620))
+            asked = dot.call_count
+            for run, said, room in ((played(CASE_A), words("de"), (560, 620)), (played(CASE_A), ENGLISH, (250, 620)),
+                                    (played(CASE_A.replace("reference 2 3", "reference 2 4")), ENGLISH, (560, 620))):
+                course_map.lay_out(run, said, *room)
+                self.assertGreater(dot.call_count, asked)
+                asked = dot.call_count
+            for wide in range(100, 100 + 2 * course_map.MOST_LAID):
+                course_map.lay_out(played("index 0\nobject 1\nboxes 1\nbatch 1\ncutoff 1\n"), ENGLISH, wide, 100)
+            self.assertEqual(len(course_map.LAID), course_map.MOST_LAID)
 
     def test_looks(self):
-        run = play.play(CASE_A)
+        run = played(CASE_A)
         edges = course_map.edge_looks(run, 5)
         self.assertEqual(edges, {0: "followed", 1: "front0", 2: "front1"})
         self.assertEqual(course_map.edge_looks(run, 4)[0], "now0")
@@ -475,7 +558,7 @@ class Maps(unittest.TestCase):
 class Drawings(unittest.TestCase):
     def test_every_step_is_a_drawing(self):
         for path in SAMPLES:
-            run = play.play(path.read_text())
+            run = played(path.read_text())
             for number in range(len(run) + 1):
                 told = serve.step(run, number, 2, "de")
                 drawn = xml.fromstring(told["boxes"])
@@ -483,7 +566,7 @@ class Drawings(unittest.TestCase):
                 self.assertEqual(sum(one.get("data-box") is not None for one in drawn.iter()), run.workers)
 
     def test_boxes_show_the_state(self):
-        run = play.play(CASE_A)
+        run = played(CASE_A)
         shown = list(xml.fromstring(course_boxes.boxes_svg(run, ENGLISH, 5, 2)).itertext())
         for said in ("Box 0", "Box 1", "asking, given work", "1 handed", "0 → 2", "token", "black", "white"):
             self.assertIn(said, shown)
@@ -567,7 +650,7 @@ class Sheets(unittest.TestCase):
     def test_letters_and_sentences(self):
         for path in DRAWINGS + [TOP / "samples" / "cards.txt"]:
             for language in LANGUAGES:
-                self.check(play.play(path.read_text()), "A title", language)
+                self.check(played(path.read_text()), "A title", language)
 
     def test_four_boxes(self):
         text = "index 0\n" + "object 1\n" * 9 + "".join(f"reference {v // 2} {v}\n" for v in range(1, 9)) + "boxes 4\nbatch 1\ncutoff 1\nseed 3 5 rounds 30\n"
@@ -582,7 +665,7 @@ class Sheets(unittest.TestCase):
     def test_no_blank_half(self):
         """No sheet but the last is less than half full, and the last one has drawings in it."""
         for path in DRAWINGS:
-            run = play.play(path.read_text())
+            run = played(path.read_text())
             chosen = course_sheet.best_way(run, ENGLISH)
             high = course_boxes.grid(run, chosen.across).size()[1] * chosen.scale
             for rows in chosen.sheets[:-1]:
@@ -610,14 +693,14 @@ class Sheets(unittest.TestCase):
         wanted = {}
         for path in DRAWINGS:
             text = path.read_text()
-            wanted |= course_sheet.files(play.play(text), ENGLISH, serve.title(text, path.stem), path.with_suffix(".svg"))
+            wanted |= course_sheet.files(played(text), ENGLISH, serve.title(text, path.stem), path.with_suffix(".svg"))
         self.assertEqual(sorted(wanted), sorted(folder.glob("*.svg")))
         for path, text in wanted.items():
             self.assertEqual(without_map(path.read_text()), without_map(text), f"{path.name}: make sheets draws it anew")
 
     def test_finished_file(self):
         """docs/course/a.html is the page with drawing A as it is now."""
-        made = course_file.page(play.play((TOP / "docs" / "course" / "a.txt").read_text()), "en")
+        made = course_file.page(played((TOP / "docs" / "course" / "a.txt").read_text()), "en")
         self.assertEqual(without_map((TOP / "docs" / "course" / "a.html").read_text()), without_map(made), "make sheets makes it anew")
         self.assertIn("docs/course/a.html", "\n".join((TOP / "README.md").read_text().splitlines()[:20]))
 

@@ -1,5 +1,6 @@
 """The page in headless Chromium: every control, case A turn by turn, motion, the map, the list of turns, what will happen next, turns
-that are picked, cards, links, faults, large cases, the keyboard, paper, the server's bounds, and what is seen at four sizes."""
+that are picked, cards, links, faults, large cases, the keyboard, paper, the server's bounds, and what is seen at four sizes, measured and
+as pictures."""
 
 import base64
 import json
@@ -24,15 +25,22 @@ from selenium.webdriver.common.by import By
 from selenium.webdriver.common.keys import Keys
 from selenium.webdriver.support.ui import Select, WebDriverWait
 
+import course_boxes
+import course_map
 import course_run as play
+import course_serve
 import course_svg
+import pictures
 from course_words import words
-from test_course import CASE_A, RING, large_case, tangle
+from test_course import CASE_A, ENGLISH, RING, large_case, played, tangle
 
 TOP = play.TOP
 FOUR_BOXES = "index 0\n" + "object 10\n" * 40 + "".join(f"reference {v} {(3 * v + k) % 40}\n" for v in range(40) for k in range(1, 4))
 FOUR_BOXES += "boxes 4\nbatch 2\ncutoff 2\n" + "".join(f"turns {(k + 1) % 4}: {k % 4}\n" for k in range(200))
 SIZES = ((1024, 768), (1366, 768), (1920, 1080), (390, 844))
+PHONE_PICTURE = 1900  # so far down the page is pictured where it is narrow: the boxes and the map stand below each other
+# Pictures do not depend on the machine: no hints for one grid of pixels, no colours of one kind of screen.
+SAME_EVERYWHERE = ("--force-device-scale-factor=1", "--disable-lcd-text", "--font-render-hinting=none", "--force-color-profile=srgb")
 # What is seen of the page: all letters with their sizes and places, the boxes, objects and what stands on arrows.
 LOOK = """
 const seen = (one) => { const at = one.getBoundingClientRect(); return [at.left, at.top + scrollY, at.right, at.bottom + scrollY]; };
@@ -46,6 +54,17 @@ while (walk.nextNode()) {
 return { letters, boxes: [...document.querySelectorAll('#boxes .box > rect:first-child')].map(seen), wide: document.documentElement.scrollWidth,
          loads: [...document.querySelectorAll('#boxes .load')].map(seen), drawing: seen(document.getElementById('drawing')),
          map: seen(document.getElementById('map')), scale: Course.map.scale(), editor: document.getElementById('text').checkVisibility() };
+"""
+# Until so many turns are drawn; whether they were in time.
+TURN = """
+const drawing = document.getElementById('drawing'), wanted = String(arguments[0]);
+return new Promise((done) => {
+  const look = () => { if (drawing.dataset.turn !== wanted) return; watch.disconnect(); done(true); };
+  const watch = new MutationObserver(look);
+  watch.observe(drawing, { attributes: true });
+  setTimeout(() => { watch.disconnect(); done(false); }, 20000);
+  look();
+});
 """
 
 
@@ -66,10 +85,14 @@ class Page(unittest.TestCase):
     @classmethod
     def setUpClass(cls):
         cls.server, cls.where = start_server()
+        # A request that is never finished; what becomes of it is looked at when its time is over.
+        host, port = cls.where.split("/")[2].split(":")
+        cls.slow = socket.create_connection((host, int(port)))
+        cls.slow.sendall(f"POST /run HTTP/1.1\r\nHost: {host}:{port}\r\nContent-Type: application/json\r\nContent-Length: 1000\r\n\r\n{{".encode())
         cls.profile = tempfile.TemporaryDirectory(ignore_cleanup_errors=True)
         options = Options()
         for word in ("--headless=new", "--no-sandbox", "--disable-gpu", "--disable-dev-shm-usage", "--hide-scrollbars", "--window-size=1400,1000",
-                     "--lang=en", f"--user-data-dir={cls.profile.name}"):
+                     "--lang=en", f"--user-data-dir={cls.profile.name}", *SAME_EVERYWHERE):
             options.add_argument(word)
         options.set_capability("goog:loggingPrefs", {"browser": "ALL"})
         options.binary_location = "/usr/bin/chromium"
@@ -78,6 +101,7 @@ class Page(unittest.TestCase):
     @classmethod
     def tearDownClass(cls):
         cls.browser.quit()
+        cls.slow.close()
         wrote = stop_server(cls.server)
         cls.profile.cleanup()
         assert "Traceback" not in wrote, wrote
@@ -85,15 +109,14 @@ class Page(unittest.TestCase):
     def setUp(self):
         self.allowed = None
         self.size(1400, 1000)
+        self.move_less(True)  # things that move take time, and have their own test
         self.browser.get("about:blank")
         self.browser.get(self.where)
-        self.browser.execute_script("sessionStorage.clear()")
-        self.browser.get(self.where)
         self.turn(0)
-        self.browser.get_log("browser")
 
     def tearDown(self):
-        """No error in the console, but what a test is about."""
+        """No error in the console, but what a test is about. What the page keeps over a reload does not reach the next test."""
+        self.js("Storage.prototype.setItem = () => {}; sessionStorage.clear()")
         told = [one["message"] for one in self.browser.get_log("browser") if one["level"] in ("SEVERE", "WARNING")]
         self.assertEqual([one for one in told if not (self.allowed and re.search(self.allowed, one))], [])
 
@@ -110,12 +133,13 @@ class Page(unittest.TestCase):
         WebDriverWait(self.browser, seconds, 0.05, (StaleElementReferenceException,)).until(lambda _: holds())
 
     def shown(self):
-        number = self.at("drawing").get_attribute("data-turn")
+        number = self.js("return document.getElementById('drawing').dataset.turn ?? null")
         return None if number is None else int(number)
 
     def turn(self, number):
         """Waits until so many turns are drawn."""
-        self.wait(lambda: self.shown() == number)
+        if not self.js(TURN, number):
+            self.fail(f"turn {number} is not drawn, but {self.shown()}")
 
     def write(self, text, turn=0):
         """Puts a case into the editor and runs it."""
@@ -143,10 +167,19 @@ class Page(unittest.TestCase):
     # ---- turns
 
     def test_case_a_turn_by_turn(self):
-        run = play.play(CASE_A)
+        run, before = played(CASE_A), None
         for number in range(len(run) + 1):
             self.turn(number)
             self.assertEqual(self.at("sentence").text, run.sentence(number))
+            # Of the drawing only what changed is replaced, and it is the same as if all of it were.
+            drawing = course_boxes.boxes_svg(run, ENGLISH, number, self.js("return Course.across"))
+            parts = re.split(r'(?=<g class="(?:box|arrows|loads)")', drawing)[1:]
+            if before:
+                self.assertEqual(self.js("return Course.replaced"), sum(one != other for one, other in zip(before, parts)), number)
+            whole = self.js("const other = document.createElement('div'); other.innerHTML = arguments[0];"
+                            "return other.innerHTML === document.getElementById('boxes').innerHTML", drawing)
+            self.assertTrue(whole, number)
+            before = parts
             state, shown = run.state(number), self.said("boxes")
             self.assertEqual(shown.count("at work"), state.counts["carrying"])
             for box in state.boxes:
@@ -165,7 +198,7 @@ class Page(unittest.TestCase):
         self.turn(last - 1)
         self.at("first").click()
         self.turn(0)
-        kinds = play.play(CASE_A).kinds
+        kinds = played(CASE_A).kinds
         self.at("next-handed").click()
         self.turn(kinds.index("handed") + 1)
         self.at("next-lost").click()
@@ -180,7 +213,7 @@ class Page(unittest.TestCase):
         self.assertEqual(self.at("play").get_attribute("aria-pressed"), "false")
 
     def test_keyboard(self):
-        kinds = play.play(CASE_A).kinds
+        kinds = played(CASE_A).kinds
         for key, number in ((Keys.ARROW_RIGHT, 1), (Keys.ARROW_RIGHT, 2), (Keys.ARROW_LEFT, 1), ("h", kinds.index("handed") + 1),
                             ("l", kinds.index("lost") + 1), (Keys.END, len(kinds)), (Keys.HOME, 0)):
             self.press(key)
@@ -249,6 +282,7 @@ class Page(unittest.TestCase):
         self.wait(lambda: self.js("return Course.across") == 2)
 
     def test_things_move(self):
+        self.move_less(False)
         self.side_by_side()
         Select(self.at("speed")).select_by_value("1200")
         self.js("Course.show(4, false)")
@@ -263,15 +297,17 @@ class Page(unittest.TestCase):
         self.assertEqual(self.js("return document.querySelector('#boxes .load').style.visibility"), "")
 
     def test_less_motion(self):
-        self.browser.execute_cdp_cmd("Emulation.setEmulatedMedia", {"features": [{"name": "prefers-reduced-motion", "value": "reduce"}]})
-        try:
-            self.js("Course.show(4, false)")
-            self.turn(4)
+        for less in (True, False):
+            self.move_less(less)
+            self.js("return Course.show(4, false)")
             self.at("forward").click()
             self.turn(5)
-            self.assertEqual(self.js("return document.querySelectorAll('.bead').length"), 0)
-        finally:
-            self.browser.execute_cdp_cmd("Emulation.setEmulatedMedia", {"features": []})
+            self.assertEqual(self.js("return document.querySelectorAll('.bead').length") == 0, less)
+
+    def move_less(self, less):
+        """As somebody has the browser who asks for less motion, or does not."""
+        wish = {"name": "prefers-reduced-motion", "value": "reduce" if less else "no-preference"}
+        self.browser.execute_cdp_cmd("Emulation.setEmulatedMedia", {"features": [wish]})
 
     # ---- the map
 
@@ -295,23 +331,94 @@ class Page(unittest.TestCase):
         self.assertNotEqual(self.js("return document.querySelector('#map svg').getAttribute('viewBox')"), view)
         self.assertNotEqual(self.shown(), 63)
 
+    def test_map_of_four_hundred(self):
+        """400 objects: drawn at all, moved and enlarged, and only what is carried or was followed is strong."""
+        text = tangle(400, 800)
+        run, began = played(text), time.monotonic()
+        self.write(text, 200)
+        self.turn(200)
+        self.wait(lambda: len(self.said("map")) >= 800)
+        self.assertLess(time.monotonic() - began, 12)
+        looks = self.map_looks()
+        self.assertEqual(len(looks), 800)
+        strong = {e for e, look in looks.items() if look != course_map.looks(run)["other"][:2]}
+        self.assertEqual(strong, set(dict(course_serve.step(run, 200, 2, "en")["edges"])))
+        self.assertTrue(0 < len(strong) < 800)
+        places = lambda which: self.js("return [...document.querySelectorAll(arguments[0])].map((one) => one.getBoundingClientRect())"
+                                       ".map((at) => [at.left, at.top, at.right, at.bottom])", which)
+        (left, top, right, bottom), = places("#map")
+        seen = lambda: sum(a >= left - 1 and b >= top - 1 and c <= right + 1 and d <= bottom + 1 for a, b, c, d in places("#map g[data-v]"))
+        # At first letters have their size, and what happens is in sight; the whole map comes at a click.
+        self.assertGreaterEqual(self.js("return Course.map.scale()"), 1)
+        self.assertLess(seen(), 400)
+        # The overview has all objects, and a frame round those in sight; a click moves there.
+        overview = self.browser.find_element(By.CSS_SELECTOR, "#map .overview")
+        self.assertTrue(overview.is_displayed())
+        self.assertEqual(len(overview.find_elements(By.CSS_SELECTOR, "rect:not(.frame)")), 400)
+        frame = lambda: self.js("return ['x', 'y', 'width', 'height'].map(side => document.querySelector('#map .frame').getAttribute(side)).join(' ')")
+        window = lambda: self.js("return document.querySelector('#map svg').getAttribute('viewBox')")
+        self.assertEqual(frame(), window())
+        (a, b, c, d), = places("#map .overview")
+        windows = []
+        for x, y in ((a + 5, b + 5), (c - 5, d - 5)):
+            self.js("document.querySelector('#map .overview').dispatchEvent(new PointerEvent('pointerdown',"
+                    "{ clientX: arguments[0], clientY: arguments[1] }))", x, y)
+            self.assertEqual(frame(), window())
+            windows.append(window())
+        self.assertNotEqual(*windows)
+        self.at("map-whole").click()
+        self.assertEqual(seen(), 400)
+        self.assertFalse(overview.is_displayed())
+        # Enlarged until letters can be read, by the wheel, about the pointer.
+        for _ in range(20):
+            self.js("document.getElementById('map').dispatchEvent(new WheelEvent('wheel', { deltaY: -1, clientX: arguments[0], clientY: arguments[1],"
+                    "cancelable: true }))", (left + right) / 2, (top + bottom) / 2)
+        letters = self.js("return document.querySelector('#map g[data-v] text').getBoundingClientRect().height")
+        self.assertGreaterEqual(letters, 14)
+        # Moved by the pointer.
+        view = window()
+        self.js("const map = document.getElementById('map'); map.setPointerCapture = () => {};"
+                "for (const [name, x] of [['pointerdown', 300], ['pointermove', 250], ['pointerup', 250]])"
+                "map.dispatchEvent(new PointerEvent(name, { pointerId: 1, clientX: x, clientY: 300 }))")
+        self.assertNotEqual(window(), view)
+
     def test_too_large_for_a_map(self):
         self.js("window.signs = []; new MutationObserver(() => window.signs.push(document.getElementById('progress').textContent))"
                 ".observe(document.getElementById('progress'), { childList: true })")
         taken = []
-        for _ in range(2):  # the quicker of two, since others work on the machine too
+        for _ in range(3):  # the quickest, since others work on the machine too
             began = time.monotonic()
             self.write(large_case())
             self.turn(0)
             taken.append(time.monotonic() - began)
+            if taken[-1] < 2:
+                break
         self.assertLess(min(taken), 2)
         self.wait(lambda: any(self.js("return window.signs")))  # of work that takes longer
         self.assertIn("1000 objects, too many to draw", self.at("map").text)
         self.wait(lambda: int(self.at("slider").get_attribute("max")) >= 13_000)
         self.wait(lambda: self.at("progress").text == "")
-        times = self.js("return (async () => { const times = []; for (const turn of [1, 2, 3, 6500, 6501, 12000, 13000, 4, 5, 6, 9000, 40, 41])"
-                        "{ const begun = performance.now(); await Course.show(turn, false); times.push(performance.now() - begun); } return times; })()")
-        self.assertLess(sorted(times)[len(times) // 2], 50, times)
+        # From the click until all of it is laid out: steps forward, steps back, and jumps. Each is the quickest of three such steps.
+        times = self.js("""return (async () => {
+            const took = async (turn) => {
+                await new Promise((done) => requestIdleCallback(done, { timeout: 200 }));
+                const begun = performance.now();
+                await Course.show(turn, false);
+                document.body.getBoundingClientRect();
+                return performance.now() - begun;
+            };
+            const times = {};
+            for (const pass of [0, 1, 2])
+                for (const [name, first, by, count] of [["forward", 5000, 1, 20], ["back", 9000, -1, 20], ["jump", 137, 1229, 10]]) {
+                    await Course.show(first + 300 * pass, false);
+                    for (let k = 1; k <= count; k++) (times[`${name} ${k}`] ??= []).push(await took(first + 300 * pass + k * by));
+                }
+            return times; })()""")
+        quickest = {name: min(three) for name, three in times.items()}
+        self.assertLess(max(quickest.values()), 50, times)
+        if os.environ.get("TIMES"):
+            every = sorted(time for three in times.values() for time in three)
+            print(f"steps: median {every[len(every) // 2]:.0f} ms, 95 of 100 within {every[len(every) * 95 // 100]:.0f}, worst {every[-1]:.0f}")
         self.js("document.getElementById('turns').scrollTop = 28 * 9000")
         self.wait(lambda: "Turn 9001:" in self.at("turns").text)
         self.assertLess(self.js("return document.querySelectorAll('#rows div').length"), 120)
@@ -319,7 +426,7 @@ class Page(unittest.TestCase):
     # ---- teaching
 
     def test_list_of_turns(self):
-        run = play.play(CASE_A)
+        run = played(CASE_A)
         self.wait(lambda: len(self.browser.find_elements(By.CSS_SELECTOR, "#rows div")) == 21)
         rows = self.browser.find_elements(By.CSS_SELECTOR, "#rows div")
         self.assertEqual([row.get_attribute("textContent") for row in rows], [run.sentence(number) for number in range(21)])
@@ -328,7 +435,7 @@ class Page(unittest.TestCase):
         self.assertEqual(self.js("return document.querySelector('#rows [aria-selected=true]').textContent"), run.sentence(5))
 
     def test_what_will_happen_next(self):
-        run = play.play(CASE_A)
+        run = played(CASE_A)
         self.at("quiz").click()
         self.at("forward").click()
         self.wait(lambda: self.browser.find_elements(By.CSS_SELECTOR, "#guesses button"))
@@ -428,15 +535,18 @@ class Page(unittest.TestCase):
 
     def test_german(self):
         self.speak("de")
-        self.assertEqual(self.at("sentence").text, play.play(CASE_A).sentence(0, words("de")))
+        self.assertEqual(self.at("sentence").text, played(CASE_A).sentence(0, words("de")))
         self.js("return Course.show(5, false)")
-        self.assertEqual(self.at("sentence").text, play.play(CASE_A).sentence(5, words("de")))
+        self.assertEqual(self.at("sentence").text, played(CASE_A).sentence(5, words("de")))
         self.assertEqual(self.js("return document.querySelector('#sample option').textContent"), "eigener")
         self.assertEqual(self.at("next-handed").text, "nächste Übergabe")
         self.assertIn("Fragezelle", self.said("boxes"))
         self.assertEqual(self.js("return document.documentElement.lang"), "de")
         self.write(CASE_A.replace("boxes 2", "boxes 0"))
         self.wait(lambda: "Ablehnung 8" in self.at("fault").text)
+        self.write(CASE_A + "object x")
+        line = len(CASE_A.splitlines()) + 1
+        self.wait(lambda: self.at("fault").text == f"Zeile {line}: „x“ ist keine Dezimalzahl")
 
     def test_legend(self):
         self.open("legend-part")
@@ -471,7 +581,9 @@ class Page(unittest.TestCase):
     def test_a_fault_names_its_line_once(self):
         self.write(CASE_A + "what 1\n")
         self.wait(lambda: self.at("fault").text != "")
-        self.assertEqual(self.at("fault").text, f"line {len(CASE_A.splitlines()) + 1}: cannot be read here: what 1")
+        line = len(CASE_A.splitlines()) + 1
+        self.assertTrue(self.at("fault").text.startswith(f"line {line}: 'what' begins no line of a case; these do: index, object, "))
+        self.assertEqual(self.at("fault").text.count(f"line {line}"), 1)
 
     def test_typing_keeps_the_turn(self):
         self.js("Course.show(6, false)")
@@ -500,7 +612,7 @@ class Page(unittest.TestCase):
         self.js("Course.show(9)")
         self.turn(9)
         self.wait(lambda: "forgotten" in self.at("notice").text)
-        self.assertEqual(self.at("sentence").text, play.play(CASE_A).sentence(9))
+        self.assertEqual(self.at("sentence").text, played(CASE_A).sentence(9))
 
     def test_server_that_is_gone(self):
         server, where = start_server()
@@ -513,7 +625,7 @@ class Page(unittest.TestCase):
             self.allowed = "net::ERR_"
             self.js("Course.show(9)")
             self.wait(lambda: "does not answer" in self.at("notice").text)
-            self.assertEqual(self.at("sentence").text, play.play(CASE_A).sentence(0), "the sentence is that of what is drawn")
+            self.assertEqual(self.at("sentence").text, played(CASE_A).sentence(0), "the sentence is that of what is drawn")
             self.assertLess(float(self.js("return getComputedStyle(document.getElementById('drawing')).opacity")), 0.5)
         finally:
             server.kill()
@@ -529,7 +641,9 @@ class Page(unittest.TestCase):
 
     def test_four_sizes(self):
         """Four boxes at four sizes: letters, what is cut off, what lies over what; and boxes two by two in a room. Where there is least
-        room, with the longer words of German too."""
+        room, with the longer words of German too. And the picture of a hand-over, beside the stored one."""
+        run = played(FOUR_BOXES)
+        handed = max(range(len(run) + 1), key=lambda number: (run.kind(number) == "handed", len(run.arrows(number)), -number))
         for wide, high in SIZES:
             for language in ("en", "de") if wide in (1024, 390) else ("en",):
                 with self.subTest(size=(wide, high), language=language):
@@ -538,13 +652,34 @@ class Page(unittest.TestCase):
                     self.write(FOUR_BOXES, 50)
                     self.turn(50)
                     self.js("document.getElementById('writing').open = false; Course.redraw()")
-                    for number in (50, 51, 9):
+                    for number in (50, 51, 9, handed):
                         self.js("return Course.show(arguments[0], false)", number)
                         self.turn(number)
                         self.check_look(self.js(LOOK), wide, high)
-                    folder = os.environ.get("SCREENSHOTS")
-                    if folder:
-                        self.browser.save_screenshot(f"{folder}/four-boxes-{language}-{wide}x{high}.png")
+                    if language == "en":
+                        self.js("return Course.show(arguments[0], false)", handed)
+                        self.turn(handed)
+                        self.check_picture(f"{wide}x{high}", wide, PHONE_PICTURE if wide < 800 else high)
+
+    def picture(self, wide, high):
+        """The page from its top, so many pixels down."""
+        self.js("window.scrollTo(0, 0); document.activeElement.blur()")
+        part = {"x": 0, "y": 0, "width": wide, "height": high, "scale": 1}
+        taken = self.browser.execute_cdp_cmd("Page.captureScreenshot", {"format": "png", "clip": part, "captureBeyondViewport": True})
+        return base64.b64decode(taken["data"])
+
+    def check_picture(self, name, wide, high):
+        """The page as it is stored. Without its arrow, its box or the reference that is followed it would be another."""
+        png = self.picture(wide, high)
+        if os.environ.get("SCREENSHOTS"):
+            (Path(os.environ["SCREENSHOTS"]) / f"{name}.png").write_bytes(png)
+        if os.environ.get("PICTURES") == "store":
+            pictures.store(name, png)
+        self.assertEqual(pictures.fault(name, png), "")
+        for hidden in ("#boxes .arrow.fresh", "#boxes .load.fresh", "#boxes [data-box='2']"):
+            self.js("document.querySelector(arguments[0]).style.visibility = 'hidden'", hidden)
+            self.assertIn(f"{name}: blocks are off by ", pictures.fault(name, self.picture(wide, high)), hidden)
+            self.js("document.querySelector(arguments[0]).style.visibility = ''", hidden)
 
     def check_look(self, seen, wide, high):
         self.assertLessEqual(seen["wide"], wide, "nothing is cut off")
@@ -558,6 +693,7 @@ class Page(unittest.TestCase):
             for other in boxes[one + 1:]:
                 self.assertFalse(left < other[2] and other[0] < right and top < other[3] and other[1] < bottom, "boxes overlap")
             for load in seen["loads"]:
+                self.assertTrue(load[0] >= 0 and load[2] <= wide, "what is on an arrow is cut off")
                 middle = (load[0] + load[2]) / 2, (load[1] + load[3]) / 2
                 self.assertFalse(left < middle[0] < right and top < middle[1] < bottom, "what is on an arrow lies over a box")
         columns = len({round(box[0]) for box in boxes})
@@ -652,7 +788,7 @@ class Page(unittest.TestCase):
 
     def test_finished_file(self):
         """docs/course/a.html shows the run without a server."""
-        run = play.play(CASE_A)
+        run = played(CASE_A)
         self.browser.get((TOP / "docs" / "course" / "a.html").as_uri())
         for number in (0, 1, 2):
             self.turn(number)
@@ -665,8 +801,7 @@ class Page(unittest.TestCase):
         self.assertFalse(self.at("writing").is_displayed())
         for wide, high in SIZES:
             self.size(wide, high)
-            time.sleep(0.2)
-            self.assertLessEqual(self.js("return document.documentElement.scrollWidth"), wide)
+            self.wait(lambda: self.js("return document.documentElement.scrollWidth") <= wide)
 
     # ---- the server
 
@@ -715,21 +850,24 @@ class Page(unittest.TestCase):
             self.refused(self.post("/run", json.dumps({"text": CASE_A + text}).encode()), 200)
 
     def test_memory_is_bounded(self):
-        large = large_case()
-        for text in (CASE_A + "seed 1 1 rounds 4294967295\n", large, large.replace("boxes 4", "boxes 6"), large.replace("batch 1", "batch 2")) * 3:
-            self.post("/run", json.dumps({"text": text}).encode())
-        time.sleep(3)
+        """One more of the largest runs than are kept, and a case that would deal turns without end."""
+        self.refused(self.post("/run", json.dumps({"text": CASE_A + "seed 1 1 rounds 4294967295\n"}).encode()), 200)
+        large, begun = large_case(), []
+        for at in range(course_serve.KEPT_RUNS + 1):
+            told = self.post("/run", json.dumps({"text": large.replace("batch 1", f"batch {at + 1}")}).encode())[1]
+            begun.append(json.loads(told)["run"])
+        for number in begun[1:]:
+            self.wait(lambda: json.loads(self.post(f"/run/{number}?from=99999")[1])["done"], 90)
+        self.refused(self.post(f"/run/{begun[0]}"), 404)
         status = Path(f"/proc/{self.server.pid}/status").read_text()
         self.assertLess(int(re.search(r"VmHWM:\s+(\d+) kB", status)[1]), 600_000)
 
     def test_slow_request(self):
-        """Who does not finish a request is not waited for."""
-        host, port = self.where.split("/")[2].split(":")
-        with socket.create_connection((host, int(port))) as slow:
-            slow.sendall(f"POST /run HTTP/1.1\r\nHost: {host}:{port}\r\nContent-Type: application/json\r\nContent-Length: 1000\r\n\r\n{{".encode())
-            slow.settimeout(20)
-            self.assertIn(b"400", slow.recv(1000).split(b"\r\n")[0])
-            self.assertEqual(self.post("/")[0], 200)
+        """Who does not finish a request is not waited for: the one that was begun before all tests."""
+        self.assertEqual(self.post("/")[0], 200)
+        self.slow.settimeout(20)
+        self.assertIn(b"400", self.slow.recv(1000).split(b"\r\n")[0])
+        self.assertEqual(self.post("/")[0], 200)
 
 
 if __name__ == "__main__":
