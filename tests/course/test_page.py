@@ -651,6 +651,7 @@ class Page(unittest.TestCase):
                     self.speak(language)
                     self.write(FOUR_BOXES, 50)
                     self.turn(50)
+                    self.wait(lambda: self.js("return document.querySelectorAll('#map g[data-v]').length") == 40)
                     self.js("document.getElementById('writing').open = false; Course.redraw()")
                     for number in (50, 51, 9, handed):
                         self.js("return Course.show(arguments[0], false)", number)
@@ -663,7 +664,7 @@ class Page(unittest.TestCase):
 
     def picture(self, wide, high):
         """The page from its top, so many pixels down."""
-        self.js("window.scrollTo(0, 0); document.activeElement.blur()")
+        self.js("window.scrollTo(0, 0); document.activeElement.blur(); Course.map.fit()")
         part = {"x": 0, "y": 0, "width": wide, "height": high, "scale": 1}
         taken = self.browser.execute_cdp_cmd("Page.captureScreenshot", {"format": "png", "clip": part, "captureBeyondViewport": True})
         return base64.b64decode(taken["data"])
