@@ -19,6 +19,7 @@ from pathlib import Path
 
 from selenium import webdriver
 from selenium.common.exceptions import StaleElementReferenceException
+from selenium.webdriver import ActionChains
 from selenium.webdriver.chrome.options import Options
 from selenium.webdriver.chrome.service import Service
 from selenium.webdriver.common.by import By
@@ -29,6 +30,7 @@ import course_boxes
 import course_map
 import course_run as play
 import course_serve
+import course_sheet
 import course_svg
 import pictures
 from course_words import words
@@ -241,12 +243,10 @@ class Page(unittest.TestCase):
         self.open("writing")
         wanted = set(self.js("return [...document.querySelectorAll('button, input, select, textarea, summary, [tabindex=\"0\"]')]"
                              ".filter(one => one.checkVisibility() && !one.disabled).map(one => one.id || one.dataset.word || one.textContent)"))
-        self.js("document.activeElement.blur(); window.scrollTo(0, 0)")
-        met = set()
-        for _ in range(2 * len(wanted)):
-            self.browser.switch_to.active_element.send_keys(Keys.TAB)
-            met.add(self.js("const one = document.activeElement; return one.id || one.dataset.word || one.textContent"))
-        self.assertEqual(wanted - met, set())
+        self.js("document.activeElement.blur(); window.scrollTo(0, 0); window.met = []; document.addEventListener('focusin',"
+                "({ target }) => window.met.push(target.id || target.dataset.word || target.textContent))")
+        ActionChains(self.browser).send_keys(Keys.TAB * (2 * len(wanted))).perform()
+        self.assertEqual(wanted - set(self.js("return window.met")), set())
 
     # ---- the path
 
@@ -783,7 +783,8 @@ class Page(unittest.TestCase):
     def test_sheets_are_a3(self):
         with tempfile.TemporaryDirectory() as folder:
             path = Path(folder) / "a.html"
-            subprocess.run([sys.executable, str(TOP / "tools" / "course.py"), "sheet", str(TOP / "samples" / "a.txt"), str(path)], check=True)
+            stored = [(TOP / "docs" / "course" / name).read_text() for name in ("a-1.svg", "a-2.svg")]
+            path.write_text(course_sheet.html(stored, ENGLISH, "A"))
             self.browser.get(path.as_uri())
             self.assertEqual(self.printed(), [(1191, 842)] * 2)
 
