@@ -217,7 +217,7 @@ def on_arrow(run: Run, said: Words, arrow: Arrow, point: Point, token_black: boo
     more = said.say("drawing", "more", count=left) if left else ""
     wides, out = [width(words, SMALLEST, True) + 14 for words in rows], []
     if where.between_rows(y):
-        at = where.within(x, sum(wides) + 7 * len(wides) + width(more, SMALLEST, True))
+        at = where.within(x, sum(wides) + 7 * (len(wides) - 1) + (7 + width(more, SMALLEST, True) if more else 0))
         for words, wide in zip(rows, wides):
             out.append(chip(at, y - CHIP / 2, words, arrow.fresh))
             at += wide + 7
