@@ -480,6 +480,15 @@ class Maps(unittest.TestCase):
         for one, (left, top, right, bottom) in enumerate(boxes):
             for other in boxes[one + 1:]:
                 self.assertFalse(left < other[2] and other[0] < right and top < other[3] and other[1] < bottom, "objects overlap")
+        if len(run.targets) <= course_map.MOST_ROUTED:
+            self.check_routed(run, laid, boxes)
+        # In layers by hops: no object of a layer stands between objects of the one before or behind it.
+        parts = [part for part in course_map.layers(run) if part]
+        self.assertTrue(any(all(max(laid.places[v][axis] for v in one) < min(laid.places[v][axis] for v in other) for one, other in zip(parts, parts[1:]))
+                            for axis in (0, 1)))
+        return laid
+
+    def check_routed(self, run, laid, boxes):
         struck = 0
         for e, path in enumerate(laid.paths):
             for point in along(path):
@@ -489,11 +498,6 @@ class Maps(unittest.TestCase):
             left = x - course_svg.width(words_, 14) / 2 if anchor == "middle" else x
             label = (left, y - 11, left + course_svg.width(words_, 14), y + 3)
             self.assertFalse(any(inside(point, label) for path in laid.paths for point in along(path)), words_)
-        # In layers by hops: no object of a layer stands between objects of the one before or behind it.
-        parts = [part for part in course_map.layers(run) if part]
-        self.assertTrue(any(all(max(laid.places[v][axis] for v in one) < min(laid.places[v][axis] for v in other) for one, other in zip(parts, parts[1:]))
-                            for axis in (0, 1)))
-        return laid
 
     def test_small(self):
         for path in SAMPLES + DRAWINGS:
@@ -502,9 +506,22 @@ class Maps(unittest.TestCase):
                 self.check(run, *room)
 
     def test_hundred_objects(self):
-        run = play.play(tangle(100, 300))
+        run = played(tangle(100, 300))
         laid = self.check(run, 560, 620)
         self.assertLess(max(laid.size), 2500)
+
+    def test_four_hundred_objects(self):
+        """More references than are routed: curves from edge to edge, behind the objects, on a map of its room's shape."""
+        run = played(tangle(400, 800))
+        laid = self.check(run, 560, 620)
+        self.assertLess(max(laid.size), 2 * min(laid.size))
+        wide, high = laid.node
+        for e, path in enumerate(laid.paths):
+            for point, v in ((along(path)[0], run.sources[e]), (along(path)[-1], run.targets[e])):
+                off = max(abs(point[0] - laid.places[v][0]) - wide / 2, abs(point[1] - laid.places[v][1]) - high / 2)
+                self.assertLess(abs(off), 0.2, (e, v))
+        drawn = course_map.map_inner(run, ENGLISH, laid, 100)
+        self.assertLess(drawn.rindex("<path data-e="), drawn.index("<g data-v="))
 
     def test_laid_out_once(self):
         """Another order, or one more turn, leaves the map as it is; another store, room or language does not."""
@@ -573,6 +590,27 @@ class Drawings(unittest.TestCase):
         self.assertEqual(shown.count("1 → 3"), 2, "in the box and on the arrow")
         self.assertEqual(shown.count("at work"), 2)
         self.assertEqual(list(xml.fromstring(course_boxes.boxes_svg(run, ENGLISH, 20, 2)).itertext()).count("at work"), 0)
+
+    def test_what_is_on_arrows_is_whole(self):
+        """It stays within the drawing however the boxes stand, and between two rows of boxes it lies on none."""
+        run, tag = played(tangle(100, 300)), "{http://www.w3.org/2000/svg}"
+        sent = [number for number in range(len(run) + 1) if run.arrows(number)]
+        self.assertIn("handed", {run.kind(number) for number in sent})
+        between = 0
+        for across in (1, 2, 4):
+            where = course_boxes.grid(run, across)
+            places = [where.place(b) for b in range(run.workers)]
+            for number in sent:
+                drawn = xml.fromstring(course_boxes.boxes_svg(run, ENGLISH, number, across))
+                for load in (one for one in drawn.iter(f"{tag}g") if one.get("data-arrow")):
+                    for one in load.iter(f"{tag}rect"):
+                        x, y, wide, high = (float(one.get(side)) for side in ("x", "y", "width", "height"))
+                        self.assertTrue(0 <= x and x + wide <= where.size()[0], (across, number))
+                        if where.between_rows(y + high / 2):
+                            between += 1
+                            self.assertFalse(any(x < left + course_boxes.WIDE and left < x + wide and y < top + course_boxes.HIGH and top < y + high
+                                                 for left, top in places), (across, number))
+        self.assertGreater(between, 5)
 
     def test_many_references_are_summed_up(self):
         text = "index 0\n" + "object 1\n" * 500 + "".join(f"reference 0 {v}\n" for v in range(1, 300)) + "boxes 2\nbatch 9\ncutoff 9\nturns 0: 1 0\n"
