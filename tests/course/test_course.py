@@ -31,6 +31,8 @@ SAMPLES = sorted((TOP / "samples").glob("*.txt"))
 DRAWINGS = sorted((TOP / "docs" / "course").glob("*.txt"))
 CASE_A = (TOP / "samples" / "a.txt").read_text()
 RING = (TOP / "docs" / "course" / "ring.txt").read_text()
+FOUR_BOXES = "index 0\n" + "object 10\n" * 40 + "".join(f"reference {v} {(3 * v + k) % 40}\n" for v in range(40) for k in range(1, 4))
+FOUR_BOXES += "boxes 4\nbatch 2\ncutoff 2\n" + "".join(f"turns {(k + 1) % 4}: {k % 4}\n" for k in range(200))
 ENGLISH = words("en")
 
 # A run is the same each time, so that tests which only look at one share it; and so are the sheets of a run.
@@ -593,7 +595,7 @@ class Drawings(unittest.TestCase):
 
     def test_what_is_on_arrows_is_whole(self):
         """It stays within the drawing however the boxes stand, and between two rows of boxes it lies on none."""
-        run, tag = played(tangle(100, 300)), "{http://www.w3.org/2000/svg}"
+        run, tag = played(FOUR_BOXES), "{http://www.w3.org/2000/svg}"
         sent = [number for number in range(len(run) + 1) if run.arrows(number)]
         self.assertIn("handed", {run.kind(number) for number in sent})
         between = 0
@@ -603,13 +605,13 @@ class Drawings(unittest.TestCase):
             for number in sent:
                 drawn = xml.fromstring(course_boxes.boxes_svg(run, ENGLISH, number, across))
                 for load in (one for one in drawn.iter(f"{tag}g") if one.get("data-arrow")):
-                    for one in load.iter(f"{tag}rect"):
-                        x, y, wide, high = (float(one.get(side)) for side in ("x", "y", "width", "height"))
+                    shapes = [tuple(float(one.get(side)) for side in ("x", "y", "width", "height")) for one in load.iter(f"{tag}rect")]
+                    lies = any(where.between_rows(y + high / 2) for _, y, _, high in shapes)
+                    between += lies
+                    for x, y, wide, high in shapes:
                         self.assertTrue(0 <= x and x + wide <= where.size()[0], (across, number))
-                        if where.between_rows(y + high / 2):
-                            between += 1
-                            self.assertFalse(any(x < left + course_boxes.WIDE and left < x + wide and y < top + course_boxes.HIGH and top < y + high
-                                                 for left, top in places), (across, number))
+                        over = any(x < left + course_boxes.WIDE and left < x + wide and y < top + course_boxes.HIGH and top < y + high for left, top in places)
+                        self.assertFalse(lies and over, (across, number))
         self.assertGreater(between, 5)
 
     def test_many_references_are_summed_up(self):

@@ -34,11 +34,9 @@ import course_sheet
 import course_svg
 import pictures
 from course_words import words
-from test_course import CASE_A, ENGLISH, RING, large_case, played, tangle
+from test_course import CASE_A, ENGLISH, FOUR_BOXES, RING, large_case, played, tangle
 
 TOP = play.TOP
-FOUR_BOXES = "index 0\n" + "object 10\n" * 40 + "".join(f"reference {v} {(3 * v + k) % 40}\n" for v in range(40) for k in range(1, 4))
-FOUR_BOXES += "boxes 4\nbatch 2\ncutoff 2\n" + "".join(f"turns {(k + 1) % 4}: {k % 4}\n" for k in range(200))
 SIZES = ((1024, 768), (1366, 768), (1920, 1080), (390, 844))
 PHONE_PICTURE = 1900  # so far down the page is pictured where it is narrow: the boxes and the map stand below each other
 # Pictures do not depend on the machine: no hints for one grid of pixels, no colours of one kind of screen.
