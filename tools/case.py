@@ -3,12 +3,18 @@
 
     case.py make CASE.txt FOLDER    writes FOLDER/store.cat and FOLDER/order.run; FOLDER/store.update too
                                     if references come or go, and FOLDER/collection.saved if the case
-                                    tells of a stopped collection
+                                    tells of a stopped collection. '-' for CASE.txt is standard input
     case.py show FOLDER             prints the case that these files hold
     case.py show FOLDER --marks M   the same, with who claimed each object: M holds the marks that a
                                     marking or an update of the case left, a byte for each object
+    case.py run FOLDER              runs target/bin/collect there, and says what a refusal means
+    case.py explain N               says what the refusal N means, and where to look; without N that in
+                                    the last line of standard input, which is printed
 
-A case is lines of words. '#' begins a comment, blank lines are skipped.
+A case is lines of words in UTF-8. '#' begins a comment, blank lines are skipped.
+
+`make` leaves nothing of an earlier case in FOLDER: an update goes, and so does a stopped collection of
+another store or order, which is said. One of this very store and order stays.
 
     index OBJECT          the index object; once, before the objects
     object SIZE           one line for each object; the first is number 0
@@ -65,6 +71,7 @@ import re
 import struct
 import subprocess
 import sys
+import textwrap
 from collections import defaultdict
 from dataclasses import dataclass, field
 from pathlib import Path
@@ -99,20 +106,62 @@ DEAL = TOP / "target" / "course" / "deal"
 LAST_CARD = 719
 # A case has no more turns than this from cards and seeds.
 MOST_DEALT = 1 << 20
-FOR_BOXES = "cards are for 1 to 6 boxes, whose number stands before them"
-NOT_DEALT = {8: FOR_BOXES, 15: FOR_BOXES, 16: "the first word of a seed is not 0"}
+NOT_DEALT = {8: "for-boxes", 15: "for-boxes", 16: "seed-zero"}
+# The program that collects a store.
+COLLECT = TOP / "target" / "bin" / "collect"
+
+
+# What may be wrong with the text of a case. The page says it in other languages by these keys (page/words).
+SAID = {
+    "not-utf8": "the case is not text in UTF-8, from byte {at} on",
+    "no-number": "'{word}' is not a decimal number",
+    "above": "{value} is above {most}",
+    "above-digits": "a number of {digits} digits is above {most}",
+    "unknown": "'{word}' begins no line of a case; these do: {words}",
+    "form": "expected: {form}; found: {found}",
+    "twice": "a second line '{word}', where a case has one",
+    "told-twice": "{word} {place} is told a second time",
+    "not-saved": "'{word}' tells of a stopped collection, so a line 'saved TURNS' stands before it",
+    "no-name": "'{word}' is none of these: {names}",
+    "no-code": "'{word}' is none of these and no decimal number: {names}",
+    "no-line": "there is no {word} line",
+    "no-reference": "no reference leads from {source} to {target}",
+    "for-boxes": "cards are for 1 to 6 boxes, whose number stands before them",
+    "seed-zero": "the first word of a seed is not 0",
+    "most-dealt": "cards and seeds give a case at most {most} turns",
+    "no-deal": "cards are dealt by {program}, which is not there: make deal builds it",
+    "deal-ended": "{program} ended with status {status}",
+    "deal-refused": "{program} answers the refusal {refusal}",
+    "deal-other": "{program} does not answer with the turns of {rounds} rounds",
+}
+LONGEST_QUOTED = 60
 
 
 class Fault(Exception):
-    """What is wrong with a case or with the two files, in words for a person, and in which line of the text."""
+    """What is wrong with a case or its files, in words for a person, and in which line of the text; the key of SAID and its values,
+    where it has one."""
 
-    def __init__(self, text: str, line: Optional[int] = None):
+    def __init__(self, text: str, line: Optional[int] = None, key: Optional[str] = None, values: Optional[dict] = None):
         super().__init__(f"line {line}: {text}" if line else text)
-        self.text, self.line = text, line
+        self.text, self.line, self.key, self.values = text, line, key, values or {}
+
+    def at(self, line: int) -> "Fault":
+        """The same, in this line."""
+        return Fault(self.text, line, self.key, self.values)
+
+
+def fault(key: str, **values) -> Fault:
+    """A fault of the text, by its key. What is quoted is cut where it is long."""
+    values |= {name: quoted(values[name]) for name in ("word", "found") if name in values}
+    return Fault(SAID[key].format(**values), key=key, values=values)
+
+
+def quoted(words: str) -> str:
+    return words if len(words) <= LONGEST_QUOTED else words[:LONGEST_QUOTED] + "…"
 
 
 class Unread(Exception):
-    """A line that cannot be read where it stands."""
+    """A line that is not of its form."""
 
 
 @dataclass
@@ -157,13 +206,13 @@ class Case:
 
 def number(word: str, limit: int) -> int:
     if not word.isascii() or not word.isdigit():
-        raise Fault(f"'{word}' is not a decimal number")
+        raise fault("no-number", word=word)
     digits = word.lstrip("0") or "0"
-    if len(digits) > len(str(limit)):
-        raise Fault(f"{digits if len(digits) <= 40 else f'a number of {len(digits)} digits'} is above {limit}")
+    if len(digits) > 40:
+        raise fault("above-digits", digits=len(digits), most=limit)
     value = int(digits)
     if value > limit:
-        raise Fault(f"{value} is above {limit}")
+        raise fault("above", value=value, most=limit)
     return value
 
 
@@ -174,20 +223,20 @@ def pair(one: str, other: str, limit: int) -> tuple[int, int]:
 def dealt(case: Case, *seed: int, cards: tuple[int, ...] = ()) -> list[tuple[int, int]]:
     """The turns of these cards, or of the words of a seed and so many rounds, as the library deals them."""
     if not DEAL.exists():
-        raise Fault(f"cards are dealt by {DEAL.relative_to(TOP)}, which is not there: make deal builds it")
+        raise fault("no-deal", program=str(DEAL.relative_to(TOP)))
     rounds = len(cards) if cards else seed[-1] if seed else 0
     if len(case.turns) + rounds * case.settings.get("boxes", 0) > MOST_DEALT:
-        raise Fault(f"cards and seeds give a case at most {MOST_DEALT:,} turns")
+        raise fault("most-dealt", most=f"{MOST_DEALT:,}")
     words = map(str, (case.settings.get("boxes", 0), *seed))
     done = subprocess.run([DEAL, *words], input=" ".join(map(str, cards)), capture_output=True, text=True)
     if done.returncode:
-        raise Fault(done.stderr.strip() or f"{DEAL.name} ended with status {done.returncode}")
+        raise Fault(done.stderr.strip()) if done.stderr.strip() else fault("deal-ended", program=DEAL.name, status=done.returncode)
     refusal = re.fullmatch(r"refusal (\d+)\n", done.stdout)
     if refusal:
-        raise Fault(NOT_DEALT.get(int(refusal[1]), f"{DEAL.name} answers the refusal {refusal[1]}"))
+        raise fault(NOT_DEALT.get(int(refusal[1]), "deal-refused"), program=DEAL.name, refusal=int(refusal[1]))
     turns = re.fullmatch(r"(?:turn \d+ \d+\n)*", done.stdout) and re.findall(r"turn (\d+) (\d+)\n", done.stdout)
     if turns is None or len(turns) != rounds * case.settings.get("boxes", 0):
-        raise Fault(f"{DEAL.name} does not answer with the turns of {rounds} rounds")
+        raise fault("deal-other", program=DEAL.name, rounds=rounds)
     return [(int(box), int(asked)) for box, asked in turns]
 
 
@@ -201,7 +250,7 @@ def numbers_of(case: Case, ends: tuple[int, int], line: int) -> list[int]:
     """The numbers of all references with these ends."""
     numbers = [at for at, pair in enumerate(stored(case)) if pair == ends]
     if not numbers:
-        raise Fault(f"no reference leads from {ends[0]} to {ends[1]}", line)
+        raise fault("no-reference", source=ends[0], target=ends[1]).at(line)
     return numbers
 
 
@@ -214,14 +263,21 @@ class Draft:
 
 
 def expect(due: bool) -> None:
-    """What a line tells is due where it stands."""
+    """The line is of its form."""
     if not due:
         raise Unread
 
 
-def told(table: dict, at: int, value) -> None:
+def once(first: bool, word: str) -> None:
+    """A line that a case has once is the first of its kind."""
+    if not first:
+        raise fault("twice", word=word)
+
+
+def told(table: dict, word: str, at: int, value) -> None:
     """Takes the value in, if there is none yet."""
-    expect(at not in table)
+    if at in table:
+        raise fault("told-twice", word=word, place=at)
     table[at] = value
 
 
@@ -233,11 +289,15 @@ def named(words: tuple[str, ...], names: tuple[str, ...]) -> tuple[str, ...]:
 
 def code(word: str, names: tuple[str, ...]) -> int:
     """The place of the word among the names, or the number that it is."""
-    return names.index(word) if word in names else number(word, WORD)
+    if word in names:
+        return names.index(word)
+    if not word.isascii() or not word.isdigit():
+        raise fault("no-code", word=word, names=", ".join(names))
+    return number(word, WORD)
 
 
-def take_index(draft: Draft, _: str, index: str) -> None:
-    expect(draft.case.index is None)
+def take_index(draft: Draft, name: str, index: str) -> None:
+    once(draft.case.index is None, name)
     draft.case.index = number(index, WORD)
 
 
@@ -257,7 +317,7 @@ def take_lease(draft: Draft, _: str, lease: str) -> None:
 
 
 def take_setting(draft: Draft, name: str, value: str) -> None:
-    expect(name not in draft.case.settings)
+    once(name not in draft.case.settings, name)
     draft.case.settings[name] = number(value, SETTINGS[name])
 
 
@@ -288,81 +348,83 @@ def take_removed(draft: Draft, _: str, *words: str) -> None:
     draft.removals.append(tuple(number(word, WORD) for word in words))
 
 
-def take_saved(draft: Draft, _: str, made: str) -> None:
-    expect(draft.case.saved is None)
+def take_saved(draft: Draft, name: str, made: str) -> None:
+    once(draft.case.saved is None, name)
     draft.case.saved = Saved(number(made, WORD))
 
 
-def take_form(saved: Saved, _: str, form: str) -> None:
-    expect(saved.form == FORM)
+def take_form(saved: Saved, name: str, form: str) -> None:
+    once(saved.form == FORM, name)
     saved.form = number(form, WORD)
 
 
 def take_count(saved: Saved, _: str, name: str, count: str) -> None:
-    expect(name in COUNTS and name not in saved.counts)
+    if name not in COUNTS:
+        raise fault("no-name", word=name, names=", ".join(COUNTS))
+    once(name not in saved.counts, f"count {name}")
     saved.counts[name] = number(count, LONG)
 
 
-def take_token(saved: Saved, _: str, holder: str, colour: str) -> None:
-    expect(saved.token is None)
+def take_token(saved: Saved, name: str, holder: str, colour: str) -> None:
+    once(saved.token is None, name)
     paint = code(colour, COLOURS)
     saved.token = (number(holder, WORD), paint)
 
 
-def take_black(saved: Saved, _: str, *boxes: str) -> None:
-    expect(saved.black is None)
+def take_black(saved: Saved, name: str, *boxes: str) -> None:
+    once(saved.black is None, name)
     saved.black = sum({1 << number(box, 31) for box in boxes})
 
 
-def take_box(saved: Saved, _: str, box: str, status: str, *rest: str) -> None:
+def take_box(saved: Saved, name: str, box: str, status: str, *rest: str) -> None:
     asker, since, batch = named(rest, ("cell", "since", "batch"))
     at, doing = number(box, BYTE), code(status, STATUSES)
     cell = 0 if asker == "-" else number(asker, WORD - 1) + 1
-    told(saved.boxes, at, [doing, cell, number(since, WORD), number(batch, WORD)])
+    told(saved.boxes, name, at, [doing, cell, number(since, WORD), number(batch, WORD)])
 
 
-def take_tally(saved: Saved, _: str, box: str, *rest: str) -> None:
+def take_tally(saved: Saved, name: str, box: str, *rest: str) -> None:
     counts = named(rest, TALLY)
-    told(saved.tallies, number(box, BYTE), [number(count, LONG) for count in counts])
+    told(saved.tallies, name, number(box, BYTE), [number(count, LONG) for count in counts])
 
 
-def take_mark(saved: Saved, _: str, at: str, mark: str) -> None:
-    told(saved.marks, *pair(at, mark, WORD))
+def take_mark(saved: Saved, name: str, at: str, mark: str) -> None:
+    told(saved.marks, name, *pair(at, mark, WORD))
 
 
 def take_run(saved: Saved, _: str, box: str, first: str, end: str) -> None:
     saved.runs.setdefault(number(box, BYTE), []).append(pair(first, end, WORD))
 
 
-# The kinds of lines by their first word: how many words stand behind it, at least and at most, and what takes them in.
+# The kinds of lines by their first word: how many words stand behind it, at least and at most, its form, and what takes it in.
 ANY = sys.maxsize
 LINES = {
-    "index": (1, 1, take_index),
-    "object": (1, 1, take_object),
-    "reference": (2, 2, take_reference),
-    "subject": (2, 2, take_reference),
-    "lease": (1, 1, take_lease),
-    "boxes": (1, 1, take_setting),
-    "batch": (1, 1, take_setting),
-    "cutoff": (1, 1, take_setting),
-    "turn": (2, 2, take_turn),
-    "turns": (2, ANY, take_turns),
-    "cards": (1, ANY, take_cards),
-    "seed": (4, 4, take_seed),
-    "add": (2, 2, take_added),
-    "remove": (1, 2, take_removed),
-    "saved": (1, 1, take_saved),
+    "index": (1, 1, "index OBJECT", take_index),
+    "object": (1, 1, "object SIZE", take_object),
+    "reference": (2, 2, "reference FROM TO", take_reference),
+    "subject": (2, 2, "subject FROM TO", take_reference),
+    "lease": (1, 1, "lease OBJECT", take_lease),
+    "boxes": (1, 1, "boxes W", take_setting),
+    "batch": (1, 1, "batch D", take_setting),
+    "cutoff": (1, 1, "cutoff K", take_setting),
+    "turn": (2, 2, "turn BOX ASKED", take_turn),
+    "turns": (2, ANY, "turns ASKED: BOX ...", take_turns),
+    "cards": (1, ANY, "cards CARD ...", take_cards),
+    "seed": (4, 4, "seed A B rounds N", take_seed),
+    "add": (2, 2, "add FROM TO", take_added),
+    "remove": (1, 2, "remove NUMBER | remove FROM TO", take_removed),
+    "saved": (1, 1, "saved TURNS", take_saved),
 }
 # Those of a stopped collection.
 SAVED_LINES = {
-    "form": (1, 1, take_form),
-    "count": (2, 2, take_count),
-    "token": (2, 2, take_token),
-    "black": (1, ANY, take_black),
-    "box": (8, 8, take_box),
-    "tally": (9, 9, take_tally),
-    "mark": (2, 2, take_mark),
-    "run": (3, 3, take_run),
+    "form": (1, 1, "form F", take_form),
+    "count": (2, 2, "count NAME N", take_count),
+    "token": (2, 2, "token BOX COLOUR", take_token),
+    "black": (1, ANY, "black BOX ...", take_black),
+    "box": (8, 8, "box BOX STATUS cell ASKER since S batch N", take_box),
+    "tally": (9, 9, "tally BOX followed F won W lost L handed H", take_tally),
+    "mark": (2, 2, "mark OBJECT MARK", take_mark),
+    "run": (3, 3, "run BOX FIRST END", take_run),
 }
 # Lines that tell what another kind of line tells, too; those of turns tell several.
 TOLD_BY = {"subject": "reference", "turns": "turn", "cards": "turn", "seed": "turn"}
@@ -370,38 +432,42 @@ TOLD_BY = {"subject": "reference", "turns": "turn", "cards": "turn", "seed": "tu
 
 def take_line(draft: Draft, name: str, *words: str) -> None:
     """Takes one line in."""
-    if name in LINES:
-        into, kind = draft, LINES[name]
-    elif name in SAVED_LINES and draft.case.saved is not None:
-        into, kind = draft.case.saved, SAVED_LINES[name]
-    else:
-        raise Unread
-    least, most, take = kind
+    if name not in LINES and name not in SAVED_LINES:
+        raise fault("unknown", word=name, words=", ".join([*LINES, *SAVED_LINES]))
+    if name in SAVED_LINES and draft.case.saved is None:
+        raise fault("not-saved", word=name)
+    least, most, _, take = LINES.get(name) or SAVED_LINES[name]
     expect(least <= len(words) <= most)
-    take(into, name, *words)
+    take(draft if name in LINES else draft.case.saved, name, *words)
+
+
+def lines_of(text: str) -> list[str]:
+    """The lines of a text, whichever way they end, without a byte order mark."""
+    return re.split("\r\n|\r|\n", text.removeprefix("\ufeff"))
 
 
 def parse(text: str) -> Case:
     """The case that the text tells."""
     draft = Draft()
     case = draft.case
-    for at, line in enumerate(text.splitlines(), 1):
+    for at, line in enumerate(lines_of(text), 1):
         words = line.split("#", 1)[0].replace(":", " : ").split()
         if not words:
             continue
         try:
             take_line(draft, *words)
         except Unread:
-            raise Fault(f"cannot be read here: {line.strip()}", at) from None
-        except Fault as fault:
-            raise Fault(fault.text, at) from None
+            form = (LINES.get(words[0]) or SAVED_LINES[words[0]])[2]
+            raise fault("form", form=form, found=line.strip()).at(at) from None
+        except Fault as wrong:
+            raise wrong.at(at) from None
         name = TOLD_BY.get(words[0], words[0])
         case.lines[name] += [at] * (len(case.turns) - len(case.lines[name]) if name == "turn" else 1)
     if case.index is None:
-        raise Fault("there is no index line")
+        raise fault("no-line", word="index")
     for name in SETTINGS:
         if name not in case.settings:
-            raise Fault(f"there is no {name} line")
+            raise fault("no-line", word=name)
     for at, words in zip(case.lines["remove"], draft.removals):
         case.removed += words if len(words) == 1 else numbers_of(case, words, at)
     return case
@@ -616,14 +682,28 @@ def show_saved(saved: Saved) -> list[str]:
     return lines + [f"run {box} {first} {end}" for box, runs in saved.runs.items() for first, end in runs]
 
 
+def text_of(data: bytes) -> str:
+    """The text of a case."""
+    try:
+        return data.decode("utf-8")
+    except UnicodeDecodeError as wrong:
+        raise fault("not-utf8", at=wrong.start) from None
+
+
 def load_text(path: Path) -> Case:
-    """The case in a text file."""
-    return parse(path.read_bytes().decode("utf-8"))
+    """The case in a text file, or in standard input."""
+    return parse(text_of(sys.stdin.buffer.read() if str(path) == "-" else path.read_bytes()))
 
 
-def save(case: Case, folder: Path) -> None:
-    """Writes the files; the folder is made if it is not there. An update of an earlier case does not stay. What cannot be
-    written whole leaves the files of before."""
+def belongs(path: Path, store: bytes, order: bytes) -> bool:
+    """Whether this is a stopped collection of these files, by what it says of them."""
+    head = path.read_bytes()[: SAVED_HEAD.size]
+    return len(head) == SAVED_HEAD.size and SAVED_HEAD.unpack(head)[3:] == (digest(store), digest(order))
+
+
+def save(case: Case, folder: Path) -> list[str]:
+    """Writes the files; the folder is made if it is not there. An update of an earlier case does not stay, nor a stopped collection
+    of another store or order: the names of those that went. What cannot be written whole leaves the files of before."""
     store, order = store_bytes(case), order_bytes(case)
     files = {"store.cat": store, "order.run": order}
     if case.added or case.removed:
@@ -632,15 +712,20 @@ def save(case: Case, folder: Path) -> None:
         files[SAVED_NAME] = saved_bytes(case, store, order)
     folder.mkdir(parents=True, exist_ok=True)
     beside = {name: folder / f"{name}.new" for name in files}
+    stale = [name for name in (UPDATE_NAME, SAVED_NAME) if name not in files and (folder / name).is_file()]
+    if SAVED_NAME in stale and belongs(folder / SAVED_NAME, store, order):
+        stale.remove(SAVED_NAME)
     try:
         for name, data in files.items():
             beside[name].write_bytes(data)
-        (folder / UPDATE_NAME).unlink(missing_ok=True)
+        for name in stale:
+            (folder / name).unlink()
         for name, path in beside.items():
             path.replace(folder / name)
     finally:
         for path in beside.values():
             path.unlink(missing_ok=True)
+    return stale
 
 
 def load(folder: Path) -> Case:
@@ -654,6 +739,97 @@ def load(folder: Path) -> Case:
     return case
 
 
+# What the program refuses, by number: the kinds of lines in the order in which they are looked at, and what is wrong with one.
+LARGEST_SIZE, MOST_BOXES, MOST_LEASES = 1_099_511_627_776, 16, 256
+TOLD_OF = {4: ("object", "reference"), 5: ("index", "reference", "lease"), 6: ("object",), 8: tuple(SETTINGS), 9: ("turn",), 13: ("lease",)}
+
+
+def suspect(one: Case, number: int) -> Optional[tuple[str, int]]:
+    """Which line causes this refusal, where one does: its kind, and its place among those. A hint: the library decides."""
+    objects, boxes = len(one.sizes), one.settings["boxes"]
+    no_object = lambda v: v >= objects
+    wrong = {
+        ("index", 5): no_object, ("reference", 5): lambda ends: no_object(max(ends)), ("lease", 5): no_object,
+        ("object", 6): lambda size: size > LARGEST_SIZE,
+        ("boxes", 8): lambda v: not 1 <= v <= MOST_BOXES, ("batch", 8): lambda v: v == 0, ("cutoff", 8): lambda v: v == 0,
+        ("turn", 9): lambda turn: turn[0] >= boxes,
+    }
+    if number == 13:
+        return ("lease", MOST_LEASES) if len(one.leases) > MOST_LEASES else None
+    for name in TOLD_OF.get(number, ()):
+        test = wrong.get((name, number), lambda _: False)
+        for at, part in enumerate(one.parts()[name]):
+            if test(part):
+                return name, at
+    return None
+
+
+def explained(number: int, folder: Optional[Path] = None) -> list[str]:
+    """What a refusal means and where to look, as lines; of the files in a folder, the part that causes it, where one does."""
+    import refusals  # only here: a case is read and made without the documents beside it
+
+    try:
+        lines = refusals.explain(TOP, number)
+    except ValueError as wrong:
+        raise Fault(str(wrong)) from None
+    kinds = [word for name in TOLD_OF.get(number, ()) for word in (name, *(other for other, of in TOLD_BY.items() if of == name))]
+    if kinds:
+        lines.append(f"lines of a case that tell it: {', '.join(kinds)}")
+    if folder is not None:
+        try:
+            one = load(folder)
+            found = suspect(one, number)
+        except (Fault, OSError):
+            found = None  # files that cannot be shown: the number is all there is
+        if found:
+            name, at = found
+            part = one.parts()[name][at]
+            word = "subject" if name == "reference" and at in one.subjects else name
+            lines.append(f"here: {' '.join(map(str, (word, *(part if isinstance(part, tuple) else (part,)))))}, number {at} of its kind, from 0")
+    return lines
+
+
+def refusal_in(output: str) -> Optional[int]:
+    """The number of the refusal that the program printed, if it did."""
+    found = re.fullmatch(r"refusal (\d{1,9})", (output.splitlines() or [""])[-1])
+    return int(found[1]) if found else None
+
+
+def run(folder: Path) -> int:
+    """Runs the program on the files of a folder. Its output is passed on, and what a refusal means is said beside it."""
+    if not COLLECT.exists():
+        raise Fault(f"{COLLECT.relative_to(TOP)} is not there: make run proves and builds it")
+    done = subprocess.run([COLLECT], cwd=folder, stdout=subprocess.PIPE, text=True)
+    sys.stdout.write(done.stdout)
+    sys.stdout.flush()
+    if done.returncode < 0:
+        raise Fault(f"{COLLECT.name} was ended by signal {-done.returncode}")
+    refusal = refusal_in(done.stdout)
+    if refusal is not None:
+        tell_of(refusal, folder)
+    return done.returncode
+
+
+def tell_of(refusal: int, folder: Optional[Path] = None, to=None) -> None:
+    first, *rest = explained(refusal, folder)
+    lines = [first, *(textwrap.fill(line, 118, initial_indent="  ", subsequent_indent="    ", break_long_words=False) for line in rest)]
+    print("\n".join(lines), file=to or sys.stderr)
+
+
+def explain(word: Optional[str]) -> int:
+    """Says what a refusal means: that number, or the one that the last line of standard input has."""
+    if word is not None:
+        tell_of(number(word, WORD), to=sys.stdout)
+        return 0
+    output = sys.stdin.read()
+    sys.stdout.write(output)
+    sys.stdout.flush()
+    refusal = refusal_in(output)
+    if refusal is not None:
+        tell_of(refusal)
+    return 0
+
+
 class Parser(argparse.ArgumentParser):
     """Tells the whole format where it is called wrongly."""
 
@@ -664,26 +840,36 @@ class Parser(argparse.ArgumentParser):
 
 def arguments(words: list[str]) -> argparse.Namespace:
     parser = Parser(prog="case.py", description=__doc__, formatter_class=argparse.RawDescriptionHelpFormatter)
-    commands = parser.add_subparsers(dest="command", metavar="make | show", required=True)
+    commands = parser.add_subparsers(dest="command", metavar="make | show | run | explain", required=True)
     make = commands.add_parser("make", help="writes store.cat and order.run, store.update and collection.saved")
     make.add_argument("case", type=Path, metavar="CASE.txt")
     make.add_argument("folder", type=Path, metavar="FOLDER")
     shown = commands.add_parser("show", help="prints the case that the files hold")
     shown.add_argument("folder", type=Path, metavar="FOLDER")
     shown.add_argument("--marks", type=Path, metavar="M", help="the marks that a marking or an update of the case left")
+    runs = commands.add_parser("run", help="runs the program on the files, and says what a refusal means")
+    runs.add_argument("folder", type=Path, metavar="FOLDER")
+    explains = commands.add_parser("explain", help="says what a refusal means, and where to look")
+    explains.add_argument("number", nargs="?", metavar="N")
     return parser.parse_args(words)
 
 
 def main(words: list[str]) -> int:
     chosen = arguments(words)
     try:
+        if chosen.command == "run":
+            return run(chosen.folder)
+        if chosen.command == "explain":
+            return explain(chosen.number)
         if chosen.command == "make":
-            save(load_text(chosen.case), chosen.folder)
+            stale = save(load_text(chosen.case), chosen.folder)
+            if SAVED_NAME in stale:
+                sys.stderr.write(f"case.py: {chosen.folder / SAVED_NAME} was of another store or order, and is removed\n")
         else:
             marks = chosen.marks.read_bytes() if chosen.marks else None
             sys.stdout.write(show(load(chosen.folder), marks))
-    except (Fault, OSError, UnicodeDecodeError) as fault:
-        sys.stderr.write(f"case.py: {fault}\n")
+    except (Fault, OSError) as wrong:
+        sys.stderr.write(f"case.py: {wrong}\n")
         return 1
     return 0
 

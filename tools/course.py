@@ -21,9 +21,9 @@ from course_words import LANGUAGES, words
 
 
 def read(path: Path) -> str:
-    """The text of a case."""
+    """The text of a case; '-' is standard input."""
     try:
-        return path.read_bytes().decode("utf-8")
+        return (sys.stdin.buffer.read() if str(path) == "-" else path.read_bytes()).decode("utf-8")
     except UnicodeDecodeError:
         raise play.Fault("not-utf8") from None
 

@@ -1,10 +1,10 @@
 """Reads a case in a process of its own, whose memory and time are bounded.
 
-    course_read.py FOLDER [REFUSAL] <CASE.txt    writes FOLDER/store.cat and order.run, and prints the objects' names and
-                                                 the cards that were dealt; or, with the number of a refusal, the line
-                                                 that causes it
+    course_read.py SECONDS FOLDER [REFUSAL] <CASE.txt    writes FOLDER/store.cat and order.run, and prints the objects'
+                                                         names and the cards that were dealt; or, with the number of
+                                                         a refusal, the line that causes it
 
-It prints JSON: {"names": [..], "deals": [..]}, {"line": N} or {"fault": TEXT, "line": N}.
+It prints JSON: {"names": [..], "deals": [..]}, {"line": N} or {"fault": TEXT, "key": KEY, "values": {..}, "line": N}.
 """
 
 import json
@@ -15,23 +15,22 @@ from typing import Optional
 
 import case
 
-MEMORY, SECONDS = 1 << 30, 10
+MEMORY = 1 << 30
 # A case that is read has no more bytes.
 MOST_TEXT = 1 << 20
-LARGEST_SIZE, MOST_BOXES, MOST_LEASES = 1_099_511_627_776, 16, 256
 LONGEST_NAME, MOST_DEALS = 24, 500
 
 
 def names(one: case.Case, text: str) -> list[str]:
     """What stands as a comment behind each object's line."""
-    lines = text.splitlines()
+    lines = case.lines_of(text)
     behind = (lines[at - 1].partition("#")[2] for at in one.lines["object"])
     return [" ".join(words.split())[:LONGEST_NAME] for words in behind]
 
 
 def deals(one: case.Case, text: str) -> list[dict]:
     """The rounds that cards or seeds dealt: the turn before each, its card if that is known, and its boxes in order."""
-    lines, out, boxes, at = text.splitlines(), [], one.settings["boxes"], 0
+    lines, out, boxes, at = case.lines_of(text), [], one.settings["boxes"], 0
     while at < len(one.turns) and len(out) < MOST_DEALS:
         word, *rest = lines[one.lines["turn"][at] - 1].split("#")[0].split()
         if word not in ("cards", "seed"):
@@ -47,19 +46,8 @@ def deals(one: case.Case, text: str) -> list[dict]:
 
 def blame(one: case.Case, number: int) -> Optional[int]:
     """The line that causes this refusal, where one does: of several, that of the part which the library looks at first."""
-    objects, boxes = len(one.sizes), one.settings["boxes"]
-    no_object, zero = lambda v: v >= objects, lambda v: v == 0
-    wrong = {
-        5: {"index": no_object, "reference": lambda ends: no_object(max(ends)), "lease": no_object},
-        6: {"object": lambda size: size > LARGEST_SIZE},
-        8: {"boxes": lambda v: not 1 <= v <= MOST_BOXES, "batch": zero, "cutoff": zero},
-        9: {"turn": lambda turn: turn[0] >= boxes},
-    }
-    if number == 13:
-        return one.lines["lease"][MOST_LEASES]
-    parts = one.parts()
-    lines = (line for name, test in wrong.get(number, {}).items() for line, part in zip(one.lines[name], parts[name]) if test(part))
-    return next(lines, None)
+    found = case.suspect(one, number)
+    return one.lines[found[0]][found[1]] if found else None
 
 
 def answer(text: str, folder: Path, refusal: Optional[int]) -> dict:
@@ -70,14 +58,14 @@ def answer(text: str, folder: Path, refusal: Optional[int]) -> dict:
         case.save(one, folder)
         return {"names": names(one, text), "deals": deals(one, text)}
     except case.Fault as fault:
-        return {"fault": fault.text, "line": fault.line}
+        return {"fault": fault.text, "key": fault.key, "values": fault.values, "line": fault.line}
 
 
 def main(words: list[str]) -> int:
     resource.setrlimit(resource.RLIMIT_AS, (MEMORY, MEMORY))
-    resource.setrlimit(resource.RLIMIT_CPU, (SECONDS, SECONDS))
+    resource.setrlimit(resource.RLIMIT_CPU, (int(words[0]), int(words[0])))
     text = sys.stdin.buffer.read().decode("utf-8")
-    print(json.dumps(answer(text, Path(words[0]), int(words[1]) if len(words) > 1 else None)))
+    print(json.dumps(answer(text, Path(words[1]), int(words[2]) if len(words) > 2 else None)))
     return 0
 
 

@@ -7,20 +7,25 @@ import subprocess
 import sys
 import tempfile
 from array import array
+from collections import OrderedDict
 from pathlib import Path
 from threading import Lock, Thread
 from typing import Iterator, NamedTuple, Optional
 
 import case
-from course_read import MOST_TEXT, SECONDS
+from course_read import MOST_TEXT
 from course_words import Words, words
 
 TOP = case.TOP
 READ = Path(__file__).resolve().parent / "course_read.py"
 STEPS = TOP / "target" / "course" / "steps"
 # Bounds of a run: turns, saved words that the library is given over all turns, changed words that are kept, words of
-# whole states that are kept, and seconds.
+# whole states that are kept, and seconds; and seconds of reading the text of a case.
 MOST_TURNS, MOST_LOOKED, MOST_CHANGED, MOST_KEPT, MOST_SECONDS = 20_000, 2_000_000_000, 4_000_000, 4_000_000, 60
+READ_SECONDS = 10
+# States that were asked for last are kept, as many as have so many words together, and at least two: a turn is told from those
+# before and after it.
+MOST_RECENT, RECENT_WORDS = 16, 400_000
 NO_HOPS = 4_294_967_295
 NOBODY = None
 NO_REFERENCE = 4_294_967_295
@@ -30,10 +35,10 @@ FOLLOWS = ("looked", "followed", "won", "lost")
 
 class Fault(Exception):
     """A case that is not run: what is wrong, the number of the refusal if there is one, and the line that causes it. `key` and
-    `values` say it in any language."""
+    `values` say it in any language; what the text of a case is refused for stands in a part of its own."""
 
-    def __init__(self, key: str, number: Optional[int] = None, line: Optional[int] = None, text: Optional[str] = None, **values):
-        self.key, self.number, self.line, self.given, self.values = key, number, line, text, values
+    def __init__(self, key: str, number: Optional[int] = None, line: Optional[int] = None, text: Optional[str] = None, part: str = "faults", **values):
+        self.key, self.number, self.line, self.given, self.part, self.values = key, number, line, text, part, values
         super().__init__(self.say(words()))
 
     def say(self, said: Words) -> str:
@@ -42,7 +47,7 @@ class Fault(Exception):
         if self.number is not None:
             reason = f"refusal-{self.number}" if f"refusal-{self.number}" in said.parts["faults"] else "refusal-other"
             return said.say("faults", "refusal", number=self.number, reason=said.say("faults", reason))
-        return said.say("faults", self.key, **self.values)
+        return said.say(self.part, self.key, **self.values)
 
     @property
     def text(self) -> str:
@@ -173,7 +178,8 @@ class Run:
         self.finished = self.done = False
         self.dead: Optional[list[int]] = None
         self.fault: Optional[Fault] = None
-        self.lock, self.latest = Lock(), (0, self.kept[0])
+        self.lock, self.recent = Lock(), OrderedDict()
+        self.most_recent = min(max(2, RECENT_WORDS // len(saved)), MOST_RECENT)
         self.process: Optional[subprocess.Popen] = None
 
     def __len__(self) -> int:
@@ -241,14 +247,19 @@ class Run:
     def state(self, number: int) -> State:
         """The state after so many turns."""
         with self.lock:
-            latest, saved = self.latest
-            if not number - self.every < latest <= number:
-                latest, saved = number // self.every * self.every, self.kept[number // self.every]
-            saved = saved[:]
-            for at in range(self.places[latest], self.places[number], 2):
-                saved[self.changes[at]] = self.changes[at + 1]
-            self.latest = number, saved
-            return State(saved, self.n, self.workers)
+            if number not in self.recent:
+                near, saved = number // self.every * self.every, self.kept[number // self.every]
+                for other, state in self.recent.items():
+                    if near < other < number:
+                        near, saved = other, state.words
+                saved = saved[:]
+                for at in range(self.places[near], self.places[number], 2):
+                    saved[self.changes[at]] = self.changes[at + 1]
+                self.recent[number] = State(saved, self.n, self.workers)
+                while len(self.recent) > self.most_recent:
+                    self.recent.popitem(last=False)
+            self.recent.move_to_end(number)
+            return self.recent[number]
 
     def looked(self, number: int) -> Optional[int]:
         """The reference that the turn looked at, claimed along or followed."""
@@ -368,9 +379,9 @@ def read_case(text: str, folder: str, refusal: Optional[int] = None) -> dict:
     """What `course_read.py` answers on a case; Fault where that has no answer."""
     if len(text) > MOST_TEXT:
         raise Fault("too-long", most=f"{MOST_TEXT:,}")
-    command = [sys.executable, str(READ), folder] + ([] if refusal is None else [str(refusal)])
+    command = [sys.executable, str(READ), str(READ_SECONDS), folder] + ([] if refusal is None else [str(refusal)])
     try:
-        done = subprocess.run(command, input=text.encode("utf-8", "surrogatepass"), capture_output=True, timeout=2 * SECONDS)
+        done = subprocess.run(command, input=text.encode("utf-8", "surrogatepass"), capture_output=True, timeout=2 * READ_SECONDS)
     except subprocess.TimeoutExpired:
         raise Fault("too-slow") from None
     if done.returncode in (-signal.SIGXCPU, -signal.SIGKILL):
@@ -381,7 +392,9 @@ def read_case(text: str, folder: str, refusal: Optional[int] = None) -> dict:
         raise Fault(known.get(last[0].split(":")[0] if last else "", "broken"))
     answer = json.loads(done.stdout)
     if "fault" in answer:
-        raise Fault("given", text=answer["fault"], line=answer["line"])
+        if answer["key"] is None:
+            raise Fault("given", text=answer["fault"], line=answer["line"])
+        raise Fault(answer["key"], line=answer["line"], part="case", **answer["values"])
     return answer
 
 

@@ -1,5 +1,6 @@
 """Tests of tools/case.py: both ways, and what it refuses."""
 
+import io
 import random
 import shutil
 import struct
@@ -162,6 +163,17 @@ class Cases(unittest.TestCase):
             black
             black 32
         """
+        for line, text in {
+            "count dead 1": "'dead' is none of these: live, followed, handed, refused, moved, carrying",
+            "box 0 busy cell - since 0 batch 0": "'busy' is none of these and no decimal number: " + ", ".join(case.STATUSES),
+            "token 1 red": "'red' is none of these and no decimal number: white, black",
+            "box 0 idle": "expected: box BOX STATUS cell ASKER since S batch N; found: box 0 idle",
+            "mark 0 1\nmark 0 2": "mark 0 is told a second time",
+            "count live 1\ncount live 1": "a second line 'count live', where a case has one",
+        }.items():
+            with self.assertRaises(case.Fault, msg=line) as caught:
+                case.parse(head + line + "\n")
+            self.assertEqual(caught.exception.text, text)
         twice = ("count live 1\n" * 2, "token 0 white\n" * 2, "black 1\n" * 2, "mark 0 1\n" * 2, "box 1 idle cell - since 0 batch 0\n" * 2)
         for line in (*unread.strip().splitlines(), *twice):
             with self.assertRaises(case.Fault, msg=line):
@@ -216,7 +228,7 @@ class Cases(unittest.TestCase):
     def test_update_refused(self):
         head = SAMPLE.read_text()
         for line in ("add", "add 1", "add 1 2 3", "add x 1", "add 4294967296 0", "add 0 -1", "remove", "remove 1 2 3", "remove x", "remove 4294967296"):
-            with self.assertRaisesRegex(case.Fault, "^line 19: .*(cannot be read here|is not a decimal number|is above)", msg=line):
+            with self.assertRaisesRegex(case.Fault, "^line 19: .*(expected: (add|remove) |is not a decimal number|is above)", msg=line):
                 case.parse(head + line + "\n")
         with self.assertRaisesRegex(case.Fault, "^line 20: no reference leads from 4 to 5$"):
             case.parse(head + "add 4 5\nremove 4 5\n")
@@ -234,7 +246,7 @@ class Cases(unittest.TestCase):
         self.assertEqual(len(case.parse(self.HEAD + "boxes 6\ncards 5\n").turns), 6)
         refused = {
             "cards 0\nboxes 2": (5, FOR_BOXES),
-            "boxes 2\ncards": (6, "cannot be read here: cards"),
+            "boxes 2\ncards": (6, "expected: cards CARD ...; found: cards"),
             "boxes 2\ncards 720": (6, "720 is above 719"),
             "boxes 2\ncards 0 x": (6, "'x' is not a decimal number"),
             **{f"boxes {boxes}\ncards 0": (6, FOR_BOXES) for boxes in (0, 7, 16, 17, 255)},
@@ -265,10 +277,10 @@ class Cases(unittest.TestCase):
         self.assertEqual(case.parse(head + "seed 1 0 rounds 0\n").turns, [])
         refused = {
             "seed 0 1 rounds 1": "the first word of a seed is not 0",
-            "seed 1 rounds 1": "cannot be read here: seed 1 rounds 1",
-            "seed 1 0 rounds": "cannot be read here: seed 1 0 rounds",
-            "seed 1 0 1": "cannot be read here: seed 1 0 1",
-            "seed 1 0 round 1": "cannot be read here: seed 1 0 round 1",
+            "seed 1 rounds 1": "expected: seed A B rounds N; found: seed 1 rounds 1",
+            "seed 1 0 rounds": "expected: seed A B rounds N; found: seed 1 0 rounds",
+            "seed 1 0 1": "expected: seed A B rounds N; found: seed 1 0 1",
+            "seed 1 0 round 1": "expected: seed A B rounds N; found: seed 1 0 round 1",
             "seed 4294967296 0 rounds 1": "4294967296 is above 4294967295",
         }
         for line, text in refused.items():
@@ -382,42 +394,32 @@ class Cases(unittest.TestCase):
     def test_refused_texts(self):
         good = case.show(case.load_text(SAMPLE))
         at = len(good.splitlines()) + 1
-        unread = """
-            object
-            object 1 2
-            reference 1
-            subject 1
-            subject 1 2 3
-            lease
-            lease 1 2
-            turn 1
-            turn 1 2 3
-            turns 0
-            turns 0 1
-            turns: 0 1
-            batch 1
-            boxes 2
-            boxes
-            cutoff 1
-            index 0
-            index
-            saved
-            saved 1 2
-            word 1
-            Object 1
-            form 1
-            count live 1
-            token 0 white
-            black 0
-            box 0 idle cell - since 0 batch 0
-            tally 0 followed 0 won 0 lost 0 handed 0
-            run 0 0 1
-        """
-        for line in unread.strip().splitlines():
+        # What was expected is told: the form of the line, that it stands there once, or that another stands before it.
+        forms = {
+            "object SIZE": ("object", "object 1 2"),
+            "reference FROM TO": ("reference 1",),
+            "subject FROM TO": ("subject 1", "subject 1 2 3"),
+            "lease OBJECT": ("lease", "lease 1 2"),
+            "turn BOX ASKED": ("turn 1", "turn 1 2 3"),
+            "turns ASKED: BOX ...": ("turns 0", "turns 0 1", "turns: 0 1"),
+            "boxes W": ("boxes",),
+            "index OBJECT": ("index",),
+            "saved TURNS": ("saved", "saved 1 2"),
+        }
+        told = {line: f"expected: {form}; found: {line} # read" for form, lines in forms.items() for line in lines}
+        told |= {line: f"a second line '{line.split()[0]}', where a case has one" for line in ("batch 1", "boxes 2", "cutoff 1", "index 0")}
+        known = ", ".join([*case.LINES, *case.SAVED_LINES])
+        told |= {f"{word} 1": f"'{word}' begins no line of a case; these do: {known}" for word in ("word", "Object", "w" * 60)}
+        told["w" * 61] = f"'{'w' * 60}…' begins no line of a case; these do: {known}"
+        of_saved = ("form 1", "count live 1", "token 0 white", "black 0", "box 0 idle cell - since 0 batch 0",
+                    "tally 0 followed 0 won 0 lost 0 handed 0", "run 0 0 1", "mark 0 1")
+        told |= {line: f"'{line.split()[0]}' tells of a stopped collection, so a line 'saved TURNS' stands before it" for line in of_saved}
+        for line, text in told.items():
             with self.assertRaises(case.Fault, msg=line) as caught:
-                case.parse(good + line + " # read\n")
-            self.assertEqual(str(caught.exception), f"line {at}: cannot be read here: {line.strip()} # read")
-            self.assertEqual(caught.exception.line, at)
+                case.parse(good + "  " + line + " # read\n")
+            self.assertEqual(str(caught.exception), f"line {at}: {text}")
+            self.assertEqual((caught.exception.line, caught.exception.text), (at, text))
+            self.assertEqual(case.SAID[caught.exception.key].format(**caught.exception.values), text)
         wrong = {
             "object -1": "'-1' is not a decimal number",
             "object x": "'x' is not a decimal number",
@@ -444,6 +446,62 @@ class Cases(unittest.TestCase):
                 case.parse(without + f"{name} {most + 1}\n")
         with self.assertRaisesRegex(case.Fault, "^there is no index line$"):
             case.parse(good.replace("index 0\n", ""))
+
+    def test_text_as_other_systems_write_it(self):
+        """A byte order mark, carriage returns, and standard input; lines are counted as an editor counts them."""
+        text = SAMPLE.read_text()
+        wanted = case.parse(text)
+        for other in ("\ufeff" + text, text.replace("\n", "\r\n"), text.replace("\n", "\r"), text.rstrip("\n"), "\ufeff" + text.replace("\n", "\r\n")):
+            self.assertEqual(case.parse(other), wanted)
+            self.assertEqual(case.parse(other).lines, wanted.lines)
+        self.assertEqual(case.parse("# a\u2028b\x0cc\x85d\n" + text).lines["index"], [wanted.lines["index"][0] + 1])
+        with tempfile.TemporaryDirectory() as work:
+            folder, path = Path(work) / "made", Path(work) / "case.txt"
+            done = self.command("make", "-", folder, given="\ufeff" + text.replace("\n", "\r\n"))
+            self.assertEqual((done.returncode, done.stdout, done.stderr), (0, "", ""))
+            self.assertEqual(case.load(folder), wanted)
+            done = self.command("make", "-", folder, given=text + "turn\r\n")
+            told = f"case.py: line {len(text.splitlines()) + 1}: expected: turn BOX ASKED; found: turn\n"
+            self.assertEqual((done.returncode, done.stderr), (1, told))
+            path.write_bytes(b"index 0\n# \xff\n")
+            done = self.command("make", path, folder)
+            self.assertEqual((done.returncode, done.stderr), (1, "case.py: the case is not text in UTF-8, from byte 10 on\n"))
+
+    def test_stale_collection(self):
+        """A stopped collection of another store or order goes, and this is said; one of these very files stays."""
+        stopped = SAMPLE.read_text() + "saved 5\ncount live 2\n"
+        with tempfile.TemporaryDirectory() as work:
+            folder, path = Path(work), Path(work) / "case.txt"
+            kept = folder / case.SAVED_NAME
+            for text, stays in ((SAMPLE.read_text(), True), (SAMPLE.read_text() + "turn 0 1\n", False), (SAMPLE.read_text().replace("600", "601"), False)):
+                case.save(case.parse(stopped), folder)
+                before = kept.read_bytes()
+                path.write_text(text)
+                done = self.command("make", path, folder)
+                told = "" if stays else f"case.py: {kept} was of another store or order, and is removed\n"
+                self.assertEqual((done.returncode, done.stdout, done.stderr), (0, "", told))
+                self.assertEqual(kept.read_bytes() if kept.exists() else None, before if stays else None)
+                self.assertEqual(case.load(folder), case.parse(stopped if stays else text))
+            # What is no such file is as good as another's.
+            kept.write_bytes(b"half")
+            self.assertEqual(case.save(case.parse(SAMPLE.read_text()), folder), [case.SAVED_NAME])
+
+    def test_suspects(self):
+        """The line that a refusal is about."""
+        text = SAMPLE.read_text()
+        for old, new, refusal, found in (
+            ("index 0", "index 6", 5, ("index", 0)),
+            ("reference 2 3", "subject 6 3", 5, ("reference", 3)),
+            ("boxes 2", "lease 1\nlease 6\nboxes 2", 5, ("lease", 1)),
+            ("object 600", "object 1099511627777", 6, ("object", 5)),
+            ("cutoff 1", "cutoff 0", 8, ("cutoff", 0)),
+            ("boxes 2", "boxes 1", 9, ("turn", 1)),
+            ("boxes 2", "lease 1\n" * 257 + "boxes 2", 13, ("lease", 256)),
+            ("boxes 2", "boxes 2", 5, None),
+            ("boxes 2", "boxes 2", 13, None),
+            ("boxes 2", "boxes 2", 99, None),
+        ):
+            self.assertEqual(case.suspect(case.parse(text.replace(old, new)), refusal), found, new)
 
     def test_turns(self):
         """A colon parts the box that is asked from those that ask, with or without spaces."""
@@ -485,9 +543,69 @@ class Cases(unittest.TestCase):
             with self.assertRaises(case.Fault):
                 case.read(store, bad)
 
-    def command(self, *words):
+    def command(self, *words, given=""):
         tool = [sys.executable, TOP / "tools" / "case.py", *words]
-        return subprocess.run(tool, capture_output=True, text=True)
+        done = subprocess.run(tool, capture_output=True, input=given.encode())
+        return subprocess.CompletedProcess(tool, done.returncode, done.stdout.decode(), done.stderr.decode())
+
+    def test_explain(self):
+        """Every refusal: its words, the program's check and section, the calls, and the lines of a case."""
+        told = self.command("explain", "9")
+        self.assertEqual((told.returncode, told.stderr), (0, ""))
+        self.assertEqual(told.stdout.splitlines(), [
+            "refusal 9: half an entry at the schedule's end, or one for a worker that is not there",
+            "  The schedule has an odd number of bytes, or one of its entries is for worker W or above. (docs/SPECIFICATION.md, 2",
+            "    Refusals)",
+            "  collect answers it by check 8, the schedule (docs/SPECIFICATION.md, 7 The program)",
+            "  calls that answer it: mark, begin, resume",
+            "  lines of a case that tell it: turn, turns, cards, seed",
+        ])
+        by_program = {1, 2, 3, 4, 5, 6, 8, 9, 11, 12, 13}
+        for number in range(1, 20):
+            lines = case.explained(number)
+            self.assertTrue(lines[0].startswith(f"refusal {number}: ") and len(lines[0]) > 20, lines)
+            self.assertRegex(lines[1], r"^[A-Zn].{20,} \(docs/SPECIFICATION.md, 2 Refusals\)$")
+            self.assertEqual("collect answers it by check " in lines[2], number in by_program, lines)
+            self.assertEqual(any("calls that answer it: " in line for line in lines), number not in (11, 12), lines)
+        for word, said in (("0", "0 is no refusal: they are 1 to 19"), ("20", "20 is no refusal: they are 1 to 19"), ("x", "'x' is not a decimal number")):
+            told = self.command("explain", word)
+            self.assertEqual((told.returncode, told.stdout, told.stderr), (1, "", f"case.py: {said}\n"))
+
+    def test_explain_an_output(self):
+        """The program's output passes, and its last line is explained."""
+        told = self.command("explain", given="refusal 12\n")
+        self.assertEqual((told.returncode, told.stdout), (0, "refusal 12\n"))
+        self.assertTrue(told.stderr.startswith("refusal 12: a file cannot be read\n"), told.stderr)
+        self.assertIn("collect answers it by check 1, both files can be read", told.stderr)
+        for output in ("", "finished\nlive 4\n", "refusal 9\nfreed 0\n", "refusal x\n"):
+            told = self.command("explain", given=output)
+            self.assertEqual((told.returncode, told.stdout, told.stderr), (0, output, ""))
+
+    def test_run(self):
+        """The program is run in the folder, and a refusal is explained with the part that causes it."""
+        with tempfile.TemporaryDirectory() as work:
+            program, folder = Path(work) / "collect", Path(work) / "made"
+            case.save(case.parse(SAMPLE.read_text().replace("reference 2 3", "reference 2 9")), folder)
+            program.write_text("#!/bin/sh\ntest -e store.cat && echo refusal 5\n")
+            program.chmod(0o755)
+            with patch.object(case, "COLLECT", program), patch("sys.stdout", io.StringIO()) as out, patch("sys.stderr", io.StringIO()) as told:
+                self.assertEqual(case.main(["run", str(folder)]), 0)
+            self.assertEqual(out.getvalue(), "refusal 5\n")
+            lines = ["  lines of a case that tell it: index, reference, subject, lease", "  here: reference 2 9, number 3 of its kind, from 0"]
+            self.assertEqual(told.getvalue().splitlines()[-2:], lines)
+            # Files that cannot be shown, and a program that ends otherwise.
+            (folder / "store.cat").write_bytes(b"half")
+            program.write_text("#!/bin/sh\necho refusal 2\n")
+            with patch.object(case, "COLLECT", program), patch("sys.stdout", io.StringIO()), patch("sys.stderr", io.StringIO()) as told:
+                self.assertEqual(case.main(["run", str(folder)]), 0)
+            self.assertNotIn("here:", told.getvalue())
+            for script, status, said in (("echo finished; exit 3", 3, ""), ("kill -9 $$", 1, "case.py: collect was ended by signal 9\n")):
+                program.write_text(f"#!/bin/sh\n{script}\n")
+                with patch.object(case, "COLLECT", program), patch("sys.stdout", io.StringIO()), patch("sys.stderr", io.StringIO()) as told:
+                    self.assertEqual((case.main(["run", str(folder)]), told.getvalue()), (status, said))
+        with patch.object(case, "COLLECT", case.TOP / "target" / "bin" / "none"), patch("sys.stderr", io.StringIO()) as told:
+            self.assertEqual(case.main(["run", "."]), 1)
+        self.assertEqual(told.getvalue(), "case.py: target/bin/none is not there: make run proves and builds it\n")
 
     def test_command(self):
         with tempfile.TemporaryDirectory() as work:
