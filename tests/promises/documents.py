@@ -1,7 +1,7 @@
 #!/usr/bin/env python3
-"""The documents as a reader meets them: no line is longer than MOST_CHARACTERS, README has at most MOST_LINES lines, and each link
-within the repository leads to a file and, behind a #, to a heading. Prints what is wrong, one line for each fault, and ends with
-exit status 1 if there is any.
+"""The documents as a reader meets them: no line is longer than MOST_CHARACTERS, README has at most MOST_LINES lines, each link within
+the repository leads to a file and, behind a #, to a heading, and a block behind a line <!-- from: FILE --> stands so in that file.
+Prints what is wrong, one line for each fault, and ends with exit status 1 if there is any.
 """
 
 import re
@@ -17,6 +17,7 @@ MOST_LINES = 120
 
 LINK = re.compile(r"\]\(([^)\s]+)\)")
 HEADING = re.compile(r"#+ (.*)")
+QUOTED = re.compile(r"^<!-- from: (.+) -->\n+```.*\n((?:(?!```).*\n)*)```$", re.MULTILINE)
 
 
 def prose(text: str) -> Iterator[tuple[int, str]]:
@@ -60,6 +61,12 @@ def faults(top: Path) -> Iterator[str]:
             for link in LINK.findall(line):
                 if wrong := link_fault(top, document, link):
                     yield f"{document}:{number}: {link} {wrong}"
+        quoted = QUOTED.findall(text)
+        for file, block in quoted:
+            if not (top / file).is_file() or f"\n{block}" not in "\n" + (top / file).read_text(encoding="utf-8"):
+                yield f"{document}: {file} does not have what is quoted from it"
+        if len(quoted) != text.count("<!-- from:"):
+            yield f"{document}: a quotation is no block, or does not end"
 
 
 def main() -> int:

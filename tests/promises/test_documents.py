@@ -59,6 +59,22 @@ class Documents(unittest.TestCase):
         self.write("docs/changes/20-contact.md", "[up](../GUIDE.md), [beside](21-none.md)\n\n```\n[x](none)\n```\n")
         self.assertEqual(self.found(), ["docs/changes/20-contact.md:1: 21-none.md leads to no file"])
 
+    def test_quotations(self):
+        self.write("docs/one.txt", "one\n  two\nthree\n")
+        for block, told in (
+            ("one\n  two\n", []),
+            ("  two\nthree\n", []),
+            ("two\nthree\n", ["README.md: docs/one.txt does not have what is quoted from it"]),
+            ("one\nthree\n", ["README.md: docs/one.txt does not have what is quoted from it"]),
+        ):
+            self.write("README.md", f"Look:\n\n<!-- from: docs/one.txt -->\n```text\n{block}```\n")
+            self.assertEqual(self.found(), told, block)
+        self.write("README.md", "<!-- from: docs/two.txt -->\n```text\none\n```\n")
+        self.assertEqual(self.found(), ["README.md: docs/two.txt does not have what is quoted from it"])
+        for text in ("<!-- from: docs/one.txt -->\n\none\n", "<!-- from: docs/one.txt -->\n```text\none\n"):
+            self.write("README.md", text)
+            self.assertEqual(self.found(), ["README.md: a quotation is no block, or does not end"])
+
 
 if __name__ == "__main__":
     unittest.main()
