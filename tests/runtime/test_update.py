@@ -79,12 +79,12 @@ class Update(unittest.TestCase):
         self.assertEqual(marks, [1, 255, 0, 255, 0, 0])
 
     def test_push(self):
-        """The sample's objects afterwards are those that README shows; without the first image its manifest alone is dead."""
+        """The sample's objects afterwards are those that GUIDE shows; without the first image its manifest alone is dead."""
         push = (TOP / "samples" / "push.txt").read_text()
         self.marked(push)
         _, after, marks = self.update()
-        shown = [f"    {line}" for line in case.show(after, bytes(marks)).splitlines() if line.startswith("object")]
-        self.assertIn("\n" + "\n".join(shown) + "\n", (TOP / "README.md").read_text())
+        shown = [line for line in case.show(after, bytes(marks)).splitlines() if line.startswith("object")]
+        self.assertIn("\n" + "\n".join(shown) + "\n", (TOP / "docs" / "GUIDE.md").read_text())
         self.marked(push + "remove 0 1\n")
         self.assertEqual(self.update()[2], [1, 0, 255, 255, 255, 0])
 
