@@ -4,15 +4,15 @@
     tools/boundary.py             writes the files below, the header between its marks
     tools/boundary.py --check     writes nothing, says where a file is another, and ends with 1 then
 
-    runtime/include/kullneyra.h             refusals, constants, structs, prototypes, the forms that answer in a struct
-    runtime/rust/kullneyra/src/numbers.rs   the refusals and the constants
+    runtime/include/kullneyra.h             version, refusals, constants, structs, prototypes, the forms that answer in a struct
+    runtime/rust/kullneyra/src/numbers.rs   the version, the refusals and the constants
     runtime/rust/kullneyra/src/raw.rs       the C functions on slices
     runtime/rust/kullneyra/src/calls.rs     the functions with Rust's own types
     runtime/rust/compare/src/calls.rs       what each call may answer, the calls of numbers, the sides that only pass on
     runtime/go/kullneyra/calls.go           the functions in Go
-    runtime/go/kullneyra/numbers.go         the refusals and the constants
+    runtime/go/kullneyra/numbers.go         the version, the refusals and the constants
 
-tools/boundary.toml has what a signature does not say. What is not understood is an error, and nothing is written then.
+The file VERSION has the version, and tools/boundary.toml what a signature does not say. What is not understood is an error, and nothing is written then.
 """
 
 import sys

@@ -75,9 +75,20 @@ def refusal_text(boundary: Boundary) -> str:
     )
 
 
+def version(boundary: Boundary) -> List[str]:
+    """The version of the header."""
+    parts = zip(("MAJOR", "MINOR", "PATCH"), boundary.version)
+    return [
+        comment("The version of this header; kullneyra_version answers that of the library. CHANGELOG.md says what may change."),
+        f'#define KULLNEYRA_VERSION "{".".join(map(str, boundary.version))}"',
+        *(f"#define KULLNEYRA_VERSION_{name} {number}" for name, number in parts),
+        "",
+    ]
+
+
 def numbers(boundary: Boundary) -> str:
-    """The part of the header that has the numbers: the refusals, and the constants."""
-    lines = [comment("The number that a call answers."), defined("OK", "0", "no fault")]
+    """The part of the header that has the numbers: the version, the refusals, and the constants."""
+    lines = [*version(boundary), comment("The number that a call answers."), defined("OK", "0", "no fault")]
     for one in boundary.refusals.values():
         only = "only printed by the program: " if one.program else ""
         lines.append(defined(one.c, str(one.number), only + boundary.text(one.doc, "c")))

@@ -87,8 +87,10 @@ def numbers(boundary: Boundary) -> str:
         constants.append(doc(sentence(boundary.text(one.doc, "rust"))))
         constants.append(f"pub const {one.name}: {one.rust} = {one.number:_};")
     lines = [
-        doc(f"The refusals and the constants, {NUMBERS_WRITTEN}.", mark="//!"),
+        doc(f"The version, the refusals and the constants, {NUMBERS_WRITTEN}.", mark="//!"),
         "",
+        "/// The version of this crate; [`version`](crate::version) tells that of the library that is linked.",
+        f'pub const VERSION: &str = "{".".join(map(str, boundary.version))}";',
         *constants,
         "",
         "/// Why a call is refused: the table of the specification, section 2.",

@@ -1,4 +1,4 @@
-"""What the boundary is made from: the exported functions, the counts of a marking, the refusals, the constants, and
+"""What the boundary is made from: the exported functions, the counts of a marking, the refusals, the constants, the version, and
 tools/boundary.toml beside them."""
 
 import re
@@ -11,6 +11,7 @@ from typing import Dict, Iterator, List, NamedTuple, Optional, Tuple
 EXPORTS = "crates/ffi_*/src/lib.rt"
 COUNTS = "crates/machine/src/lib.rt"
 REFUSALS = "crates/refusal/src/lib.rt"
+VERSION = "VERSION"
 TABLE = "tools/boundary.toml"
 WRITTEN = "written by tools/boundary.py from the exported functions"
 NUMBERS_WRITTEN = "written by tools/boundary.py from the constants of the crates"
@@ -212,6 +213,14 @@ def refusals_in(source: str) -> Dict[str, int]:
     return dict(sorted(numbers.items(), key=lambda one: one[1]))
 
 
+def version_in(source: str) -> Tuple[int, int, int]:
+    """The version: major, minor and patch."""
+    found = re.fullmatch(r"(0|[1-9]\d*)\.(0|[1-9]\d*)\.(0|[1-9]\d*)\n", source)
+    if found is None:
+        raise Fault(f"{VERSION}: not understood: {source.strip()}")
+    return int(found[1]), int(found[2]), int(found[3])
+
+
 def constant_in(sources: Dict[str, str], name: str, where: str) -> int:
     """The number of a constant of the crates: crate::NAME in its lib.rt, crate::module::NAME in its module.rt."""
     crate, *modules, constant = name.split("::")
@@ -270,6 +279,7 @@ class Boundary:
             raise Fault(f"{TABLE}: {wrong}") from wrong
         for key in sorted(set(table) ^ {"names", "refusals", "constants", "groups", "records", "calls"}):
             raise Fault(f"{TABLE}: {key} is {'not understood' if key in table else 'not there'}")
+        self.version = version_in(text(VERSION))
         self.names, groups = table["names"], table["groups"]
         self.refusals = self.refusals_of(refusals_in(text(REFUSALS)), table["refusals"])
         self.constants = {name: self.constant_of(sources, name, row) for name, row in table["constants"].items()}

@@ -35,13 +35,21 @@ extern "C" {
 
 /* From here on written by tools/boundary.py from the constants of the crates. */
 
+/* The version of this header; kullneyra_version answers that of the library. CHANGELOG.md says what may change. */
+#define KULLNEYRA_VERSION "1.0.0"
+#define KULLNEYRA_VERSION_MAJOR 1
+#define KULLNEYRA_VERSION_MINOR 0
+#define KULLNEYRA_VERSION_PATCH 0
+
 /* The number that a call answers. */
 #define KULLNEYRA_OK 0 /* no fault */
 #define KULLNEYRA_SHORT 1 /* the bytes end too soon for a record; also empty */
 #define KULLNEYRA_KIND 2 /* unknown kind of record, or a length that its kind does not have */
 #define KULLNEYRA_PLACE 3 /* a record that is not due at its place, or one too many */
 #define KULLNEYRA_COUNT 4 /* number of objects or of references out of range */
-#define KULLNEYRA_OBJECT 5 /* index, from, to, a lease or a start is no object's number */
+/* index, from, to, a lease, a start, a name or an owner is no object's number; also 0 in kullneyra_import, no
+ * reference's number in kullneyra_remove */
+#define KULLNEYRA_OBJECT 5
 #define KULLNEYRA_SIZE 6 /* a size above KULLNEYRA_LARGEST_SIZE */
 #define KULLNEYRA_BUFFER 7 /* a lent buffer is not as long as it must be, or overlaps another */
 #define KULLNEYRA_SETTING 8 /* workers, batch or cutoff out of range */
@@ -71,7 +79,7 @@ static inline const char *kullneyra_refusal_text(uint32_t number) {
     case KULLNEYRA_COUNT:
         return "number of objects or of references out of range";
     case KULLNEYRA_OBJECT:
-        return "an object number that is not below the number of objects";
+        return "the number of an object or of a reference that is not there";
     case KULLNEYRA_SIZE:
         return "the size of an object is too large";
     case KULLNEYRA_BUFFER:
@@ -121,6 +129,9 @@ static inline const char *kullneyra_refusal_text(uint32_t number) {
 #define KULLNEYRA_NEWLY_LIVE 255 /* the mark of an object that a change finds live, where it is no start */
 
 /* Up to here. */
+
+/* The version of the library that is linked, as KULLNEYRA_VERSION is that of this header: a text that stays. */
+const char *kullneyra_version(void);
 
 /* Exact lengths of the lent buffers, in elements, for n objects, m references and w workers; the starts are
  * KULLNEYRA_STARTS. */

@@ -12,7 +12,7 @@ from pathlib import Path
 
 import boundary
 from boundary import COMPARE, GO, GO_NUMBERS, HEADER, NUMBERS, RAW, TOP, TYPED
-from boundary_source import COUNTS, REFUSALS, TABLE
+from boundary_source import COUNTS, REFUSALS, TABLE, VERSION
 
 EXPORTS = [f"crates/ffi_{name}/src/lib.rt" for name in ("mark", "schedule", "store", "update")]
 MARK, SCHEDULE, STORE, UPDATE = EXPORTS
@@ -30,7 +30,7 @@ HOP_PAGES = '[calls.hop_pages]\nwords = "PAGES"\nrefusals = [4, 7]\nverb = "is"\
 class Boundary(unittest.TestCase):
     def setUp(self):
         self.top = Path(tempfile.mkdtemp())
-        for path in (*SOURCES, TABLE, *WRITTEN):
+        for path in (*SOURCES, TABLE, VERSION, *WRITTEN):
             (self.top / path).parent.mkdir(parents=True, exist_ok=True)
             shutil.copy(TOP / path, self.top / path)
 
@@ -141,7 +141,7 @@ class Files(Boundary):
 
     def test_not_there_or_no_text(self):
         """What cannot be read is told in a line, and nothing is written."""
-        for path in (HEADER, *EXPORTS, COUNTS, REFUSALS, TABLE):
+        for path in (HEADER, *EXPORTS, COUNTS, REFUSALS, TABLE, VERSION):
             text = self.text(path)
             (self.top / path).unlink()
             for words in ((), ("--check",)):
@@ -369,6 +369,18 @@ class Numbers(Boundary):
         by_hand = text[:numbers] + text[text.index(boundary.END) : calls]
         plain = [line for line in by_hand.splitlines() if re.match(r"#define \w+(?!\w|\()", line)]
         self.assertEqual(plain, ["#define KULLNEYRA_H"])
+
+    def test_another_version(self):
+        (self.top / VERSION).write_text("2.10.0\n")
+        self.assertEqual(self.differing(), [HEADER, NUMBERS, GO_NUMBERS])
+        self.assertEqual(self.run_tool(), (0, ""))
+        numbers = ("MAJOR 2", "MINOR 10", "PATCH 0")
+        self.assertIn('#define KULLNEYRA_VERSION "2.10.0"\n' + "".join(f"#define KULLNEYRA_VERSION_{one}\n" for one in numbers), self.text(HEADER))
+        self.assertIn('pub const VERSION: &str = "2.10.0";', self.text(NUMBERS))
+        self.assertIn('const Version = "2.10.0"\n', self.text(GO_NUMBERS))
+        for wrong in ("1.0", "1.0.0", "1.0.0-rc1\n", "v1.0.0\n", "01.0.0\n", "1.0.0\n\n", "1..0\n"):
+            (self.top / VERSION).write_text(wrong)
+            self.assert_fault(f"VERSION: not understood: {wrong.strip()}")
 
     def test_constants_that_are_not_there(self):
         kept = self.text(CARDS)

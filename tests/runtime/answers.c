@@ -83,6 +83,7 @@ int main(void) {
     struct kullneyra_seed seed = {1, 0}, none = {0, 7};
     struct kullneyra_drawn drawn;
 
+    expect("version", 0, (uint64_t)(strcmp(kullneyra_version(), KULLNEYRA_VERSION) != 0));
     expect("names of counts", KULLNEYRA_MARK_WORDS - 1, count_names);
     expect("words of a tally", KULLNEYRA_TALLIES(1), sizeof tally / sizeof(uint64_t));
 

@@ -82,6 +82,20 @@ class Pause(unittest.TestCase):
         self.assertEqual((self.run_program("pause"), self.saved()), (printed, kept))
         (self.folder / SAVED).unlink()
 
+    def test_words(self):
+        version = (TOP / "VERSION").read_text().strip()
+        for words, status, out, said in (
+            (["--version"], 0, f"pause version {version}\n", ""),
+            (["--help"], 0, "pause [TURNS]\n", ""),
+            (["5", "6"], 1, "", "pause [TURNS]\n"),
+            (["-1"], 1, "", "pause [TURNS]\n"),
+            (["five"], 1, "", "pause [TURNS]\n"),
+            ([b"\xff"], 1, "", "pause [TURNS]\n"),
+        ):
+            done = subprocess.run([PROGRAMS["pause"], *words], cwd=self.folder, capture_output=True, text=True)
+            self.assertEqual((done.returncode, done.stdout, done.stderr), (status, out, said))
+        self.assertEqual(list(self.folder.iterdir()), [])
+
     def test_parts_end_as_one_run(self):
         for _ in range(6):
             self.draw(self.rng.randint(1, 90), self.rng.randint(0, 200), turns=400)

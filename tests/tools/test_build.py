@@ -63,6 +63,9 @@ class Repository(unittest.TestCase):
             "crates/program/src/main.rt": "program\n",
         }.items():
             self.write(name, text)
+        self.write("VERSION", "1.2.3\n")
+        (self.top / "runtime" / "c").mkdir(parents=True)
+        shutil.copy(TOP / "runtime" / "c" / "version.c", self.top / "runtime" / "c")
         self.write("../bin/rt", RT)
         (self.work / "bin" / "rt").chmod(0o755)
         self.write("../kit", "kit 1\n")
@@ -179,6 +182,7 @@ class Library(Repository):
             "another name": lambda: (self.top / "crates/ground/src/lib.rt").rename(self.top / "crates/ground/src/lip.rt") and self.write("crates/ground/src/lib.rt", "ground\n"),
             "an arrow": lambda: self.write("crates.txt", (self.top / "crates.txt").read_text().replace("ffi_two: ground", "ffi_two: ground upper")),
             "the kit": lambda: self.write("../kit", "kit 2\n"),
+            "the version": lambda: self.write("VERSION", "1.2.4\n"),
             "the tool": lambda: self.write("tools/library", (self.top / "tools/library").read_text() + "\n"),
             "the archive": lambda: self.archive.write_bytes(b"another"),
             "no archive": self.archive.unlink,
@@ -236,7 +240,7 @@ class Need(Repository):
         self.assertEqual(lines[-1], "oci: on Debian, type: sudo apt-get install binutils golang-go")
 
     def test_library_without_rt(self):
-        for name in ("env", "bash", "dirname", "ar", "python3", "sed"):
+        for name in ("env", "bash", "dirname", "gcc", "ar", "python3", "sed"):
             self.bare("x", links=(name,))
         status, out, said = self.run_tool("library", PATH=str(self.work / "few"))
         self.assertEqual((status, out), (1, ""))

@@ -22,6 +22,12 @@ func buffers(n, workers int) kullneyra.Buffers {
 	}
 }
 
+func TestVersion(t *testing.T) {
+	if kullneyra.LibraryVersion() != kullneyra.Version {
+		t.Errorf("the library is %s, the package %s", kullneyra.LibraryVersion(), kullneyra.Version)
+	}
+}
+
 func ExampleMark() {
 	b := buffers(6, 1)
 	marked, err := kullneyra.Mark(storeS, []uint32{0}, kullneyra.Settings{Workers: 1, Batch: 2, Cutoff: 1}, make([]byte, 2*40), b)

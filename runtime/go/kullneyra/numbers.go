@@ -2,6 +2,9 @@
 
 package kullneyra
 
+// Version is the version of this package; LibraryVersion tells that of the library that is linked.
+const Version = "1.0.0"
+
 // Limits, and what the calls write. Objects, starts, workers, batch and cutoff are 1 at least; references and
 // sizes may be 0.
 const (
@@ -25,7 +28,7 @@ const (
 	Kind       Refusal = 2  // unknown kind of record, or a length that its kind does not have
 	Place      Refusal = 3  // a record that is not due at its place, or one too many
 	Count      Refusal = 4  // number of objects or of references out of range
-	Object     Refusal = 5  // index, from, to, a lease or a start is no object's number
+	Object     Refusal = 5  // index, from, to, a lease, a start, a name or an owner is no object's number; also 0 in Import, no reference's number in Remove
 	Size       Refusal = 6  // a size above LargestSize
 	Buffer     Refusal = 7  // a lent buffer is not as long as it must be, or overlaps another
 	Setting    Refusal = 8  // workers, batch or cutoff out of range
@@ -47,7 +50,7 @@ var reasons = [...]string{
 	Kind:       "unknown kind of record, or a length that its kind does not have",
 	Place:      "a record that is not due at its place, or one too many",
 	Count:      "number of objects or of references out of range",
-	Object:     "an object number that is not below the number of objects",
+	Object:     "the number of an object or of a reference that is not there",
 	Size:       "the size of an object is too large",
 	Buffer:     "a lent buffer is not as long as it must be, or overlaps another",
 	Setting:    "workers, batch or cutoff out of range",

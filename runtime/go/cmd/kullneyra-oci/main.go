@@ -19,11 +19,12 @@ import (
 	"github.com/docker/go-units"
 	digest "github.com/opencontainers/go-digest"
 	"github.com/spf13/cobra"
+	"kullneyra.example/go/kullneyra"
 	"kullneyra.example/go/oci"
 )
 
 // version is what --version says.
-const version = "1.0.0"
+const version = kullneyra.Version
 
 // Exit statuses.
 const (

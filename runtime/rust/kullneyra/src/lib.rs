@@ -180,6 +180,20 @@ pub mod raw;
 pub use calls::*;
 pub use numbers::*;
 
+/// The version of the library that is linked, as [`VERSION`] is that of this crate.
+///
+/// ```
+/// assert_eq!(kullneyra::version(), kullneyra::VERSION);
+/// ```
+pub fn version() -> &'static str {
+    extern "C" {
+        fn kullneyra_version() -> *const core::ffi::c_char;
+    }
+    // SAFETY: it answers a text that stays, with a zero byte at its end.
+    let text = unsafe { core::ffi::CStr::from_ptr(kullneyra_version()) };
+    text.to_str().unwrap_or_default()
+}
+
 impl Refusal {
     /// The number in the specification's table.
     pub fn number(self) -> u32 {
@@ -365,6 +379,11 @@ mod tests {
     use super::*;
     extern crate std;
     use std::string::ToString;
+
+    #[test]
+    fn one_version() {
+        assert_eq!((VERSION, version()), (env!("CARGO_PKG_VERSION"), VERSION));
+    }
 
     #[test]
     fn numbers_are_places_in_the_table() {

@@ -1,5 +1,7 @@
-//! The refusals and the constants, written by tools/boundary.py from the constants of the crates.
+//! The version, the refusals and the constants, written by tools/boundary.py from the constants of the crates.
 
+/// The version of this crate; [`version`](crate::version) tells that of the library that is linked.
+pub const VERSION: &str = "1.0.0";
 /// The most objects that a store has.
 pub const MOST_OBJECTS: usize = 65_536;
 /// The most references that a store has.
@@ -37,7 +39,8 @@ pub enum Refusal {
     Place,
     /// 4: number of objects or of references out of range.
     Count,
-    /// 5: index, from, to, a lease or a start is no object's number.
+    /// 5: index, from, to, a lease, a start, a name or an owner is no object's number; also 0 in [`import`], no
+    /// reference's number in [`remove`].
     Object,
     /// 6: a size above [`LARGEST_SIZE`].
     Size,
@@ -100,7 +103,7 @@ impl Refusal {
             Refusal::Kind => (2, "unknown kind of record, or a length that its kind does not have"),
             Refusal::Place => (3, "a record that is not due at its place, or one too many"),
             Refusal::Count => (4, "number of objects or of references out of range"),
-            Refusal::Object => (5, "an object number that is not below the number of objects"),
+            Refusal::Object => (5, "the number of an object or of a reference that is not there"),
             Refusal::Size => (6, "the size of an object is too large"),
             Refusal::Buffer => (7, "a lent buffer is not as long as it must be, or overlaps another"),
             Refusal::Setting => (8, "workers, batch or cutoff out of range"),

@@ -10,7 +10,7 @@ mod kept;
 
 use kept::{Files, Kept};
 use kullneyra::{begin, header, lengths, read, resume, sweep, tallies};
-use kullneyra::{Refusal, Schedule, Settings, Stopped, Tally, MOST_SETTING, MOST_WORKERS, STARTS};
+use kullneyra::{Refusal, Schedule, Settings, Stopped, Tally, MOST_SETTING, MOST_WORKERS, STARTS, VERSION};
 use std::fmt::Write as _;
 use std::fs::{self, File, OpenOptions, TryLockError};
 use std::io::{self, ErrorKind, Write as _};
@@ -18,6 +18,7 @@ use std::process::ExitCode;
 
 const SAVED: &str = "collection.saved";
 const BESIDE: &str = "collection.new";
+const USAGE: &str = "pause [TURNS]";
 
 /// Why nothing was done: a refusal's number, with a sentence where the number alone does not tell; or what the system said.
 enum Stop {
@@ -170,24 +171,33 @@ fn collect(turns: usize) -> Result<String, Stop> {
     Ok(text)
 }
 
+/// What is answered to these words; nothing where they are not understood.
+fn answer(words: &[&str]) -> Option<Result<String, Stop>> {
+    match words {
+        [] => Some(collect(usize::MAX)),
+        ["--version"] => Some(Ok(format!("pause version {VERSION}\n"))),
+        ["--help"] => Some(Ok(format!("{USAGE}\n"))),
+        [turns] => turns.parse().ok().map(collect),
+        _ => None,
+    }
+}
+
 fn main() -> ExitCode {
-    let turns = match std::env::args().nth(1).map(|turns| turns.parse()) {
-        None => usize::MAX,
-        Some(Ok(turns)) => turns,
-        Some(Err(_)) => {
-            eprintln!("pause [TURNS]");
+    let words: Vec<String> = std::env::args_os().skip(1).map(|word| word.to_string_lossy().into_owned()).collect();
+    let words: Vec<&str> = words.iter().map(String::as_str).collect();
+    let text = match answer(&words) {
+        None => {
+            eprintln!("{USAGE}");
             return ExitCode::FAILURE;
         }
-    };
-    let text = match collect(turns) {
-        Ok(text) => text,
-        Err(Stop::Refused(number, sentence)) => {
+        Some(Ok(text)) => text,
+        Some(Err(Stop::Refused(number, sentence))) => {
             if let Some(sentence) = sentence {
                 eprintln!("pause: {sentence}");
             }
             format!("refusal {number}\n")
         }
-        Err(Stop::Failed(what, error)) => {
+        Some(Err(Stop::Failed(what, error))) => {
             eprintln!("pause: {what}: {error}");
             return ExitCode::FAILURE;
         }
