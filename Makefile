@@ -2,6 +2,7 @@
 #: make run               proves what the program needs, builds it, and runs it on the sample store; STORE=FOLDER for another
 #: make test              the gate: proves every crate, tries every must-fail edit, and runs every test; some 25 minutes
 #: make library           proves and builds target/staticlib/libkullneyra.a, for C, C++, Rust and Go
+#: make shared            builds target/sharedlib/libkullneyra.so of it, for programs that link it at run time, and for Python
 #: make oci               builds target/bin/kullneyra-oci, the command over OCI image layouts and the folders of registries
 #: make pause             builds target/bin/pause, the program that stops a collection and goes on
 #: make course            opens the page that draws a run, turn by turn
@@ -9,13 +10,14 @@
 #: make sheets            draws the stored sheets of docs/course anew, and its finished page
 #: make install           installs library, header and commands below PREFIX=/usr/local; DESTDIR is put before it, for packages
 #: make uninstall         takes away what make install put there, with the same PREFIX and DESTDIR
+#: make deb               makes Debian packages, in target/deb
 #: make compare           compares the library with the reference on more cases than the gate does: CASES=5000000 SEED=2
 #: make bench             measures; its table and plots go to target/bench/
 #: make oci-stress        800 pushes beside prunes and 200 kills, some minutes
 #: make clean             removes all that was proved and built here
 #:
 #: What is missing is told before anything is proved. What was proved is proved again only where its files have changed.
-.PHONY: help test run programs library oci oci-stress steps deal course sheets pause install uninstall clean compare bench FORCE
+.PHONY: help test run programs library shared packaged deb oci oci-stress steps deal course sheets pause install uninstall clean compare bench FORCE
 .DEFAULT_GOAL = help
 
 # A path may have spaces in it: none is a prerequisite, and each is quoted.
@@ -26,7 +28,13 @@ RELEASE = --offline --quiet --release --manifest-path runtime/rust/Cargo.toml
 
 # Where `make install` puts things; DESTDIR is put before it, for packages.
 PREFIX ?= /usr/local
+LIBDIR ?= $(PREFIX)/lib
 DESTDIR ?=
+
+# The version, in its one place.
+VERSION := $(shell cat VERSION)
+MAJOR := $(firstword $(subst ., ,$(VERSION)))
+SHARED := target/sharedlib/libkullneyra.so.$(VERSION)
 
 # The store that `make run` collects: a folder with store.cat and order.run.
 STORE ?= target/sample
@@ -47,7 +55,7 @@ target/sample/store.cat: samples/a.txt tools/case.py
 
 # The programs, proved and built.
 programs:
-	@tools/prove --as programs --log target/programs.log collect
+	@tools/prove --as programs --log target/programs.log collect deck
 
 # tools/library decides by what the files hold, and leaves the archive alone where nothing has changed.
 library: target/staticlib/libkullneyra.a
@@ -56,6 +64,18 @@ target/staticlib/libkullneyra.a: FORCE
 	@tools/library
 
 FORCE:
+
+# The same objects in a shared library: its name has the major version, and it exports the calls and nothing else.
+shared: $(SHARED)
+
+$(SHARED): target/staticlib/libkullneyra.a runtime/kullneyra.map VERSION
+	@tools/need shared gcc
+	@mkdir -p target/sharedlib
+	@gcc -shared -o $@.new -Wl,--whole-archive target/staticlib/libkullneyra.a -Wl,--no-whole-archive -Wl,-soname,libkullneyra.so.$(MAJOR) \
+	    -Wl,--version-script=runtime/kullneyra.map -Wl,-z,defs -Wl,-z,relro -Wl,-z,now -Wl,-z,noexecstack
+	@mv $@.new $@
+	@ln -sf $(@F) target/sharedlib/libkullneyra.so.$(MAJOR)
+	@ln -sf $(@F) target/sharedlib/libkullneyra.so
 
 # The command over an OCI image layout or the folder of a registry; needs Go and the Debian packages that runtime/go/packages lists.
 oci:
@@ -103,11 +123,20 @@ pause:
 install:
 	@tools/need install rt ar gcc python3
 	@commands=$$(tools/install commands) && \
-	    $(MAKE) --no-print-directory library programs $$commands && \
-	    PREFIX="$(PREFIX)" DESTDIR="$(DESTDIR)" tools/install put $$commands
+	    $(MAKE) --no-print-directory library shared programs $$commands && \
+	    PREFIX="$(PREFIX)" LIBDIR="$(LIBDIR)" DESTDIR="$(DESTDIR)" tools/install put $$commands
 
 uninstall:
 	@PREFIX="$(PREFIX)" DESTDIR="$(DESTDIR)" tools/install take
+
+# Debian packages by debhelper (debian/), of what is built; tests/install/packages lists what that needs.
+deb:
+	@tools/need deb rt ar gcc cargo python3 -- runtime/go/packages tests/runtime/packages tests/install/packages
+	@$(MAKE) --no-print-directory packaged
+	@tools/deb
+
+# All that the packages hold.
+packaged: library shared programs oci pause steps deal
 
 clean:
 	rm -rf target runtime/rust/target runtime/rust/pause/target tests/runtime/own/target

@@ -1,5 +1,5 @@
 #!/usr/bin/env python3
-"""The boundary from one source: C, Rust and Go as the exported functions of the crates ffi_* have the calls.
+"""The boundary from one source: C, Rust, Go and Python as the exported functions of the crates ffi_* have the calls.
 
     tools/boundary.py             writes the files below, the header between its marks
     tools/boundary.py --check     writes nothing, says where a file is another, and ends with 1 then
@@ -11,6 +11,8 @@
     runtime/rust/compare/src/calls.rs       what each call may answer, the calls of numbers, the sides that only pass on
     runtime/go/kullneyra/calls.go           the functions in Go
     runtime/go/kullneyra/numbers.go         the version, the refusals and the constants
+    runtime/python/kullneyra/_calls.py      the functions in Python
+    runtime/python/kullneyra/_numbers.py    the version, the refusals and the constants
 
 The file VERSION has the version, and tools/boundary.toml what a signature does not say. What is not understood is an error, and nothing is written then.
 """
@@ -21,6 +23,7 @@ from typing import Dict, Iterator, List
 
 import boundary_c
 import boundary_go
+import boundary_python
 import boundary_rust
 from boundary_source import NUMBERS_WRITTEN, WRITTEN, Boundary, Fault
 
@@ -32,6 +35,8 @@ TYPED = "runtime/rust/kullneyra/src/calls.rs"
 COMPARE = "runtime/rust/compare/src/calls.rs"
 GO = "runtime/go/kullneyra/calls.go"
 GO_NUMBERS = "runtime/go/kullneyra/numbers.go"
+PYTHON = "runtime/python/kullneyra/_calls.py"
+PYTHON_NUMBERS = "runtime/python/kullneyra/_numbers.py"
 END = "/* Up to here. */\n"
 
 
@@ -57,6 +62,8 @@ def files(top: Path) -> Dict[str, str]:
         COMPARE: boundary_rust.compare(boundary),
         GO: boundary_go.go(boundary),
         GO_NUMBERS: boundary_go.numbers(boundary),
+        PYTHON: boundary_python.python(boundary),
+        PYTHON_NUMBERS: boundary_python.numbers(boundary),
     }
 
 

@@ -5,6 +5,7 @@ import re
 import tomllib
 from dataclasses import dataclass, field
 from fnmatch import fnmatch
+from keyword import iskeyword
 from pathlib import Path
 from typing import Dict, Iterator, List, NamedTuple, Optional, Tuple
 
@@ -284,10 +285,10 @@ class Boundary:
         self.refusals = self.refusals_of(refusals_in(text(REFUSALS)), table["refusals"])
         self.constants = {name: self.constant_of(sources, name, row) for name, row in table["constants"].items()}
         for name, words in self.names.items():
-            if set(words) != {"c", "rust", "go"}:
-                raise Fault(f"{TABLE}: [names]: {name} is said in c, rust and go")
-        if set(groups) != {"rust", "go", "compare"}:
-            raise Fault(f"{TABLE}: [groups]: rust, go and compare")
+            if set(words) != {"c", "rust", "go", "python"}:
+                raise Fault(f"{TABLE}: [names]: {name} is said in c, rust, go and python")
+        if set(groups) != {"rust", "go", "python", "compare"}:
+            raise Fault(f"{TABLE}: [groups]: rust, go, python and compare")
         self.groups = {language: [group_of(language, row) for row in rows] for language, rows in groups.items()}
         rows = table["records"].items()
         self.records = {name: row_of(Record, f"records.{name}", row, name=name) for name, row in rows}
@@ -432,23 +433,35 @@ class Boundary:
             word = found[1]
             if word in self.exported:
                 rust = self.rust_path(self.exported[word])
-                return {"c": word if plain else f"kullneyra_{word}", "rust": f"[`{rust}`]", "go": camel(word)}[language]
+                python = ".".join(map(unreserved, rust.split("::")))
+                c = word if plain else f"kullneyra_{word}"
+                return {"c": c, "rust": f"[`{rust}`]", "go": camel(word), "python": f"`{python}`"}[language]
             if word in self.records:
                 record = self.records[word]
-                own = {"c": f"struct kullneyra_{word}", "rust": record.rust and f"[`{record.rust}`]", "go": record.go}[language]
+                own = {
+                    "c": f"struct kullneyra_{word}",
+                    "rust": record.rust and f"[`{record.rust}`]",
+                    "go": record.go,
+                    "python": record.rust and f"`{record.rust}`",
+                }[language]
                 if not own:
                     raise Fault(f"{TABLE}: {{{word}}} has no name in {language}")
                 return own
             if word in self.refusals:
                 one = self.refusals[word]
-                return {"c": f"KULLNEYRA_{one.c}", "rust": f"[`Refusal::{word}`]", "go": one.go}[language]
+                return {"c": f"KULLNEYRA_{one.c}", "rust": f"[`Refusal::{word}`]", "go": one.go, "python": f"`Cause.{one.c}`"}[language]
             if word in self.constants:
-                return {"c": f"KULLNEYRA_{word}", "rust": f"[`{word}`]", "go": camel(word)}[language]
+                return {"c": f"KULLNEYRA_{word}", "rust": f"[`{word}`]", "go": camel(word), "python": f"`{word}`"}[language]
             if word in self.names:
                 return self.names[word][language]
             raise Fault(f"{TABLE}: {{{word}}} is no call, no record, no refusal, no constant and no name")
 
         return " ".join(re.sub(r"\{(\w+)\}", name, doc).split())
+
+
+def unreserved(name: str) -> str:
+    """The name in Python, which has some of them for itself."""
+    return f"{name}_" if iskeyword(name) else name
 
 
 def camel(name: str) -> str:

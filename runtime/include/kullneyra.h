@@ -19,8 +19,9 @@
  * result words are a buffer like the others: they are written only where the call answers 0, and
  * another length than theirs is KULLNEYRA_BUFFER, before anything else is looked at.
  *
- * `make install` puts header, library and kullneyra.pc in place: pkg-config --cflags --libs kullneyra.
- * Within the repository, link with target/staticlib/libkullneyra.a (make library).
+ * `make install` puts header and libraries in place: pkg-config --cflags --libs kullneyra, or in CMake
+ * find_package(kullneyra) and kullneyra::kullneyra. Within the repository, link with
+ * target/staticlib/libkullneyra.a (make library).
  */
 #ifndef KULLNEYRA_H
 #define KULLNEYRA_H

@@ -11,13 +11,13 @@ import unittest
 from pathlib import Path
 
 import boundary
-from boundary import COMPARE, GO, GO_NUMBERS, HEADER, NUMBERS, RAW, TOP, TYPED
+from boundary import COMPARE, GO, GO_NUMBERS, HEADER, NUMBERS, PYTHON, PYTHON_NUMBERS, RAW, TOP, TYPED
 from boundary_source import COUNTS, REFUSALS, TABLE, VERSION
 
 EXPORTS = [f"crates/ffi_{name}/src/lib.rt" for name in ("mark", "schedule", "store", "update")]
 MARK, SCHEDULE, STORE, UPDATE = EXPORTS
-WRITTEN = (HEADER, NUMBERS, RAW, TYPED, COMPARE, GO, GO_NUMBERS)
-CALLS = tuple(path for path in WRITTEN if path not in (NUMBERS, GO_NUMBERS))
+WRITTEN = (HEADER, NUMBERS, RAW, TYPED, COMPARE, GO, GO_NUMBERS, PYTHON, PYTHON_NUMBERS)
+CALLS = tuple(path for path in WRITTEN if path not in (NUMBERS, GO_NUMBERS, PYTHON_NUMBERS))
 # The files whose constants are written.
 GRAPH, DESK, PLACES = "crates/graph/src/lib.rt", "crates/desk/src/lib.rt", "crates/desk/src/places.rt"
 LEASES, CARDS = "crates/catalogue/src/check.rt", "crates/cards/src/table.rt"
@@ -109,6 +109,10 @@ class Files(Boundary):
             (GO, "size_t targets_len, uint32_t object)", "size_t targets_len, uint64_t object)"),
             (GO, "C.uint32_t(object)", "C.uint64_t(object)"),
             (GO, "Carrying: uint64(a.carrying),", "Carrying: uint64(a.moved),"),
+            (PYTHON, "targets: &[u32], object: u32", "targets: &[u32], object: u64"),
+            (PYTHON, "    carrying: int", "    carrying: bool"),
+            (PYTHON_NUMBERS, "CARD_WORKERS = 6 ", "CARD_WORKERS = 7 "),
+            (PYTHON_NUMBERS, "    NO_SEED = 16 ", "    NO_SEED = 17 "),
         ):
             line = self.edit(path, old, new)
             status, told = self.run_tool("--check")
@@ -183,6 +187,7 @@ class Signatures(Boundary):
             TYPED: ("/// How many pages [`hops`] takes.\npub fn hop_pages(objects: u32) -> Result<u64, Refusal>",),
             COMPARE: ('"hop_pages",', "        &[0, 4, 7],\n        &[0, 4, 7],\n", "raw::hop_pages(objects, result)", "kullneyra::hop_pages(objects)"),
             GO: ("// HopPages is how many pages Hops takes.\nfunc HopPages(objects uint32) (uint64, error)",),
+            PYTHON: ('_hop_pages = Call("hop_pages", "objects: u32", "u64", 1)', 'def hop_pages(objects: int) -> int:\n    """How many pages `hops` takes."""'),
         }.items():
             for part in parts:
                 self.assertTrue(part in self.text(path), part)
@@ -301,6 +306,7 @@ class Counts(Boundary):
             TYPED: ("    /// Workers that wait.\n    pub parked: u64,", '"moved", "parked", "carrying"', "pub const WORDS: usize = 8;", "u64::from(finished), live, followed, handed, refused, moved, parked, carrying]"),
             COMPARE: ("[3, 4, 2, 8, 1, 9, 9,",),
             GO: ("Parked   uint64 // workers that wait", "Parked:   uint64(a.parked),"),
+            PYTHON: ("    parked: int  # workers that wait\n", "moved, parked, carrying = words"),
         }.items():
             for part in parts:
                 self.assertTrue(part in self.text(path), part)
@@ -338,7 +344,7 @@ class Counts(Boundary):
 
 class Numbers(Boundary):
     def test_a_changed_constant(self):
-        """A constant of the crates that is another number is another one in C, Rust and Go."""
+        """A constant of the crates that is another number is another one in every language."""
         for path, old, new, c, rust, go in (
             (GRAPH, "MOST_OBJECTS: usize = 65536", "131072", "KULLNEYRA_MOST_OBJECTS 131072 ", "MOST_OBJECTS: usize = 131_072;", "MostObjects    = 131072 "),
             (GRAPH, "MOST_REFERENCES: usize = 1048576", "5", "KULLNEYRA_MOST_REFERENCES 5 ", "MOST_REFERENCES: usize = 5;", "MostReferences = 5 "),
@@ -355,7 +361,7 @@ class Numbers(Boundary):
             with self.subTest(old):
                 name = old.split(" = ")[0]
                 self.edit(path, old, f"{name} = {new}")
-                self.assertEqual(self.differing(), [HEADER, NUMBERS, GO_NUMBERS])
+                self.assertEqual(self.differing(), [HEADER, NUMBERS, GO_NUMBERS, PYTHON_NUMBERS])
                 self.assertEqual(self.run_tool(), (0, ""))
                 self.assertIn(f"#define {c}", self.text(HEADER))
                 self.assertIn(f"pub const {rust}", self.text(NUMBERS))
@@ -372,12 +378,13 @@ class Numbers(Boundary):
 
     def test_another_version(self):
         (self.top / VERSION).write_text("2.10.0\n")
-        self.assertEqual(self.differing(), [HEADER, NUMBERS, GO_NUMBERS])
+        self.assertEqual(self.differing(), [HEADER, NUMBERS, GO_NUMBERS, PYTHON_NUMBERS])
         self.assertEqual(self.run_tool(), (0, ""))
         numbers = ("MAJOR 2", "MINOR 10", "PATCH 0")
         self.assertIn('#define KULLNEYRA_VERSION "2.10.0"\n' + "".join(f"#define KULLNEYRA_VERSION_{one}\n" for one in numbers), self.text(HEADER))
         self.assertIn('pub const VERSION: &str = "2.10.0";', self.text(NUMBERS))
         self.assertIn('const Version = "2.10.0"\n', self.text(GO_NUMBERS))
+        self.assertIn('VERSION = "2.10.0"\n', self.text(PYTHON_NUMBERS))
         for wrong in ("1.0", "1.0.0", "1.0.0-rc1\n", "v1.0.0\n", "01.0.0\n", "1.0.0\n\n", "1..0\n"):
             (self.top / VERSION).write_text(wrong)
             self.assert_fault(f"VERSION: not understood: {wrong.strip()}")
@@ -414,12 +421,13 @@ class Numbers(Boundary):
         self.edit(REFUSALS, "        Refusal::Names => 19,\n", "        Refusal::Names => 19,\n        Refusal::Late => 20,\n")
         self.assert_fault("crates/refusal/src/lib.rt has the cause Late, which has no row in [refusals]")
         self.edit(TABLE, "\n# The constants:", '\n[refusals.Late]\nc = "LATE"\ngo = "TooLate"\nwords = "too late"\n\n# The constants:')
-        self.assertEqual(self.differing(), [HEADER, NUMBERS, GO_NUMBERS])
+        self.assertEqual(self.differing(), [HEADER, NUMBERS, GO_NUMBERS, PYTHON_NUMBERS])
         self.assertEqual(self.run_tool(), (0, ""))
         for path, parts in {
             HEADER: ("#define KULLNEYRA_LATE 20 /* too late */", 'case KULLNEYRA_LATE:\n        return "too late";'),
             NUMBERS: ("    /// 20: too late.\n    Late,", "const NAMED: [Refusal; 18]", 'Refusal::Late => (20, "too late"),'),
             GO_NUMBERS: ("TooLate    Refusal = 20 // too late", 'TooLate:    "too late",'),
+            PYTHON_NUMBERS: ("    LATE = 20  # too late\n", 'Cause.LATE: "too late",'),
         }.items():
             for part in parts:
                 self.assertTrue(part in self.text(path), part)
@@ -455,11 +463,12 @@ class Numbers(Boundary):
         self.assertIn("#define KULLNEYRA_NOT_CLOSED 16 ", self.text(HEADER))
         self.assertIn('Refusal::Marks => (16, "a marked object', self.text(NUMBERS))
         self.assertIn("NotClosed  Refusal = 16 ", self.text(GO_NUMBERS))
+        self.assertIn("    NOT_CLOSED = 16 ", self.text(PYTHON_NUMBERS))
 
     def test_words_are_the_same_everywhere(self):
         self.edit(TABLE, 'words = "the first word of a seed is 0"', 'words = "a seed of 0"')
         self.assertEqual(self.run_tool(), (0, ""))
-        for path in (HEADER, NUMBERS, GO_NUMBERS):
+        for path in (HEADER, NUMBERS, GO_NUMBERS, PYTHON_NUMBERS):
             self.assertIn('"a seed of 0"', self.text(path))
 
 
@@ -483,9 +492,9 @@ class Table(Boundary):
             ("[calls.sweep]", "[calls.mark]", TABLE),
             ("\n[names]\n", "\n[nouns]\n", "is not"),
             ("refusals = [4, 6, 7]", "refusals = [4, 6, 7, 20]", "[calls.sweep]: crates/refusal/src/lib.rt has no refusal 20"),
-            (', go = "refusal" }', " }", "[names]: fault is said in c, rust and go"),
+            (', python = "refusal" }', " }", "[names]: fault is said in c, rust, go and python"),
             ("the fields of {tally}", "the fields of {part}", "{part} has no name in rust"),
-            ("[[groups.compare]]", "[[groups.compared]]", "[groups]: rust, go and compare"),
+            ("[[groups.compare]]", "[[groups.compared]]", "[groups]: rust, go, python and compare"),
             ('as = "g Graph"\n', "", "[groups.go]: a row has takes, as, gives"),
             ("refusals = [4, 6, 7]\n", "", "[calls.sweep] has no refusals"),
             ("refusals = [4, 6, 7]\n", "refusals = []\n", "[calls.sweep] has no refusals"),
@@ -510,6 +519,7 @@ class Table(Boundary):
         self.assertIn("/* Reads the header as kullneyra_read does. */\nuint32_t kullneyra_header(", self.text(HEADER))
         self.assertIn("/// Reads the header as [`read`] does.\npub fn header(", self.text(TYPED))
         self.assertIn("// Header reads the header as Read does.\nfunc Header(", self.text(GO))
+        self.assertIn('def header(bytes: Read) -> Header:\n    """Reads the header as `read` does."""', self.text(PYTHON))
 
 
 if __name__ == "__main__":

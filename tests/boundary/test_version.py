@@ -18,6 +18,7 @@ class Version(unittest.TestCase):
     def test_what_is_written_by_hand(self):
         for path, pattern in (
             ("CHANGELOG.md", r"^## (\d\S*)$"),
+            ("debian/changelog", r"^kullneyra \((.*)\) "),
             ("runtime/rust/kullneyra/Cargo.toml", r'^version = "(.*)"$'),
             ("runtime/rust/pause/Cargo.toml", r'^version = "(.*)"$'),
             ("runtime/rust/Cargo.lock", r'^name = "kullneyra"\nversion = "(.*)"$'),
@@ -30,6 +31,10 @@ class Version(unittest.TestCase):
         """The commands and the installed files take the number from those that are compared."""
         self.assertEqual(found("runtime/go/cmd/kullneyra-oci/main.go", r"^const version = (.*)$"), "kullneyra.Version")
         self.assertEqual(found("runtime/kullneyra.pc.in", r"^Version: (.*)$"), "@VERSION@")
+        self.assertEqual(found("runtime/cmake/kullneyraConfigVersion.cmake.in", r'^set\(PACKAGE_VERSION "(.*)"\)$'), "@VERSION@")
+        major = VERSION.partition(".")[0]
+        self.assertEqual(found("runtime/kullneyra.map", r"^KULLNEYRA_(\d+) \{$"), major)
+        self.assertEqual(found("debian/control", r"^Package: libkullneyra(\d+)$"), major)
 
 
 if __name__ == "__main__":

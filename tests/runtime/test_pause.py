@@ -94,7 +94,7 @@ class Pause(unittest.TestCase):
         ):
             done = subprocess.run([PROGRAMS["pause"], *words], cwd=self.folder, capture_output=True, text=True)
             self.assertEqual((done.returncode, done.stdout, done.stderr), (status, out, said))
-        self.assertEqual(list(self.folder.iterdir()), [])
+        self.assertFalse((self.folder / SAVED).exists())
 
     def test_parts_end_as_one_run(self):
         for _ in range(6):

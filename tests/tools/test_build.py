@@ -218,6 +218,21 @@ class Library(Repository):
         self.assertFalse(self.archive.exists())
 
 
+class Help(unittest.TestCase):
+    def test_bare_make(self):
+        done = subprocess.run(["make", "--no-print-directory"], cwd=TOP, capture_output=True, text=True, check=True)
+        asked = subprocess.run(["make", "--no-print-directory", "help"], cwd=TOP, capture_output=True, text=True, check=True)
+        self.assertEqual((done.stdout, done.stderr), (asked.stdout, ""))
+        lines = [line.split() for line in done.stdout.splitlines() if line.startswith("make ")]
+        told = {line[1] for line in lines}
+        self.assertTrue(all(len(line) > 3 for line in lines))
+        makefile = (TOP / "Makefile").read_text()
+        rules = {line.partition(":")[0] for line in makefile.splitlines() if line[:1].isalpha() and ":" in line and ":=" not in line}
+        # The parts that others are made of are not told.
+        self.assertEqual(rules - told, {"help", "programs", "packaged", "steps", "FORCE", "target/sample/store.cat", "target/staticlib/libkullneyra.a", "target/course/%"})
+        self.assertEqual(told - rules, set())
+
+
 class Need(Repository):
     def bare(self, *words, links=("bash", "env", "dirname")):
         """With a PATH that has only these."""
@@ -250,9 +265,12 @@ class Need(Repository):
 class Install(Repository):
     def setUp(self):
         super().setUp()
-        for name in ("target/bin/collect", "target/bin/pause", "target/staticlib/libkullneyra.a", "runtime/include/kullneyra.h"):
-            self.write(name, name)
-        shutil.copy(TOP / "runtime" / "kullneyra.pc.in", self.top / "runtime")
+        for name in ("bin/collect", "bin/deck", "bin/pause", "staticlib/libkullneyra.a", "sharedlib/libkullneyra.so.1.2.3"):
+            self.write(f"target/{name}", name)
+        for name in ("kullneyra.pc.in", "include/kullneyra.h"):
+            self.write(f"runtime/{name}", (TOP / "runtime" / name).read_text())
+        for name in ("cmake", "man"):
+            shutil.copytree(TOP / "runtime" / name, self.top / "runtime" / name)
         self.stage = self.work / "a stage"
 
     def install(self, *words, prefix="/opt/a prefix"):
@@ -266,6 +284,9 @@ class Install(Repository):
         self.assertIn("opt/a prefix/bin/collect", self.files())
         self.assertIn("opt/a prefix/bin/pause", self.files())
         self.assertIn("prefix=/opt/a prefix\n", (self.stage / "opt/a prefix/lib/pkgconfig/kullneyra.pc").read_text())
+        for path in self.stage.rglob("*"):
+            self.assertFalse(path.is_file() and "@" in path.read_text(), path)
+        self.assertEqual(os.readlink(self.stage / "opt/a prefix/lib/libkullneyra.so.1"), "libkullneyra.so.1.2.3")
         # A second time, without what the first had: both are taken away.
         self.assertEqual(self.install("put")[0], 0)
         self.assertEqual(self.install("take")[0], 0)
@@ -294,6 +315,14 @@ class Install(Repository):
         self.assertEqual(status, 1)
         self.assertIn("names /opt/other, which is not below /opt/a prefix", said)
         self.assertTrue(other.exists() and (self.stage / "opt/a prefix/bin/collect").exists())
+
+    def test_where_libraries_go(self):
+        self.assertEqual(self.run_tool("install", "put", PREFIX="/usr", LIBDIR="/usr/lib/a triplet", DESTDIR=str(self.stage))[0], 0)
+        place = self.stage / "usr/lib/a triplet"
+        self.assertIn("libdir=${prefix}/lib/a triplet\n", (place / "pkgconfig/kullneyra.pc").read_text())
+        self.assertIn('"${_kullneyra_here}/../../../../include"', (place / "cmake/kullneyra/kullneyraConfig.cmake").read_text())
+        for wrong in ("/lib", "lib", "/usr/", "/usr/lib/../../etc"):
+            self.assertEqual(self.run_tool("install", "put", PREFIX="/usr", LIBDIR=wrong, DESTDIR=str(self.stage))[0], 1)
 
     def test_prefixes(self):
         for prefix in ("opt", "/opt/../etc", "~/x"):
