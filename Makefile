@@ -48,7 +48,7 @@ test:
 run: target/sample/store.cat
 	@tools/need run rt python3
 	@tools/prove --as run --log target/run.log collect
-	@cd "$(STORE)" && "$(CURDIR)/target/bin/collect"
+	@tools/case.py run "$(STORE)"
 
 target/sample/store.cat: samples/a.txt tools/case.py
 	@tools/case.py make samples/a.txt target/sample

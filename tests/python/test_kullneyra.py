@@ -54,11 +54,13 @@ def check(rng):
     schedule = bytearray(kullneyra.schedule_length(rounds, workers))
     Seed(1 + rng.randrange(1000), rng.randrange(1 << 32)).deal_seed(rounds, workers, schedule)
     buffers = Buffers.of(n, workers)
-    marked = kullneyra.mark(graph, starts, Settings(workers, 1 + rng.randrange(5), 1 + rng.randrange(5)), schedule, buffers)
-    hops = words(n)
+    settings = Settings(workers, 1 + rng.randrange(5), 1 + rng.randrange(5))
+    marked = kullneyra.mark(graph, starts, settings, schedule, buffers)
+    whole, hops = Buffers.of(n, workers), words(n)
+    every = kullneyra.mark_all(graph, starts, settings, whole)
     kullneyra.hops(graph, starts, hops, words(kullneyra.hop_words(n)))
-    found = ({v for v in range(n) if buffers.marks[v]}, {v for v in range(n) if hops[v] != kullneyra.NO_HOPS})
-    assert marked.finished and found == (reached, reached), (graph, starts, marked, found, reached)
+    found = [{v for v in range(n) if told[v]} for told in (buffers.marks, whole.marks, [hop != kullneyra.NO_HOPS for hop in hops])]
+    assert marked.finished and every.finished and found == 3 * [reached], (graph, starts, marked, every, found, reached)
 
 
 def load_tests(_loader, tests, _pattern):
@@ -100,6 +102,9 @@ class Calls(unittest.TestCase):
         self.refused(9, kullneyra.mark, STORE_S, [0], settings, [1, 0], buffers)
         self.assertEqual(list(buffers.marks), [1, 1, 1, 1, 0, 0])
         self.assertEqual(astuple(kullneyra.tally_of(buffers.tallies, 0)), (5, 3, 0, 0))
+        every = kullneyra.mark_all(STORE_S, [0], settings, buffers)
+        self.assertEqual((every.finished, every.live, every.followed, list(buffers.marks)), (True, 4, 5, [1, 1, 1, 1, 0, 0]))
+        self.refused(13, kullneyra.mark_all, STORE_S, [], settings, buffers)
         self.assertEqual(kullneyra.saved_words(6, 1), 50)
         self.refused(8, kullneyra.saved_words, 6, 17)
         stopped = kullneyra.begin(STORE_S, [0], settings, bytes(22), buffers, saved)
