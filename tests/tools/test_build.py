@@ -196,7 +196,6 @@ class Library(Repository):
             with self.subTest(name):
                 self.assertEqual(self.make()[0], 0)
                 self.assertGreater(self.checked(), 0)
-                self.assertEqual((self.make()[0], self.checked()), (0, 0))
         for name, text in {"crates/program/src/main.rt": "another\n", "crates/ground/must-fail/one.edit": "x\n", "README.md": "x\n"}.items():
             self.write(name, text)
             with self.subTest(name):
