@@ -283,7 +283,9 @@ class Install(Repository):
         self.assertEqual(self.install("put", "pause")[0], 0)
         self.assertIn("opt/a prefix/bin/collect", self.files())
         self.assertIn("opt/a prefix/bin/pause", self.files())
-        self.assertIn("prefix=/opt/a prefix\n", (self.stage / "opt/a prefix/lib/pkgconfig/kullneyra.pc").read_text())
+        described = (self.stage / "opt/a prefix/lib/pkgconfig/kullneyra.pc").read_text()
+        self.assertIn("prefix=/opt/a prefix\n", described)
+        self.assertIn('Libs: -L"${libdir}" -Wl,-rpath,"${libdir}" -lkullneyra\n', described)
         for path in self.stage.rglob("*"):
             self.assertFalse(path.is_file() and "@" in path.read_text(), path)
         self.assertEqual(os.readlink(self.stage / "opt/a prefix/lib/libkullneyra.so.1"), "libkullneyra.so.1.2.3")
@@ -319,7 +321,9 @@ class Install(Repository):
     def test_where_libraries_go(self):
         self.assertEqual(self.run_tool("install", "put", PREFIX="/usr", LIBDIR="/usr/lib/a triplet", DESTDIR=str(self.stage))[0], 0)
         place = self.stage / "usr/lib/a triplet"
-        self.assertIn("libdir=${prefix}/lib/a triplet\n", (place / "pkgconfig/kullneyra.pc").read_text())
+        described = (place / "pkgconfig/kullneyra.pc").read_text()
+        self.assertIn("libdir=${prefix}/lib/a triplet\n", described)
+        self.assertIn('Libs: -L"${libdir}" -lkullneyra\n', described)
         self.assertIn('"${_kullneyra_here}/../../../../include"', (place / "cmake/kullneyra/kullneyraConfig.cmake").read_text())
         for wrong in ("/lib", "lib", "/usr/", "/usr/lib/../../etc"):
             self.assertEqual(self.run_tool("install", "put", PREFIX="/usr", LIBDIR=wrong, DESTDIR=str(self.stage))[0], 1)
