@@ -28,7 +28,7 @@ use Rattle.marker.specs.Stages.{Leaves, Runs, rowOf}
 use Rattle.marker.proofs.Stages.{passed, row-left}
 use Rattle.saved.specs.Layout.{savedWords}
 use Rattle.saved.specs.Calls.{savingLengths}
-use Rattle.saved.proofs.Joined.{afresh, joined}
+use Rattle.saved_theorems.proofs.Joined.{afresh, joined}
 use Rattle.begin.specs.Answer.{Answers, Begun}
 use Rattle.checkpoint.specs.Saving.{Savable, Saves}
 use Rattle.begin.proofs.Finishing.{save-ready, state-saved}

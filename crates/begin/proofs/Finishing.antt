@@ -17,7 +17,7 @@ use Rattle.step.specs.Counting.{countsOf}
 use Rattle.step.specs.Held.{Memory, settingOf, BlockIs, RestIs}
 use Rattle.marker.specs.Stages.{Leaves}
 use Rattle.saved.specs.Layout.{workerWords, savedWords}
-use Rattle.saved.proofs.Kept.{shaped}
+use Rattle.saved_theorems.proofs.Kept.{shaped}
 use Rattle.checkpoint.specs.Saving.{Savable, Saves}
 use Rattle.checkpoint.specs.Workers.{wordsOf, listed, Recorded}
 

@@ -19,10 +19,10 @@ ghost use Rattle.begin.specs.Answer.{lengthFor, Begun};
 pub fn saved_words(objects: u32, workers: u32) -> Length
     ensures { λ r. ⌜ lengthRow r ≡ lengthFor objects workers ⌝ }
 {
-    if desk::workers_outside(workers) {
+    if checks::workers_outside(workers) {
         return Length::Refused(Refusal::Setting);
     }
-    if desk::objects_outside(objects) {
+    if checks::objects_outside(objects) {
         return Length::Refused(Refusal::Count);
     }
     Length::Is(places::saved(objects as usize, workers) as u64)

@@ -2,17 +2,16 @@
 use mathlib.Core.Path.{_≡_}
 use mathlib.Core.Bool.{true, false}
 use mathlib.Core.List.{List}
-use mathlib.Core.Logic.{by-cases, _≢_}
+use mathlib.Core.Logic.{_≢_}
 use Prim.Native.Nat.{ℕ, suc, _*_, _/_, _≤_, _<_}
 use native.Mathlib.Nat.{div-mul-le-self, mul-div-cancel, le-div-iff-mul-le, div-lt-iff-lt-mul}
-use native.Mathlib.Decide.{decLt}
 use native.Mathlib.Omega.{arith}
 use lib.Dec.{eqb}
-use lib.ListN.{length, getD, List·getD-eq-default}
+use lib.ListN.{length, getD}
 use borrow.Author.Tests.{ne-eqb}
 use Rattle.laws.proofs.Blocks.{length-laid}
 use Rattle.graph.specs.Graph.{allBelow}
-use Rattle.graph.proofs.Formed.{below-all}
+use Rattle.graph.proofs.Formed.{below-at}
 use Rattle.cards.specs.Deck.{card-workers, deck-size, card, digits}
 use Rattle.cards.specs.Hand.{dealt, roundOf, turnsOf, bytesOf}
 use Rattle.cards.proofs.Circle.{order-long, circle-long}
@@ -36,10 +35,7 @@ rounds-few k W most h p = le-div-iff-mul-le {k = 2 * W} {x = k} {y = most} (omeg
 
 -- a card of a hand that is in the deck
 pub known-at : (cards : List ℕ) → allBelow deck-size cards ≡ true → (i : ℕ) → getD cards i 0 < deck-size
-known-at cards h i =
-    by-cases (decLt i (length cards))
-    (λ (p : i < length cards). below-all deck-size cards h i p)
-    (λ (p : ¬ (i < length cards)). rw (List·getD-eq-default cards 0 {n = i} (omega arith)) (omega arith))
+known-at cards h = below-at deck-size cards h (omega arith)
 
 -- one card's turns, and those of a hand
 pub round-long : (W c : ℕ) → W ≤ card-workers → c < deck-size → length (roundOf W c) ≡ 2 * W

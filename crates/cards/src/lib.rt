@@ -16,7 +16,7 @@ ghost use Rattle.cards.specs.Hand.{lengthOf, Deals};
 pub fn schedule_length(cards: usize, workers: u32) -> Length
     ensures { λ r. ⌜ lengthRow r ≡ lengthOf workers cards ⌝ }
 {
-    if desk::workers_outside(workers) {
+    if checks::workers_outside(workers) {
         return Length::Refused(Refusal::Setting);
     }
     if CARD_WORKERS < workers {
@@ -33,7 +33,7 @@ pub fn schedule_length(cards: usize, workers: u32) -> Length
 pub fn deal(cards: &[u32], workers: u32, schedule: &mut [u8]) -> Verdict
     ensures { λ v. ⌜ Deals workers (now (cards .entry)) (now (schedule .entry)) v (now (schedule .exit)) ⌝ }
 {
-    if desk::workers_outside(workers) {
+    if checks::workers_outside(workers) {
         return Verdict::Faulty(Refusal::Setting);
     }
     if CARD_WORKERS < workers {

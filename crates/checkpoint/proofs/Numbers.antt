@@ -9,7 +9,7 @@ use Rattle.laws.proofs.Blocks.{length-laid, laid-at}
 use Rattle.laws.proofs.Filling.{Filled, filled-none, filled-next, filled-all}
 use Rattle.laws.proofs.Span.{listing-length, listing-at, listing-is}
 use Rattle.saved.specs.Layout.{twoWords, numberAt}
-use Rattle.saved.proofs.RoundTrip.{two-at}
+use Rattle.saved_theorems.proofs.RoundTrip.{two-at}
 use Rattle.checkpoint.specs.Copies.{numbersOf}
 
 -- ---- written

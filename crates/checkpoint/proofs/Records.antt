@@ -12,7 +12,7 @@ use Rattle.laws.proofs.Filling.{Filled, filled-none, filled-next, filled-all}
 use Rattle.machine.specs.Run.{run, size, carried}
 use Rattle.worker.specs.Registers.{blockAt}
 use Rattle.saved.specs.Layout.{workersWords, runsIn}
-use Rattle.saved.proofs.RoundTrip.{workers-word, workers-length}
+use Rattle.saved_theorems.proofs.RoundTrip.{workers-word, workers-length}
 use Rattle.checkpoint.specs.Workers.{wordsOf, listed, Recorded, Measured}
 
 -- ---- written

@@ -20,7 +20,7 @@ use Rattle.worker.proofs.Blocks.{store-stored}
 use Rattle.worker.proofs.Pairs.{length-pairs}
 use Rattle.step.specs.Held.{stretchAt, BlockIs, RestIs}
 use Rattle.saved.specs.Layout.{workerWords, runsIn}
-use Rattle.saved.proofs.RoundTrip.{runs-stretch, stretch-length}
+use Rattle.saved_theorems.proofs.RoundTrip.{runs-stretch, stretch-length}
 use Rattle.checkpoint.specs.declared.workers.Saved.{Saved}
 use Rattle.checkpoint.specs.Workers.{listed, Measured, Restorable, SomeRestorable, Restores, savedAt, AllRestorable, Restored}
 

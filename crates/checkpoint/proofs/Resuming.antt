@@ -26,8 +26,8 @@ use Rattle.step.specs.Ringing.{ringOf}
 use Rattle.step.specs.Counting.{running?, countsOf}
 use Rattle.step.specs.Held.{memory, stretchAt, settingOf, Holds}
 use Rattle.saved.specs.Layout.{workerWords, workersWords, savedWords, Shaped}
-use Rattle.saved.proofs.Kept.{shaped}
-use Rattle.saved.proofs.RoundTrip.{saved-length, records-told, tallies-told, tallies-count, counts-told, marks-told, stretches-told, stretches-long, workers-word, workers-long, stretch-length}
+use Rattle.saved_theorems.proofs.Kept.{shaped}
+use Rattle.saved_theorems.proofs.RoundTrip.{saved-length, records-told, tallies-told, tallies-count, counts-told, marks-told, stretches-told, stretches-long, workers-word, workers-long, stretch-length}
 use Rattle.checkpoint.specs.Copies.{numbersOf, Bytes}
 use Rattle.checkpoint.specs.Restoring.{runs?, runningIn, ringFrom, Telling, progressFrom, partOf, Resumable}
 use Rattle.checkpoint.specs.Workers.{listed, savedAt, Restorable, AllRestorable, AllRestored}

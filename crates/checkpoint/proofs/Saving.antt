@@ -12,7 +12,7 @@ use Rattle.machine.specs.Row.{countWords}
 use Rattle.machine.specs.Tally.{talliesWords}
 use Rattle.machine.specs.Machine.{State, Worker, memory}
 use Rattle.saved.specs.Layout.{twoWords, workersWords, savedWords}
-use Rattle.saved.proofs.RoundTrip.{saved-length, workers-long, tallies-count, tallies-long, stretches-long}
+use Rattle.saved_theorems.proofs.RoundTrip.{saved-length, workers-long, tallies-count, tallies-long, stretches-long}
 use Rattle.theorems.proofs.Colours.{shade-limit, set-limit}
 use Rattle.step.specs.declared.ring.Ring.{Ring}
 use Rattle.step.specs.Ringing.{ringOf}

@@ -10,6 +10,8 @@ use lib.ListN.{length, getD, drop, drop-of-length-le}
 use lib.Dec.{ltb}
 use lib.Seq.{drop-cons}
 use Rattle.laws.specs.Choice.{both}
+use Rattle.laws.proofs.Test.{both-true}
+use Rattle.graph.specs.Graph.{allBelow}
 use Rattle.desk.specs.Checks.{scheduleFits}
 
 module _ (l : List ℕ) (i : ℕ) (h : i < length l) (room : 2 ≤ length l - i) where
@@ -42,6 +44,15 @@ fits-odd W (b ∷ v ∷ l) h = rw (fits-odd W l (λ k e. h (suc k) (omega arith)
     never : (t : Bool) → both t false ≡ false
     never true = refl
     never false = refl
+
+-- all bytes below W
+pub fits-below : (W : ℕ) (l : List ℕ) → allBelow W l ≡ true → (k : ℕ) → 2 * k ≡ length l → scheduleFits W l ≡ true
+unfolding scheduleFits allBelow
+fits-below W [] e k h = refl
+fits-below W (b ∷ []) e k h = absurd (omega arith)
+fits-below W (b ∷ v ∷ l) e k h =
+    let p = both-true (ltb b W) (allBelow W (v ∷ l)) e in
+    rw (p .0) (fits-below W l (both-true (ltb v W) (allBelow W l) (p .1) .1) (k - 1) (omega arith))
 
 -- the next entry
 module _ (W : ℕ) (l : List ℕ) (k : ℕ) (room : 2 * k + 2 ≤ length l) where

@@ -2,15 +2,20 @@
 use mathlib.Core.Path.{_≡_, refl, sym, ap, _∙_}
 use mathlib.Core.Bool.{Bool, true, false}
 use mathlib.Core.List.{List}
-use Prim.Native.Nat.{ℕ, suc, _+_, _-_, _≤_, _<_}
+use mathlib.Core.Logic.{by-cases}
+use Prim.Native.Nat.{ℕ, suc, _+_, _-_, _/_, _≤_, _<_}
 use native.Mathlib.Numerals.{add-one}
+use native.Mathlib.Decide.{decLe}
 use native.Mathlib.Omega.{arith}
+use lib.Dec.{leb}
+use borrow.Author.Tests.{le-leb, lt-leb}
 use lib.ListN.{length, getD, drop, replicate, length-drop, length-replicate, getD-replicate}
 use lib.Seq.{getD-drop, ext-getD}
+use Rattle.laws.specs.Choice.{pick}
 use Rattle.laws.specs.Decides.{Decides}
 use Rattle.laws.proofs.Decides.{never, decides-same}
 use Rattle.graph.specs.Graph.{Graph, Leaves, references}
-use Rattle.graph.proofs.OverMarked.{after-limit}
+use Rattle.graph.proofs.OverMarked.{after-limit, offsets-rise}
 use Rattle.machine.specs.Sound.{Marked, Within, Whole}
 use Rattle.theorems.proofs.Room.{leaves-one}
 use Rattle.frontier.specs.Runs.{HasOwner, Owns, Marking, runOf, RunFound, LoadsThere}
@@ -23,9 +28,27 @@ pub record Between (os : List ℕ) (e low high : ℕ) : Type 0 where
   pub from : getD os low 0 ≤ e
   pub below : e < getD os high 0
 
-pub between-end : {os : List ℕ} {e low high : ℕ} → Between os e low high → high - low ≤ 1 → Owns os e low
-between-end {os} {e} {low} {high} x h =
-    let next : high ≡ low + 1 = omega (arith, x .order) in
+-- the half in which e lies
+pub between-half : {os : List ℕ} {e low size half low′ : ℕ} → HasOwner os e → Between os e low (low + size) → 1 < size → half ≡ size / 2
+    → low′ ≡ pick (leb (getD os (low + half) 0) e) (low + half) low → Between os e low′ (low′ + (size - half))
+between-half {os} {e} {low} {size} {half} there x more is pick-is =
+    by-cases (decLe (getD os (low + half) 0) e)
+    (λ (p : getD os (low + half) 0 ≤ e).
+    let here : low + half + (size - half) ≡ low + size = omega (arith, is) in
+    rw (pick-is, le-leb (getD os (low + half) 0) e p, here) (record { order = omega (arith, is); inside = x .inside; from = p; below = x .below }))
+    (λ (p : ¬ (getD os (low + half) 0 ≤ e)).
+    let up : low + half + (size - half - half) ≡ low + (size - half) = omega (arith, is) in
+    rw (pick-is, lt-leb (getD os (low + half) 0) e (omega arith))
+    (record {
+      order = omega (arith, is);
+      inside = omega (arith, is, x .inside);
+      from = x .from;
+      below = omega (arith, rw up at (there .rise (low + half) (size - half - half) (omega (arith, is, x .inside))));
+    }))
+
+pub between-end : {os : List ℕ} {e low size : ℕ} → Between os e low (low + size) → size ≤ 1 → Owns os e low
+between-end {os} {e} {low} {size} x h =
+    let next : low + size ≡ low + 1 = omega (arith, x .order) in
     record { object = omega (arith, x .inside); from = x .from; below = rw next at (x .below) }
 
 -- ---- `zeros`
@@ -65,6 +88,7 @@ module _ {G : Graph} {ms : List ℕ} {from to : ℕ} (there : Marking G ms) (h :
   has-owner q =
       record {
         some = omega (arith, there .some);
+        rise = λ v k h. offsets-rise G (there .formed) v k (omega arith);
         begins = omega (arith, there .formed .from-zero);
         ends = omega (arith, there .formed .to-all);
       }

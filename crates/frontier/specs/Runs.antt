@@ -27,9 +27,10 @@ use Rattle.frontier.specs.declared.runs.Loads.{Loads}
 
 -- ---- one run
 
--- offsets with an object whose references e is among
+-- offsets that do not fall, with an object whose references e is among
 pub record HasOwner (os : List ℕ) (e : ℕ) : Type 0 where
   pub some : 2 ≤ length os
+  pub rise : (v k : ℕ) → v + k < length os → getD os v 0 ≤ getD os (v + k) 0
   pub begins : getD os 0 0 ≤ e
   pub ends : e < getD os (length os - 1) 0
 

@@ -3,7 +3,9 @@ use desk::places;
 use protocol::fields;
 use worker::registers;
 ghost use mathlib.Core.Path.{_≡_};
-ghost use Prim.Native.Nat.{_+_, _-_, _≤_, _<_};
+ghost use Prim.Native.Nat.{_+_, _-_, _^_, _≤_, _<_};
+ghost use lib.Dec.{leb};
+ghost use Rattle.laws.specs.Choice.{pick};
 ghost use lib.ListN.{length, getD, drop, replicate};
 ghost use Rattle.laws.specs.Decides.{Decides};
 ghost use Rattle.graph.specs.Graph.{graph};
@@ -12,20 +14,30 @@ ghost use Rattle.desk.specs.Lengths.{stretchLength};
 ghost use Rattle.worker.specs.Registers.{status-given};
 ghost use Rattle.frontier.specs.Runs.{HasOwner, Owns, Marking, RunFound, RunsFound, LoadFound, LoadsThere, LoadsFound};
 
+// How many words there are.
+const WORDS: u64 = 4294967296;
+
+// The place so much further on, where the offset there is at or before e. Which it is cannot be foretold, so it is worked out and
+// no jump depends on it.
+fn further(offset: u32, e: u32, low: usize, half: usize) -> usize
+    requires { ⌜ low + half < 2 ^ 64 ⌝ }
+    ensures { λ r. ⌜ r ≡ pick (leb offset e) (low + half) low ⌝ }
+{
+    let at = (e as u64 + WORDS - offset as u64) / WORDS;
+    low + half * at as usize
+}
+
 // The object that reference e leaves: its references begin at or before e, the next one's after e.
 pub fn object_of(offsets: &[u32], e: u32) -> usize
     requires { ⌜ HasOwner (now offsets) e ⌝ }
     ensures { λ v. ⌜ Owns (now (offsets .entry)) e v ⌝ }
 {
     let mut low: usize = 0;
-    let mut high: usize = offsets.len() - 1;
-    while 1 < high - low {
-        let middle = low + (high - low) / 2;
-        if offsets[middle] <= e {
-            low = middle;
-        } else {
-            high = middle;
-        }
+    let mut size: usize = offsets.len() - 1;
+    while 1 < size {
+        let half = size / 2;
+        low = further(offsets[low + half], e, low, half);
+        size -= half;
     }
     low
 }

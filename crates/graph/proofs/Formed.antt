@@ -35,6 +35,13 @@ below-all n [] e i h = absurd (omega arith)
 below-all n (a ∷ l) e zero h = ltb-true a n (both-true (ltb a n) (allBelow n l) e .0)
 below-all n (a ∷ l) e (suc i) h = below-all n l (both-true (ltb a n) (allBelow n l) e .1) i (omega arith)
 
+-- behind the last there are zeros
+pub below-at : (n : ℕ) (l : List ℕ) → allBelow n l ≡ true → 0 < n → (i : ℕ) → getD l i 0 < n
+unfolding allBelow
+below-at n [] e h i = h
+below-at n (a ∷ l) e h zero = ltb-true a n (both-true (ltb a n) (allBelow n l) e .0)
+below-at n (a ∷ l) e h (suc i) = below-at n l (both-true (ltb a n) (allBelow n l) e .1) h i
+
 all-below : (n : ℕ) (l : List ℕ) → ((i : ℕ) → i < length l → getD l i 0 < n) → allBelow n l ≡ true
 unfolding allBelow
 all-below n [] h = refl

@@ -15,7 +15,7 @@ ghost use Rattle.hops.specs.Call.{workWords, lengthFor, Finds, Answered}
 pub fn hop_words(objects: u32) -> Length
     ensures { λ r. ⌜ lengthRow r ≡ lengthFor objects ⌝ }
 {
-    if desk::objects_outside(objects) {
+    if checks::objects_outside(objects) {
         return Length::Refused(Refusal::Count);
     }
     Length::Is(2 * objects as u64)
@@ -36,13 +36,13 @@ fn buffers_wrong(n: usize, hops: usize, work: usize) -> bool
 fn check(offsets: &[u32], targets: &[u32], starts: &[u32], hops: usize, work: usize) -> Verdict
     ensures { λ v. ⌜ Finds v (now (offsets .entry)) (now (targets .entry)) (now (starts .entry)) hops work ⌝ }
 {
-    if desk::graph_outside(offsets.len(), targets.len()) {
+    if checks::graph_outside(offsets.len(), targets.len()) {
         return Verdict::Faulty(Refusal::Count);
     }
     if buffers_wrong(offsets.len() - 1, hops, work) {
         return Verdict::Faulty(Refusal::Buffer);
     }
-    desk::check_store(offsets, targets, starts)
+    checks::check_store(offsets, targets, starts)
 }
 
 // The hop count of each object.

@@ -56,19 +56,19 @@ pub fn check(
 ) -> Verdict
     ensures { λ v. ⌜ Finds v (callOf (now (offsets .entry)) (now (targets .entry)) (now (starts .entry)) settings (now (schedule .entry))) lengths ⌝ }
 {
-    if desk::settings_outside(settings) {
+    if checks::settings_outside(settings) {
         return Verdict::Faulty(Refusal::Setting);
     }
-    if desk::graph_outside(offsets.len(), targets.len()) {
+    if checks::graph_outside(offsets.len(), targets.len()) {
         return Verdict::Faulty(Refusal::Count);
     }
-    if desk::lengths_wrong(offsets.len() - 1, settings.workers, lengths) {
+    if checks::lengths_wrong(offsets.len() - 1, settings.workers, lengths) {
         return Verdict::Faulty(Refusal::Buffer);
     }
-    if let Verdict::Faulty(cause) = desk::check_store(offsets, targets, starts) {
+    if let Verdict::Faulty(cause) = checks::check_store(offsets, targets, starts) {
         return Verdict::Faulty(cause);
     }
-    if !desk::schedule_fits(schedule, settings.workers) {
+    if !checks::schedule_fits(schedule, settings.workers) {
         return Verdict::Faulty(Refusal::Schedule);
     }
     Verdict::Fine

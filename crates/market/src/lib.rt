@@ -39,7 +39,7 @@ pub fn market_header(text: &[u8]) -> Answer
     if !head.good {
         return Answer::Refused(Refusal::Text);
     }
-    if desk::counts_outside(head.rows as usize, head.entries as usize) {
+    if checks::counts_outside(head.rows as usize, head.entries as usize) {
         return Answer::Refused(Refusal::Count);
     }
     Answer::Read {
@@ -66,7 +66,7 @@ pub fn import(text: &[u8], offsets: &mut [u32], targets: &mut [u32], sizes: &mut
     if !body.good {
         return Answer::Refused(Refusal::Text);
     }
-    if desk::counts_outside(n as usize, m as usize) {
+    if checks::counts_outside(n as usize, m as usize) {
         return Answer::Refused(Refusal::Count);
     }
     if !body.fits {
@@ -88,7 +88,7 @@ pub fn import(text: &[u8], offsets: &mut [u32], targets: &mut [u32], sizes: &mut
 pub fn export_length(offsets: &[u32], targets: &[u32]) -> Length
     ensures { λ r. ⌜ lengthRow r ≡ lengthFor (now (offsets .entry)) (now (targets .entry)) ⌝ }
 {
-    if let Verdict::Faulty(refusal) = desk::check_graph(offsets, targets) {
+    if let Verdict::Faulty(refusal) = checks::check_graph(offsets, targets) {
         return Length::Refused(refusal);
     }
     Length::Is(print::text_length(offsets, targets) as u64)
@@ -100,7 +100,7 @@ pub fn export(offsets: &[u32], targets: &[u32], out: &mut [u8]) -> Verdict
     ensures { λ _. ⌜ now (out .exit) ≡ bytesAfter (now (offsets .entry)) (now (targets .entry)) (now (out .entry)) ⌝ }
     ensures { λ v. ⌜ (numberOf v ≡ 0 → Returns (now (offsets .entry)) (now (targets .entry))) ⌝ }
 {
-    let verdict = desk::check_graph(offsets, targets);
+    let verdict = checks::check_graph(offsets, targets);
     match verdict {
         Verdict::Faulty(refusal) => Verdict::Faulty(refusal),
         Verdict::Fine => {

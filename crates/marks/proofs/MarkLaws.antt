@@ -4,7 +4,7 @@ use mathlib.Core.Bool.{Bool, true, false}
 use mathlib.Core.List.{List, map}
 use mathlib.Core.Logic.{_≢_, by-cases}
 use Prim.Native.Nat.{ℕ, zero, suc, _+_, _-_, _*_, _≤_, _<_}
-use native.Mathlib.Decide.{ℕ-discrete, decLt}
+use native.Mathlib.Decide.{ℕ-discrete}
 use native.Mathlib.Nat.{add-zero}
 use native.Mathlib.Numerals.{add-one}
 use native.Mathlib.Omega.{arith}
@@ -16,50 +16,49 @@ use Rattle.laws.specs.Sum.{sum, hit}
 use Rattle.laws.proofs.Decides.{never}
 use Rattle.laws.proofs.Passing.{span-plus, span-agree, span-limit}
 use Rattle.laws.proofs.Span.{span-hit-one}
-use Rattle.laws.proofs.Sum.{sum-snoc, inside, hit-same, hit-other, hit-swap}
+use Rattle.laws.proofs.Sum.{sum-snoc, hit-same, hit-other, hit-swap}
 use Rattle.slices.specs.Bits.{bit, Inserts, word-bits}
 use Rattle.slices.proofs.BitWords.{bit-low, bit-none}
-use Rattle.graph.specs.Graph.{graph, degree}
+use Rattle.graph.specs.Graph.{graph, degree, allBelow}
 use Rattle.graph.specs.Chain.{set?, overMarked}
 use Rattle.graph.specs.Leaving.{leavingUnmarked, unset?}
+use Rattle.graph.proofs.Formed.{below-at}
+use Rattle.graph.proofs.Scan.{below-all}
 use Rattle.machine.specs.Machine.{live}
 use Rattle.machine.specs.Sound.{Marked}
-use Rattle.marks.specs.Marks.{MarksLow, MarksFound, StartsBelow, StartsThere, StartsMarked, distinct, StartsFound}
+use Rattle.marks.specs.declared.Counted.{Counted}
+use Rattle.marks.specs.Marks.{MarksCounted, MarksFound, StartsBelow, StartsThere, StartsMarked, distinct, StartsFound}
 
--- ---- `check_marks`: what is left makes up the whole
+-- ---- `count_marks`: what is left makes up the whole
 
-pub record MarksAt (W : ℕ) (os ms : List ℕ) (live⁺ leaving v : ℕ) : Type 0 where
+pub record MarksAt (os ms : List ℕ) (live⁺ leaving v : ℕ) : Type 0 where
   pub high : v ≤ length ms
-  pub each : (u : ℕ) → u < v → getD ms u 0 ≤ W
   pub live-left : live⁺ + sum set? (drop v ms) ≡ live ms
   pub leaving-left : (ts : List ℕ) → leaving + overMarked (degree (graph os ts)) v (map unset? (drop v ms)) ≡ leavingUnmarked (graph os ts) ms
   pub live-low : live⁺ ≤ v
   pub leaving-low : leaving ≤ getD os v 0
 
-module _ {W : ℕ} {os ms : List ℕ} where
-  pub marks-start : MarksAt W os ms 0 0 0
+module _ {os ms : List ℕ} where
+  pub marks-start : MarksAt os ms 0 0 0
   unfolding live
   marks-start =
       record {
         high = omega arith;
-        each = λ u h. absurd (omega arith);
         live-left = omega arith;
         leaving-left = λ ts. omega arith;
         live-low = omega arith;
         leaving-low = omega arith;
       }
 
-  module _ {live⁺ leaving v live′ leaving′ : ℕ} (x : MarksAt W os ms live⁺ leaving v) (h : v < length ms) (low : getD ms v 0 ≤ W)
-      (rises : getD os v 0 ≤ getD os (suc v) 0) where
+  module _ {live⁺ leaving v live′ leaving′ : ℕ} (x : MarksAt os ms live⁺ leaving v) (h : v < length ms) (rises : getD os v 0 ≤ getD os (suc v) 0) where
     -- an object that is not marked
     pub unmarked-next : getD ms v 0 ≡ 0 → live′ ≡ live⁺ → leaving′ ≡ leaving + (getD os (v + 1) 0 - getD os v 0)
-        → MarksAt W os ms live′ leaving′ (v + 1)
+        → MarksAt os ms live′ leaving′ (v + 1)
     unfolding sum overMarked
     unmarked-next e a b =
         let next = add-one v in
         record {
           high = omega arith;
-          each = below-more _ v (x .each) low;
           live-left = rw next (omega (arith, a, rw (drop-cons ms v 0 h, e) at (x .live-left)));
           leaving-left = λ ts. rw next (omega (arith, rw next at b, rw (drop-cons ms v 0 h, e) at (x .leaving-left ts)));
           live-low = omega (arith, x .live-low);
@@ -67,38 +66,49 @@ module _ {W : ℕ} {os ms : List ℕ} where
         }
 
     -- one that is
-    pub marked-next : (getD ms v 0 ≡ 0 → ⊥) → live′ ≡ live⁺ + 1 → leaving′ ≡ leaving → MarksAt W os ms live′ leaving′ (v + 1)
+    pub marked-next : (getD ms v 0 ≡ 0 → ⊥) → live′ ≡ live⁺ + 1 → leaving′ ≡ leaving → MarksAt os ms live′ leaving′ (v + 1)
     unfolding sum overMarked
     marked-next n a b = some (getD ms v 0) refl
       where
-        some : (k : ℕ) → getD ms v 0 ≡ k → MarksAt W os ms live′ leaving′ (v + 1)
+        some : (k : ℕ) → getD ms v 0 ≡ k → MarksAt os ms live′ leaving′ (v + 1)
         some zero e = absurd (n e)
         some (suc k) e =
             let next = add-one v in
             record {
               high = omega arith;
-              each = below-more _ v (x .each) low;
               live-left = rw next (omega (arith, a, rw (drop-cons ms v 0 h, e) at (x .live-left)));
               leaving-left = λ ts. rw next (omega (arith, b, rw (drop-cons ms v 0 h, e) at (x .leaving-left ts)));
               live-low = omega (arith, x .live-low);
               leaving-low = rw next (omega (arith, b, x .leaving-low));
             }
 
-  pub marks-end : {live⁺ leaving v : ℕ} → MarksAt W os ms live⁺ leaving v → length ms ≤ v
-      → MarksFound W os ms (record { sound = true; live = live⁺; leaving = leaving })
+  pub marks-end : {live⁺ leaving v : ℕ} → MarksAt os ms live⁺ leaving v → length ms ≤ v → MarksCounted os ms (record { live = live⁺; leaving = leaving })
   unfolding sum overMarked
-  marks-end {v = v} x h =
+  marks-end x h =
       let none = drop-of-length-le ms h in
+      record { live = omega (arith, rw none at (x .live-left)); leaving = λ ts. omega (arith, rw none at (x .leaving-left ts)) }
+
+-- ---- `check_marks`
+
+module _ {W : ℕ} {os ms : List ℕ} where
+  pub marks-right : {r : Counted} → allBelow (W + 1) ms ≡ true → MarksCounted os ms r
+      → MarksFound W os ms (record { sound = true; live = r .live; leaving = r .leaving })
+  marks-right t x =
       record {
-        right = λ z u. by-cases (decLt 0 (getD ms u 0)) (λ (p : 0 < getD ms u 0). x .each u (omega (arith, inside ms u 0 (λ (k : ℕ). k) refl p))) (λ (p : ¬ (0 < getD ms u 0)). omega arith);
-        known = λ q. refl;
-        live = λ z. omega (arith, rw none at (x .live-left));
-        leaving = λ z ts. omega (arith, rw none at (x .leaving-left ts));
+        right = λ z v. omega (arith, below-at (W + 1) ms t (omega arith) v);
+        known = λ h. refl;
+        live = λ z. x .live;
+        leaving = λ z. x .leaving;
       }
 
-  pub marks-wrong : (MarksLow W ms → ⊥) → MarksFound W os ms (record { sound = false; live = 0; leaving = 0 })
-  marks-wrong n =
-      record { right = λ z. never z refl; known = λ h. absurd (n h); live = λ z. never z refl; leaving = λ z. never z refl }
+  pub marks-wrong : allBelow (W + 1) ms ≡ false → MarksFound W os ms (record { sound = false; live = 0; leaving = 0 })
+  marks-wrong f =
+      record {
+        right = λ z. never z refl;
+        known = λ h. never (below-all (W + 1) ms (λ v. omega (arith, h v))) f;
+        live = λ z. never z refl;
+        leaving = λ z. never z refl;
+      }
 
 -- ---- `check_starts`: the set holds the starts passed
 

@@ -12,6 +12,7 @@ use Rattle.graph.specs.Chain.{set?}
 use Rattle.graph.specs.Leaving.{leavingUnmarked}
 use Rattle.machine.specs.Machine.{live}
 use Rattle.machine.specs.Sound.{Marked}
+use Rattle.marks.specs.declared.Counted.{Counted}
 use Rattle.marks.specs.declared.Marks.{Marks}
 use Rattle.marks.specs.declared.Starts.{Starts}
 use Rattle.marks.specs.declared.Window.{Window}
@@ -20,6 +21,11 @@ use Rattle.marks.specs.declared.Window.{Window}
 pub record MarksThere (os ms : List ℕ) : Type 0 where
   pub long : length os ≡ suc (length ms)
   pub rises : (v : ℕ) → v < length ms → getD os v 0 ≤ getD os (suc v) 0
+
+-- what `count_marks` says
+pub record MarksCounted (os ms : List ℕ) (r : Counted) : Type 0 where
+  pub live : r .live ≡ live ms
+  pub leaving : (ts : List ℕ) → r .leaving ≡ leavingUnmarked (graph os ts) ms
 
 -- no mark is above W
 abbrev pub MarksLow : ℕ → List ℕ → Type 0

@@ -6,12 +6,38 @@ ghost use Prim.Native.Nat.{_≤_};
 ghost use lib.ListN.{length};
 ghost use Rattle.laws.specs.Decides.{Decides};
 ghost use Rattle.graph.specs.Limits.{most-objects};
-ghost use Rattle.marks.specs.Marks.{MarksThere, MarksFound, StartsBelow, StartsThere, StartsFound, TargetsThere, PartMarked, PartsThere, AllMarked};
+ghost use Rattle.marks.specs.Marks.{MarksThere, MarksCounted, MarksFound, StartsBelow, StartsThere, StartsFound, TargetsThere, PartMarked, PartsThere, AllMarked};
 
 // The words of a set of all objects.
 const OBJECT_WORDS: usize = graph::MOST_OBJECTS / bits::WORD as usize;
 
-// What the marks come to: how many are set, and how many references leave unmarked objects.
+// What marks come to: how many are set, and how many references leave unmarked objects.
+pub struct Counted {
+    pub live: u64,
+    pub leaving: u64,
+}
+
+// Both offsets are read whether they count or not, so that the processor takes several objects at once.
+fn count_marks(offsets: &[u32], marks: &[u32]) -> Counted
+    requires { ⌜ MarksThere (now offsets) (now marks) ⌝ }
+    ensures { λ r. ⌜ MarksCounted (now (offsets .entry)) (now (marks .entry)) r ⌝ }
+{
+    let mut live: u64 = 0;
+    let mut leaving: u64 = 0;
+    for v in 0..marks.len() {
+        let from = offsets[v];
+        let to = offsets[v + 1];
+        let size = (to - from) as u64;
+        if marks[v] == 0 {
+            leaving += size;
+        } else {
+            live += 1;
+        }
+    }
+    Counted { live, leaving }
+}
+
+// The same, where they are sound.
 pub struct Marks {
     pub sound: bool,
     pub live: u64,
@@ -23,27 +49,18 @@ pub fn check_marks(offsets: &[u32], marks: &[u32], workers: u32) -> Marks
     requires { ⌜ MarksThere (now offsets) (now marks) ⌝ }
     ensures { λ r. ⌜ MarksFound workers (now (offsets .entry)) (now (marks .entry)) r ⌝ }
 {
-    let mut live: u64 = 0;
-    let mut leaving: u64 = 0;
-    for v in 0..marks.len() {
-        let mark = marks[v];
-        if workers < mark {
-            return Marks {
-                sound: false,
-                live: 0,
-                leaving: 0,
-            };
-        }
-        if mark == 0 {
-            leaving += (offsets[v + 1] - offsets[v]) as u64;
-        } else {
-            live += 1;
-        }
+    if !graph::is_below(workers as usize + 1, marks) {
+        return Marks {
+            sound: false,
+            live: 0,
+            leaving: 0,
+        };
     }
+    let counted = count_marks(offsets, marks);
     Marks {
         sound: true,
-        live,
-        leaving,
+        live: counted.live,
+        leaving: counted.leaving,
     }
 }
 

@@ -82,7 +82,7 @@ fn check(
 ) -> Verdict
     ensures { λ v. ⌜ RemoveFinds v (now (offsets .entry)) (now (targets .entry)) (now (numbers .entry)) (now (starts .entry)) lengths ⌝ }
 {
-    if desk::graph_outside(offsets.len(), targets.len()) {
+    if checks::graph_outside(offsets.len(), targets.len()) {
         return Verdict::Faulty(Refusal::Count);
     }
     if !graph::is_below(targets.len(), numbers) {
@@ -92,7 +92,7 @@ fn check(
     if updates::lengths_wrong(offsets.len() - 1, targets.len() - named, lengths) {
         return Verdict::Faulty(Refusal::Buffer);
     }
-    desk::check_store(offsets, targets, starts)
+    checks::check_store(offsets, targets, starts)
 }
 
 // Writes the targets of those references from one to another that stay, from a place on. The bits are those of the

@@ -26,7 +26,7 @@ pub fn order_of(order: &[u8]) -> Settings
 pub fn check(settings: Settings) -> Verdict
     ensures { λ r. ⌜ numberOf r ≡ orderFault settings ⌝ }
 {
-    if desk::settings_outside(settings) {
+    if checks::settings_outside(settings) {
         return Verdict::Faulty(Refusal::Setting);
     }
     if MOST_WORKERS < settings.workers {

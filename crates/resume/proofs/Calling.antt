@@ -36,9 +36,9 @@ use Rattle.saved.specs.Layout.{savedWords, stateOf}
 use Rattle.saved.specs.Sound.{SavedSound, SavedRun}
 use Rattle.saved.specs.Test.{saved?}
 use Rattle.saved.specs.Calls.{savingLengths, savedFault, resumeFault, resumed}
-use Rattle.saved.proofs.Kept.{from-saved, to-saved, fresh-run, saved-waits, shaped, told-back}
-use Rattle.saved.proofs.RoundTrip.{saved-length}
-use Rattle.saved.proofs.Joined.{afresh, joined, resumed-afresh, sound-finished}
+use Rattle.saved_theorems.proofs.Kept.{from-saved, to-saved, fresh-run, saved-waits, shaped, told-back}
+use Rattle.saved_theorems.proofs.RoundTrip.{saved-length}
+use Rattle.saved_theorems.proofs.Joined.{afresh, joined, resumed-afresh, sound-finished}
 use Rattle.validate.specs.Checked as validated
 use Rattle.begin.specs.Answer.{Answers}
 use Rattle.begin.proofs.Calling.{long, answers-refused}

@@ -1,2 +1,1 @@
-// A collection that was stopped, as words: the definitions stand in specs/, and what is proved of them
-// in proofs/.
+// A collection that was stopped, as words: the definitions stand in specs/. `saved_theorems` has what is proved of them.

@@ -128,7 +128,7 @@ fn check(
 {
     let objects = shape.objects as usize;
     let width = shape.width as usize;
-    if desk::objects_outside(shape.objects) {
+    if checks::objects_outside(shape.objects) {
         return Verdict::Faulty(Refusal::Count);
     }
     if names_misfit(names.len(), width, named.len()) {

@@ -129,7 +129,7 @@ pub fn deal_seed(seed: Seed, rounds: usize, workers: u32, schedule: &mut [u8]) -
     ensures { λ r. ⌜ Deals seed rounds workers (now (schedule .entry)) r (now (schedule .exit)) ⌝ }
 {
     let first = seed.first;
-    if desk::workers_outside(workers) {
+    if checks::workers_outside(workers) {
         return Dealt::Refused(Refusal::Setting);
     }
     if first == 0 {

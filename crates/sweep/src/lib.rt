@@ -65,7 +65,7 @@ pub fn sweep(marks: &[u8], sizes: &[u64], list: &mut [u32]) -> Swept
     ensures { λ r. ⌜ Collection (now (marks .entry)) (row r) (now (list .exit)) ⌝ }
 {
     let n = sizes.len();
-    if desk::out_of_range(n, MOST_OBJECTS) {
+    if checks::out_of_range(n, MOST_OBJECTS) {
         return Swept::Refused(Refusal::Count);
     }
     if marks.len() != n {

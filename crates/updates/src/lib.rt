@@ -20,7 +20,7 @@ pub struct Lengths {
 pub fn update_words(objects: u32) -> Length
     ensures { λ r. ⌜ lengthRow r ≡ lengthFor objects ⌝ }
 {
-    if desk::objects_outside(objects) {
+    if checks::objects_outside(objects) {
         return Length::Refused(Refusal::Count);
     }
     Length::Is(objects as u64)

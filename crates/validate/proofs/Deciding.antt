@@ -14,7 +14,7 @@ use Rattle.graph.proofs.OverMarked.{over-total}
 use Rattle.desk.specs.Lengths.{marks-place}
 use Rattle.machine.specs.Machine.{Setting}
 use Rattle.saved.specs.Layout.{stateOf}
-use Rattle.saved.proofs.RoundTrip.{state-sized}
+use Rattle.saved_theorems.proofs.RoundTrip.{state-sized}
 use Rattle.tallies.specs.declared.Sums.{Sums}
 use Rattle.protocol.specs.declared.heads.Heads.{Heads}
 use Rattle.marks.specs.declared.Marks.{Marks}

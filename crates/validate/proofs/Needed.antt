@@ -18,8 +18,8 @@ use Rattle.machine.specs.Ring.{shade, blackSet}
 use Rattle.theorems.proofs.Colours.{shade-limit, set-limit}
 use Rattle.laws.specs.Blocks.{laid}
 use Rattle.saved.specs.Layout.{savedWords, Shaped, workerWord, stretchIn, workerIn, restedIn, ringIn, stateOf, runsIn}
-use Rattle.saved.proofs.Kept.{shaped}
-use Rattle.saved.proofs.RoundTrip.{worker-word, stretch-told}
+use Rattle.saved_theorems.proofs.Kept.{shaped}
+use Rattle.saved_theorems.proofs.RoundTrip.{worker-word, stretch-told}
 use Rattle.tallies.specs.declared.Sums.{Sums}
 use Rattle.validate.specs.Checked.{Checked, Saves}
 use Rattle.tallies.specs.Counts.{Agree}

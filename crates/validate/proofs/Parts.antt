@@ -22,7 +22,7 @@ use Rattle.machine.specs.Machine.{Setting, Worker, ended, worker, runsOf, carri
 use Rattle.machine.specs.Sound.{Marked, Within, WholeInside, waits, holds, distinctStarts, tallyOf, batchIn, Supplied}
 use Rattle.saved.specs.Layout.{workerWord, stretchIn, workerIn, stateOf}
 use Rattle.saved.specs.Sound.{SavedSound}
-use Rattle.saved.proofs.RoundTrip.{state-sized}
+use Rattle.saved_theorems.proofs.RoundTrip.{state-sized}
 use Rattle.tallies.specs.declared.Sums.{Sums}
 use Rattle.validate.specs.Checked.{Checked, Saves}
 use Rattle.tallies.specs.Counts.{Agree}

@@ -17,7 +17,7 @@ use Rattle.machine.specs.Tally.{Tally, noTally, tallyWords, talliesWords}
 use Rattle.machine.specs.Machine.{Worker, ended, stretch, memory}
 use Rattle.saved.specs.Layout.{twoWords, ringWords, workerWords, workersWords, savedWords}
 use Rattle.saved.specs.Layout.{numberAt, workerWord, stretchIn, workerIn, restedIn, tallyIn, countsIn, ringIn, stateOf}
-use Rattle.saved.proofs.RoundTrip.{workers-length, workers-word}
+use Rattle.saved_theorems.proofs.RoundTrip.{workers-length, workers-word}
 
 -- every word has 32 bits
 abbrev pub Words32 : List ℕ → Type 0

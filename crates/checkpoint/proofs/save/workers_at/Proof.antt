@@ -3,7 +3,7 @@ use native.Mathlib.Omega.{arith}
 use Rattle.checkpoint.proofs.Saving.{lent-back}
 use Rattle.desk.specs.Lengths.{workers-place}
 use Rattle.saved.specs.Layout.{workersWords}
-use Rattle.saved.proofs.RoundTrip.{workers-length}
+use Rattle.saved_theorems.proofs.RoundTrip.{workers-length}
 use borrow.Author.Needs.{needs}
 use Rattle.checkpoint.proofs.save.workers_at.Statement.{statement}
 use Rattle.checkpoint.proofs.save.workers_at.Tie as tie

@@ -2,10 +2,10 @@
 use native.Mathlib.Omega.{arith}
 use borrow.Author.Needs.{needs}
 use borrow.Author.Tests.{eq-eqb, ne-eqb}
 use Rattle.desk.proofs.Bounded.{work-small}
 use Rattle.desk.proofs.Checks.{so}
-use Rattle.desk.proofs.lengths_wrong.Statement.{statement}
-use Rattle.desk.proofs.lengths_wrong.Tie as tie
+use Rattle.checks.proofs.lengths_wrong.Statement.{statement}
+use Rattle.checks.proofs.lengths_wrong.Tie as tie
 
 returns : tie.Need-returns
 returns c = rw (so (c .before .saved-wrong .ensures) (c .if1 .taken))

@@ -4,9 +4,9 @@ use borrow.Author.Needs.{needs}
 use borrow.Author.Tests.{not-true, not-false}
 use Rattle.graph.specs.Graph.{graph}
 use Rattle.graph.proofs.Formed.{formed}
 use Rattle.desk.proofs.Checks.{so}
-use Rattle.desk.proofs.check_store.Statement.{statement}
-use Rattle.desk.proofs.check_store.Tie as tie
+use Rattle.checks.proofs.check_store.Statement.{statement}
+use Rattle.checks.proofs.check_store.Tie as tie
 
 returns : tie.Need-returns
 returns c = rw (so (c .before .well-formed .ensures) (not-true _ (c .if1 .taken)))

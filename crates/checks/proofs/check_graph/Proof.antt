@@ -1,9 +1,9 @@
 -- The first test that finds a fault decides.
 use borrow.Author.Needs.{needs}
 use borrow.Author.Tests.{not-true, not-false}
 use Rattle.desk.proofs.Checks.{so}
-use Rattle.desk.proofs.check_graph.Statement.{statement}
-use Rattle.desk.proofs.check_graph.Tie as tie
+use Rattle.checks.proofs.check_graph.Statement.{statement}
+use Rattle.checks.proofs.check_graph.Tie as tie
 
 returns : tie.Need-returns
 returns c = rw (so (c .before .graph-outside .ensures) (c .if1 .taken))

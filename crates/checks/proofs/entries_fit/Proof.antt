@@ -1,14 +1,13 @@
 -- Whether an entry passed was wrong; if none was, the entries that are left decide.
 use Prim.Native.Nat.{_≤_, _+_, _-_, _*_}
-use mathlib.Core.Path.{sym}
 use mathlib.Core.Logic.{⊎-elim}
 use native.Mathlib.Omega.{arith}
 use lib.ListN.{length, drop}
 use Rattle.laws.proofs.Scan.{Scan, scan-start, scan-right, scan-wrong, scan-end}
 use Rattle.desk.specs.Checks.{scheduleFits}
-use Rattle.desk.proofs.Schedule.{fits-odd, fits-done, entry-wrong, entry-right}
-use Rattle.desk.proofs.schedule_fits.Statement.{statement}
-use Rattle.desk.proofs.schedule_fits.Tie as tie
+use Rattle.desk.proofs.Schedule.{fits-done, entry-wrong, entry-right}
+use Rattle.checks.proofs.entries_fit.Statement.{statement}
+use Rattle.checks.proofs.entries_fit.Tie as tie
 
 abbrev Inv-loop : tie.InvT-loop
 Inv-loop schedule workers entries wrong₀ k₀ wrong k = (k ≤ entries) × Scan (scheduleFits workers (drop (2 * k) schedule)) (scheduleFits workers schedule) wrong
@@ -16,35 +15,32 @@ Inv-loop schedule workers entries wrong₀ k₀ wrong k = (k ≤ entries) × Sca
 abbrev μ-loop : tie.MeasureT-loop
 μ-loop schedule workers entries wrong₀ k₀ wrong k = entries - k
 
-returns : tie.Need-returns Inv-loop μ-loop
-returns c = sym (fits-odd (c .before .args .workers) (c .before .args .schedule .now) (λ k e. c .if1 .taken (omega arith)))
-
 loop-holds : tie.Need-loop-holds Inv-loop μ-loop
-loop-holds c = (omega arith, scan-start (scheduleFits (c .before .args .workers) (c .before .args .schedule .now)))
+loop-holds c = (omega arith, scan-start (scheduleFits (c .args .workers) (c .args .schedule .now)))
 
 cast-b : tie.Need-cast-b Inv-loop μ-loop
 cast-b c = omega (arith, c .shared-slice-known .given (2 * c .before .before .loop .k))
 
 loop-again : tie.Need-loop-again Inv-loop μ-loop
 loop-again c =
-    let a = c .before .before .before .before .before .args in
+    let a = c .before .before .before .before .args in
     let l = c .before .before .before .loop in
     let room : 2 * l .k + 2 ≤ length (a .schedule .now) = omega arith in (
       omega arith,
       ⊎-elim
           (λ w. rw (w .1) (scan-wrong (l .inv .1) (entry-wrong (a .workers) (a .schedule .now) (l .k) room (omega (arith, w .0 .taken)))))
           (λ w. rw (w .1) (scan-right (l .inv .1) (entry-right (a .workers) (a .schedule .now) (l .k) room (omega (arith, w .0 .left)))))
-          (c .if2 .came),
+          (c .if1 .came),
     )
 
-returns-2 : tie.Need-returns-2 Inv-loop μ-loop
-returns-2 c =
-    let a = c .before .before .before .args in
+returns : tie.Need-returns Inv-loop μ-loop
+returns c =
+    let a = c .before .before .args in
     let l = c .before .loop in
     scan-end (l .inv .1) (fits-done (a .workers) (a .schedule .now) (2 * l .k) (omega arith))
 
-pub schedule-fits-spec : {M : Type 1} → statement M
-schedule-fits-spec =
+pub entries-fit-spec : {M : Type 1} → statement M
+entries-fit-spec =
     tie.close
-    (tie.spec Inv-loop μ-loop (λ c. omega arith) returns loop-holds (λ c. omega arith) (λ c. omega arith) cast-b
-    (λ c. omega arith) (λ c. omega arith) loop-again returns-2)
+    (tie.spec Inv-loop μ-loop loop-holds (λ c. omega arith) (λ c. omega arith) cast-b
+    (λ c. omega arith) (λ c. omega arith) loop-again returns)

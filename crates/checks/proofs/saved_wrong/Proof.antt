@@ -1,7 +1,7 @@
 -- By whether saved words are lent.
 use borrow.Author.Needs.{needs}
-use Rattle.desk.proofs.saved_wrong.Statement.{statement}
-use Rattle.desk.proofs.saved_wrong.Tie as tie
+use Rattle.checks.proofs.saved_wrong.Statement.{statement}
+use Rattle.checks.proofs.saved_wrong.Tie as tie
 
 returns-2 : tie.Need-returns-2
 returns-2 c = rw (c .before .before .saved .given .1, c .saved2 .ensures)

@@ -18,11 +18,11 @@ use Rattle.theorems.proofs.Facts.{runs-room}
 use Rattle.theorems.proofs.Demand3.{reached-limit, demand3}
 use Rattle.theorems.proofs.Start.{sound, sound-turns}
 use Rattle.theorems.proofs.Waiting.{waits-all}
 use Rattle.saved.specs.Layout.{savedWords, stateOf, Shaped}
 use Rattle.saved.specs.Sound.{SavedRun}
 use Rattle.saved.specs.Test.{sound?, held?, saved?}
-use Rattle.saved.proofs.Exact.{from-test, to-test}
-use Rattle.saved.proofs.RoundTrip.{state-sized, state-told}
+use Rattle.saved_theorems.proofs.Exact.{from-test, to-test}
+use Rattle.saved_theorems.proofs.RoundTrip.{state-sized, state-told}
 
 -- ---- a sound state
 

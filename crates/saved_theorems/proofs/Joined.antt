@@ -19,10 +19,10 @@ use Rattle.theorems.proofs.Collected.{collected}
 use Rattle.theorems.proofs.Demand2.{all-marked}
 use Rattle.theorems.proofs.Progress.{turns-append}
 use Rattle.theorems.proofs.Start.{sound, sound-turns}
 use Rattle.saved.specs.Layout.{savedWords}
 use Rattle.saved.specs.Sound.{SavedRun}
 use Rattle.saved.specs.Calls.{resumed, Afresh, whole, reachedBy, allFit, Joined}
-use Rattle.saved.proofs.Kept.{told-back, fresh-run, to-saved}
+use Rattle.saved_theorems.proofs.Kept.{told-back, fresh-run, to-saved}
 
 -- entries of schedules laid end to end, the first of whole entries
 pub entries-append : (W : ℕ) (l k : List ℕ) → scheduleFits W l ≡ true → entries (l ++ k) ≡ entries l ++ entries k

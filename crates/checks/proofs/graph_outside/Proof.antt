@@ -3,8 +3,8 @@ use Prim.Native.Nat.{_-_}
 use mathlib.Core.Path.{_≡_}
 use native.Mathlib.Omega.{arith}
 use borrow.Author.Needs.{needs}
-use Rattle.desk.proofs.graph_outside.Statement.{statement}
-use Rattle.desk.proofs.graph_outside.Tie as tie
+use Rattle.checks.proofs.graph_outside.Statement.{statement}
+use Rattle.checks.proofs.graph_outside.Tie as tie
 
 returns : tie.Need-returns
 returns c = let n : c .before .args .offsets - 1 ≡ 0 = omega (arith, c .if1 .taken) in rw n

@@ -1,7 +1,7 @@
 -- The first test that holds decides.
 use borrow.Author.Tests.{lt-ltb, le-ltb}
-use Rattle.desk.proofs.out_of_range.Statement.{statement}
-use Rattle.desk.proofs.out_of_range.Tie as tie
+use Rattle.checks.proofs.out_of_range.Statement.{statement}
+use Rattle.checks.proofs.out_of_range.Tie as tie
 
 returns : tie.Need-returns
 returns c = simp (lt-ltb _ _ (c .if1 .taken))

@@ -1,0 +1,1 @@
+// What is proved of the words of a stopped collection, in proofs/.
