@@ -186,7 +186,7 @@ struct kullneyra_part {
     uint64_t length;
 };
 
-/* mark: what the turns did. */
+/* mark, mark_all: what the turns did. */
 struct kullneyra_marked {
     uint64_t finished; /* 1 if every worker has ended, else 0 */
     uint64_t live;     /* marked objects */
@@ -247,7 +247,7 @@ struct kullneyra_drawn {
 #define KULLNEYRA_HEADER_WORDS (sizeof(struct kullneyra_head) / sizeof(uint32_t)) /* header, market_header, import */
 #define KULLNEYRA_READ_WORDS (sizeof(struct kullneyra_store) / sizeof(uint32_t)) /* read */
 #define KULLNEYRA_PART_WORDS (sizeof(struct kullneyra_part) / sizeof(uint64_t)) /* references */
-#define KULLNEYRA_MARK_WORDS (sizeof(struct kullneyra_marked) / sizeof(uint64_t)) /* mark */
+#define KULLNEYRA_MARK_WORDS (sizeof(struct kullneyra_marked) / sizeof(uint64_t)) /* mark, mark_all */
 #define KULLNEYRA_STOP_WORDS (sizeof(struct kullneyra_stopped) / sizeof(uint64_t)) /* begin, resume */
 #define KULLNEYRA_SWEEP_WORDS (sizeof(struct kullneyra_swept) / sizeof(uint64_t)) /* sweep */
 #define KULLNEYRA_LENGTH_WORDS (sizeof(struct kullneyra_length) / sizeof(uint64_t)) /* schedule_length */
@@ -282,6 +282,14 @@ uint32_t kullneyra_mark(const uint32_t *offsets, size_t offsets_len, const uint3
                         const uint32_t *starts, size_t starts_len, uint32_t workers, uint32_t batch, uint32_t cutoff,
                         const uint8_t *schedule, size_t schedule_len, uint8_t *marks, size_t marks_len, uint32_t *work,
                         size_t work_len, uint64_t *tallies, size_t tallies_len, uint64_t *result, size_t result_len);
+
+/* A whole collection without a schedule, which is always finished: the workers have their turns in rounds, each
+ * asking the next one, until all have ended. Answer, marks, work and tallies are those of kullneyra_mark with so
+ * many rounds. With one worker nobody asks, and its turns are made in rows: the quickest way to mark. */
+uint32_t kullneyra_mark_all(const uint32_t *offsets, size_t offsets_len, const uint32_t *targets, size_t targets_len,
+                            const uint32_t *starts, size_t starts_len, uint32_t workers, uint32_t batch,
+                            uint32_t cutoff, uint8_t *marks, size_t marks_len, uint32_t *work, size_t work_len,
+                            uint64_t *tallies, size_t tallies_len, uint64_t *result, size_t result_len);
 
 /* How many words a saved collection of n objects with so many workers takes, as KULLNEYRA_SAVED(n, w) has it. */
 uint32_t kullneyra_saved_words(uint32_t objects, uint32_t workers, uint64_t *result, size_t result_len);
@@ -508,6 +516,29 @@ static inline uint32_t kullneyra_mark_into(const uint32_t *offsets, size_t offse
     const uint32_t number = kullneyra_mark(offsets, offsets_len, targets, targets_len, starts, starts_len, workers,
                                            batch, cutoff, schedule, schedule_len, marks, marks_len, work, work_len,
                                            tallies, tallies_len, words, KULLNEYRA_MARK_WORDS);
+    memcpy(answer, words, sizeof *answer);
+    return number;
+}
+
+static inline uint32_t kullneyra_mark_all_into(const uint32_t *offsets, size_t offsets_len, const uint32_t *targets,
+                                               size_t targets_len, const uint32_t *starts, size_t starts_len,
+                                               uint32_t workers, uint32_t batch, uint32_t cutoff, uint8_t *marks,
+                                               size_t marks_len, uint32_t *work, size_t work_len, uint64_t *tallies,
+                                               size_t tallies_len, struct kullneyra_marked *answer) {
+    const struct kullneyra_range ranges[] = {
+        kullneyra_range(marks, marks_len, sizeof *marks),
+        kullneyra_range(work, work_len, sizeof *work),
+        kullneyra_range(tallies, tallies_len, sizeof *tallies),
+        kullneyra_range(offsets, offsets_len, sizeof *offsets),
+        kullneyra_range(targets, targets_len, sizeof *targets),
+        kullneyra_range(starts, starts_len, sizeof *starts),
+    };
+    if (kullneyra_shared(ranges, 3, 6, answer, sizeof *answer))
+        return KULLNEYRA_BUFFER;
+    uint64_t words[KULLNEYRA_MARK_WORDS] = {0};
+    const uint32_t number = kullneyra_mark_all(offsets, offsets_len, targets, targets_len, starts, starts_len, workers,
+                                               batch, cutoff, marks, marks_len, work, work_len, tallies, tallies_len,
+                                               words, KULLNEYRA_MARK_WORDS);
     memcpy(answer, words, sizeof *answer);
     return number;
 }

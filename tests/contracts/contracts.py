@@ -34,6 +34,7 @@ CITED = {
     "kullneyra_read": ("Reads",),
     "kullneyra_references": ("partAnswer", "partWords"),
     "kullneyra_mark": ("Marks",),
+    "kullneyra_mark_all": ("MarksAll",),
     "kullneyra_begin": ("Begins",),
     "kullneyra_resume": ("Resumes",),
     "kullneyra_sweep": ("sweepAnswer", "sweepList", "sweepWords", "SweepPromise"),

@@ -28,6 +28,7 @@ DEFINITIONS: dict[str, Optional[tuple[str, ...]]] = {
     "theorems/specs/Collected.antt": ("Collected",),
     "machine/specs/Demand2.antt": ("FinishedMarks", "LiveMarks", "Demand2"),
     "machine/specs/Demand3.antt": ("movedBound", "stretchBound", "fewestStretches", "handedBound", "Cut", "Demand3"),
+    "rounds/specs/Whole.antt": ("nextOf", "roundFrom", "roundsOf", "enoughRounds", "wholeOf"),
     "theorems/specs/Waiting.antt": ("replyBound", "refusalBound", "Asked", "Reply", "Waits"),
     "catalogue/specs/Acceptance.antt": ("Returned", "Acceptance"),
     "sweep/specs/Collection.antt": ("Collection",),

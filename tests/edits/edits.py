@@ -27,7 +27,7 @@ WITHOUT_EDITS = {
     "checkpoint": "its definitions are those of `saved`",
     "collect": "the program around `report`, which has the edits of its text",
     "deck": "a program that prints the cards of `cards`",
-    "ffi_mark": "passes on to `marker`, `begin`, `resume` and `sweep`",
+    "ffi_mark": "passes on to `marker`, `mark_all`, `begin`, `resume` and `sweep`",
     "ffi_schedule": "passes on to `cards` and `seed`",
     "ffi_store": "passes on to `catalogue`, `graph` and `market`",
     "ffi_update": "passes on to `hops` and `updates`",
@@ -35,6 +35,7 @@ WITHOUT_EDITS = {
     "marker": "its definitions are those of `machine` and `desk`",
     "market": "its definitions are those of `matrix`, its leaves `parse` and `print`",
     "report": "its definitions are those of `program`, its leaf `lines`",
+    "saved_theorems": "its definitions are those of `saved`, whose edits the drawings refuse",
     "turns": "its definitions are those of `machine`, its leaves `follow`, `idle`, `poll` and `step`",
 }
 

@@ -154,6 +154,25 @@ int main(void) {
     expect("mark, refused", 0, marked.refused);
     expect("mark, moved", 3, marked.moved);
     expect("mark, carrying", 0, marked.carrying);
+    REFUSED("mark_all, no start", KULLNEYRA_NO_STARTS,
+            kullneyra_mark_all_into(offsets, 3, targets, 1, NULL, 0, 1, 1, 1, marks, 2, work, KULLNEYRA_WORK(2, 1), tallies,
+                                    KULLNEYRA_TALLIES(1), &marked),
+            marked);
+    REFUSED("mark_all, short tallies", KULLNEYRA_BUFFER,
+            kullneyra_mark_all_into(offsets, 3, targets, 1, &head.index, 1, 1, 1, 1, marks, 2, work, KULLNEYRA_WORK(2, 1),
+                                    tallies, KULLNEYRA_TALLIES(1) - 1, &marked),
+            marked);
+    memset(marks, 7, sizeof marks);
+    ACCEPTED("mark_all",
+             kullneyra_mark_all_into(offsets, 3, targets, 1, &head.index, 1, 1, 1, 1, marks, 2, work, KULLNEYRA_WORK(2, 1),
+                                     tallies, KULLNEYRA_TALLIES(1), &marked),
+             marked);
+    expect("mark_all, finished", 1, marked.finished);
+    expect("mark_all, live", 1, marked.live);
+    expect("mark_all, the index's mark", 1, marks[0]);
+    expect("mark_all, nobody's mark", 0, marks[1]);
+    expect("mark_all, followed", 1, marked.followed);
+    expect("mark_all, moved", 3, marked.moved);
     tally = kullneyra_tally_of(tallies, 0);
     expect("tally, followed", 1, tally.followed);
     expect("tally, won", 0, tally.won);

@@ -44,6 +44,12 @@ int main(void) {
                           tallies, KULLNEYRA_TALLIES(1), counts, KULLNEYRA_MARK_WORDS));
     expect("live", 1, (uint32_t)counts[1]);
     expect("a tally without turns", 0, (uint32_t)(tallies[0] + tallies[1] + tallies[2] + tallies[3]));
+    expect("no targets, mark_all", KULLNEYRA_OK,
+           kullneyra_mark_all(alone, KULLNEYRA_OFFSETS(1), NULL, 0, alone, 1, 1, KULLNEYRA_MOST_SETTING,
+                              KULLNEYRA_MOST_SETTING, marks, KULLNEYRA_MARKS(1), work, KULLNEYRA_WORK(1, 1), tallies,
+                              KULLNEYRA_TALLIES(1), counts, KULLNEYRA_MARK_WORDS));
+    expect("no graph, mark_all", KULLNEYRA_COUNT,
+           kullneyra_mark_all(NULL, 0, NULL, 0, NULL, 0, 1, 1, 1, NULL, 0, NULL, 0, NULL, 0, counts, KULLNEYRA_MARK_WORDS));
     expect("no starts, mark", KULLNEYRA_NO_STARTS,
            kullneyra_mark(alone, KULLNEYRA_OFFSETS(1), NULL, 0, NULL, 0, 1, 1, 1, NULL, 0, marks, KULLNEYRA_MARKS(1),
                           work, KULLNEYRA_WORK(1, 1), tallies, KULLNEYRA_TALLIES(1), counts, KULLNEYRA_MARK_WORDS));

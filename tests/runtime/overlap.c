@@ -41,6 +41,9 @@ static uint32_t references(unsigned char *at[]) { return kullneyra_references_in
 static uint32_t mark(unsigned char *at[]) {
     return kullneyra_mark_into(OLD(0), WORDS(2, 1), 1, 1, 1, BYTES(3, 2), BYTES(4, 1), WORDS(5, WORK), LONGS(6, 4), INTO(7, marked));
 }
+static uint32_t mark_all(unsigned char *at[]) {
+    return kullneyra_mark_all_into(OLD(0), WORDS(2, 1), 1, 1, 1, BYTES(3, 1), WORDS(4, WORK), LONGS(5, 4), INTO(6, marked));
+}
 static uint32_t begin(unsigned char *at[]) {
     return kullneyra_begin_into(OLD(0), WORDS(2, 1), 1, 1, 1, BYTES(3, 2), BYTES(4, 1), WORDS(5, WORK), LONGS(6, 4),
                                 WORDS(7, SAVED), INTO(8, stopped));
@@ -79,7 +82,8 @@ static uint32_t scan(unsigned char *at[]) {
     return kullneyra_scan_into(1, 2, SCANNED, WORDS(5, KULLNEYRA_SCAN_WORK), WORDS(6, 3), WORDS(7, 3));
 }
 
-#define MARKING GRAPH, READ(uint32_t, 1), READ(uint8_t, 2), WRITTEN(uint8_t, 1), WRITTEN(uint32_t, WORK), WRITTEN(uint64_t, 4)
+#define BUFFERS WRITTEN(uint8_t, 1), WRITTEN(uint32_t, WORK), WRITTEN(uint64_t, 4)
+#define MARKING GRAPH, READ(uint32_t, 1), READ(uint8_t, 2), BUFFERS
 
 #define NAMES \
     READ(uint8_t, 4), READ(uint32_t, 2), READ(uint8_t, 8), READ(uint64_t, 2), READ(uint32_t, 2), WRITTEN(uint32_t, KULLNEYRA_SCAN_WORK)
@@ -91,6 +95,7 @@ static const Call calls[] = {
       ANSWER(struct kullneyra_store, uint32_t)}, 1},
     {"references", references, {GRAPH, ANSWER(struct kullneyra_part, uint64_t)}, 1},
     {"mark", mark, {MARKING, ANSWER(struct kullneyra_marked, uint64_t)}, 1},
+    {"mark_all", mark_all, {GRAPH, READ(uint32_t, 1), BUFFERS, ANSWER(struct kullneyra_marked, uint64_t)}, 1},
     {"begin", begin, {MARKING, WRITTEN(uint32_t, SAVED), ANSWER(struct kullneyra_stopped, uint64_t)}, 1},
     {"resume", resume, {MARKING, WRITTEN(uint32_t, SAVED), ANSWER(struct kullneyra_stopped, uint64_t)}, 1},
     {"sweep", sweep, {READ(uint8_t, 1), READ(uint64_t, 1), WRITTEN(uint32_t, 1), ANSWER(struct kullneyra_swept, uint64_t)}, 1},

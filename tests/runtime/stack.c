@@ -144,9 +144,10 @@ static void fill(struct input *s) {
 }
 
 #define GRAPH(s) (s)->offsets, (size_t)(s)->n + 1, (s)->targets, (s)->m
-#define RUN(s)                                                                                                        \
-    GRAPH(s), (s)->starts, (s)->starts_len, (s)->workers, 3, 2, (s)->turns, (s)->turns_len, (s)->marks, (s)->n,       \
-        (s)->work, KULLNEYRA_WORK((s)->n, (s)->workers), (s)->tallies, KULLNEYRA_TALLIES((s)->workers)
+#define SET(s) GRAPH(s), (s)->starts, (s)->starts_len, (s)->workers, 3, 2
+#define BUFFERS(s)                                                                                                    \
+    (s)->marks, (s)->n, (s)->work, KULLNEYRA_WORK((s)->n, (s)->workers), (s)->tallies, KULLNEYRA_TALLIES((s)->workers)
+#define RUN(s) SET(s), (s)->turns, (s)->turns_len, BUFFERS(s)
 #define SAVED(s) (s)->saved, KULLNEYRA_SAVED((s)->n, (s)->workers)
 
 static uint32_t header(struct input *s) {
@@ -165,6 +166,10 @@ static uint32_t references(struct input *s) {
 static uint32_t mark(struct input *s) {
     struct kullneyra_marked a;
     return kullneyra_mark_into(RUN(s), &a);
+}
+static uint32_t mark_all(struct input *s) {
+    struct kullneyra_marked a;
+    return kullneyra_mark_all_into(SET(s), BUFFERS(s), &a);
 }
 static uint32_t saved_words(struct input *s) {
     uint64_t a;
@@ -251,8 +256,8 @@ static const struct {
     const char *name;
     uint32_t (*run)(struct input *);
 } calls[] = {
-    {"header", header}, {"read", read_store}, {"references", references}, {"mark", mark}, {"saved_words", saved_words},
-    {"begin", begin}, {"resume", resume}, {"sweep", sweep}, {"schedule_length", schedule_length}, {"deal", deal},
+    {"header", header}, {"read", read_store}, {"references", references}, {"mark", mark}, {"mark_all", mark_all},
+    {"saved_words", saved_words}, {"begin", begin}, {"resume", resume}, {"sweep", sweep}, {"schedule_length", schedule_length}, {"deal", deal},
     {"draw", draw}, {"deal_seed", deal_seed}, {"hop_words", hop_words}, {"hops", hops}, {"update_words", update_words},
     {"add", add}, {"remove", take_out}, {"market_header", market_header}, {"import", import},
     {"export_length", export_length}, {"export", export}, {"scan_length", scan_length}, {"scan", scan},

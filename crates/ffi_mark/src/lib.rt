@@ -2,12 +2,13 @@
 use desk::Settings;
 use sweep::Swept;
 ghost use mathlib.Core.Path.{_≡_};
+ghost use mathlib.Core.List.{[]};
 ghost use lib.ListN.{length};
 ghost use Rattle.desk.specs.Kept.{unlessRefused};
 ghost use Rattle.marker.specs.Answer.{callOf};
 ghost use Rattle.kullneyra.specs.Calls.{sweepAnswer, sweepWords, sweepList};
 ghost use Rattle.kullneyra.specs.Calls.{LengthIn, settings};
-ghost use Rattle.kullneyra.specs.Promise.{Marks, Begins, Resumes, SweepPromise};
+ghost use Rattle.kullneyra.specs.Promise.{Marks, MarksAll, Begins, Resumes, SweepPromise};
 ghost use Rattle.begin.specs.Answer.{lengthFor as savedLength};
 
 // The marker; the tallies are four words for each worker: followed, won, lost and handed. Result
@@ -43,6 +44,43 @@ pub extern "C" fn kullneyra_mark(
             cutoff,
         },
         schedule,
+        marks,
+        work,
+        tallies,
+    );
+    kullneyra::give_marked(answer, result)
+}
+
+// A whole collection without a schedule: as the marker with so many rounds as are sure to finish.
+#[no_mangle]
+pub extern "C" fn kullneyra_mark_all(
+    offsets: &[u32],
+    targets: &[u32],
+    starts: &[u32],
+    workers: u32,
+    batch: u32,
+    cutoff: u32,
+    marks: &mut [u8],
+    work: &mut [u32],
+    tallies: &mut [u64],
+    result: &mut [u64],
+) -> u32
+    ensures { λ r. ⌜ MarksAll (callOf (now (offsets .entry)) (now (targets .entry)) (now (starts .entry)) (settings workers batch cutoff) [])
+        (now (marks .entry)) (now (work .entry)) (now (tallies .entry)) (now (result .entry))
+        (now (marks .exit)) (now (work .exit)) (now (tallies .exit)) (now (result .exit)) r ⌝ }
+{
+    if result.len() != kullneyra::MARK_WORDS {
+        return kullneyra::BUFFER;
+    }
+    let answer = mark_all::mark_all(
+        offsets,
+        targets,
+        starts,
+        Settings {
+            workers,
+            batch,
+            cutoff,
+        },
         marks,
         work,
         tallies,

@@ -5,7 +5,7 @@ use mathlib.Core.Bool.{Bool, true}
 use mathlib.Core.List.{List}
 use mathlib.Core.Logic.{_↔_}
 use Prim.Native.Nat.{ℕ, zero, suc}
-use lib.ListN.{length}
+use lib.ListN.{length, getD}
 use Rattle.refusal.proofs.None.{first-none}
 use Rattle.desk.specs.Kept.{unlessRefused}
 use Rattle.catalogue.specs.Answer.{Row as HeadRow, ReadRow}
@@ -25,7 +25,7 @@ use Rattle.seed.specs.declared.Seed.{Seed}
 use Rattle.seed.specs.declared.Dealt.the-variants.{Moved}
 use Rattle.seed.specs.Deal.{Deals}
 use Rattle.matrix.specs.Promise.{Accepts}
-use Rattle.kullneyra.specs.Calls.{readWords, markWords, stopWords, sweptWords, headerWords}
+use Rattle.kullneyra.specs.Calls.{readWords, flag, markWords, stopWords, sweptWords, headerWords}
 use Rattle.kullneyra.specs.Promise.{ReadPromise, MarkPromise, BeginPromise, ResumePromise, SweepPromise, DealPromise, ImportPromise}
 
 -- the result words of a call without a fault
@@ -64,11 +64,10 @@ answer-is : {answer k : ℕ} {r t : Row} → answer ≡ r .number → r ≡ t �
 answer-is e i n = e ∙ ap (λ (t : Row). t .number) i ∙ n
 
 module _ (result : List ℕ) {result′ : List ℕ} (r : Marked) {answer : ℕ}
-    (e : answer ≡ row r .number) (w : result′ ≡ unlessRefused (row r .number) (markWords (row r)) result)
-    {c : Call} {marks work tallies marks′ work′ tallies′ : List ℕ} where
-  pub mark-promise : Answered c marks work tallies r marks′ work′ tallies′ → answer ≡ 0
+    (e : answer ≡ row r .number) (w : result′ ≡ unlessRefused (row r .number) (markWords (row r)) result) where
+  pub mark-promise : {c : Call} {marks work tallies marks′ work′ tallies′ : List ℕ} → Answered c marks work tallies r marks′ work′ tallies′ → answer ≡ 0
       → MarkPromise c marks′ tallies′ result′
-  mark-promise a z =
+  mark-promise {c} {marks} {work} {tallies} a z =
       let k = fault c (length marks) (length work) (length tallies) in
       let none : k ≡ 0 = sym (answer-is e (a .row-is) (marked-number c k)) ∙ z in
       record {
@@ -78,6 +77,10 @@ module _ (result : List ℕ) {result′ : List ℕ} (r : Marked) {answer : ℕ}
         tallied = rw none at (a .tallies-are);
         collected = a .promise none;
       }
+
+  -- an answer that is finished says so in its first result word
+  pub finished-told : (row r .number ≡ 0 → row r .finished ≡ true) → answer ≡ 0 → getD result′ 0 0 ≡ 1
+  finished-told f z = ap (λ (l : List ℕ). getD l 0 0) (words-told (markWords (row r)) result e w z) ∙ ap flag (f (sym e ∙ z))
 
 -- the calls that save
 module _ (result : List ℕ) {result′ : List ℕ} (r : Marked) {sound : Bool} {answer : ℕ}

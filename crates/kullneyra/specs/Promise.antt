@@ -18,6 +18,7 @@ use Rattle.machine.specs.Demand2.{outcome}
 use Rattle.theorems.specs.Collected.{Collected}
 use Rattle.theorems.specs.Waiting.{Waits}
 use Rattle.machine.specs.Call.{Call, scheduledBy, graphOf, settingOf, final}
+use Rattle.rounds.specs.Whole.{wholeOf}
 use Rattle.sweep.specs.Sweep.{Row as SweepRow}
 use Rattle.sweep.specs.Collection.{Collection}
 use Rattle.saved.specs.Layout.{savedWords}
@@ -58,6 +59,13 @@ pub record MarkPromise (c : Call) (marks tallies result : List ℕ) : Type 0 whe
 pub record Marks (c : Call) (marks work tallies result marks′ work′ tallies′ result′ : List ℕ) (answer : ℕ) : Type 0 where
   pub words : MarksIn c marks work tallies result marks′ work′ tallies′ result′ answer
   pub promise : answer ≡ 0 → MarkPromise c marks′ tallies′ result′
+
+-- ---- mark_all
+
+-- as mark with so many rounds as are sure to finish; without a fault the collection is finished
+pub record MarksAll (c : Call) (marks work tallies result marks′ work′ tallies′ result′ : List ℕ) (answer : ℕ) : Type 0 where
+  pub as-mark : Marks (wholeOf c) marks work tallies result marks′ work′ tallies′ result′ answer
+  pub finished : answer ≡ 0 → getD result′ 0 0 ≡ 1
 
 -- ---- begin
 

@@ -28,8 +28,8 @@ use Rattle.marker.specs.Answer.{row, Finds}
 use Rattle.marker.specs.Stages.{IsScheduled, scheduled, setupOf, Runnable, Runs, rowOf, Settled, Settling}
 use Rattle.marker.specs.Starting.{Started}
 use Rattle.marker.proofs.Stages.{firstPart, firstAnew, turns-ready, settle-ready, leaves, run-leaves, row-left, passed, answered-refused, answered-fine}
-use Rattle.mark_all.specs.Whole.{enoughRounds, wholeOf, AllMarked, IsStart, DoesRounds}
-use Rattle.mark_all.proofs.Rounds.{rounds-fit, rounds-long, enough-end}
+use Rattle.rounds.specs.Whole.{enoughRounds, wholeOf, AllMarked, IsStart, DoesRounds}
+use Rattle.rounds.proofs.Rounds.{rounds-fit, rounds-long, enough-end}
 
 -- ---- the checks
 

@@ -22,8 +22,8 @@ use Rattle.step.specs.Held.{Memory, settingOf, Holds}
 use Rattle.step.specs.Turned.{Ready}
 use Rattle.marker.specs.Stages.{IsScheduled, scheduled, DoesAll}
 use Rattle.marker.proofs.Loop.{all-ended, entries-few}
-use Rattle.mark_all.specs.Whole.{roundFrom, roundsOf, enoughRounds, IsStart}
-use Rattle.mark_all.proofs.Rounds.{round-fits-alone, round-long, after-one, enough-end, enough-same}
+use Rattle.rounds.specs.Whole.{roundFrom, roundsOf, enoughRounds, IsStart}
+use Rattle.rounds.proofs.Rounds.{round-fits-alone, round-long, after-one, enough-end, enough-same}
 
 module _ {offsets targets : List ℕ} {g : Setup} {μ₀ : Memory} (x : Ready (IsStart g offsets targets) g μ₀) where
   abbrev starts : List ℕ

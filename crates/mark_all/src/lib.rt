@@ -1,53 +1,18 @@
 // The call `mark_all` (SPECIFICATION 15): a collection that is sure to finish, without a schedule.
-pub mod alone;
-
 use desk::Lengths;
 use desk::SavedWords;
 use desk::Settings;
 use marker::Marked;
 use marker::start;
 use refusal::Verdict;
+use rounds::Begun;
 use step::Progress;
-use step::Setup;
 use worker::registers;
-ghost use mathlib.Core.Path.{_≡_};
 ghost use mathlib.Core.List.{[]};
-ghost use Prim.Native.Nat.{_*_, _≤_, _<_};
-ghost use lib.ListN.{length};
-ghost use Rattle.desk.specs.Limits.{most-workers};
 ghost use Rattle.step.specs.Held.{memory};
 ghost use Rattle.step.specs.Turned.{Ready};
 ghost use Rattle.marker.specs.Answer.{callOf};
-ghost use Rattle.mark_all.specs.Whole.{nextOf, roundFrom, AllMarked, IsStart, DoesRounds};
-
-// The bytes of a round of the most workers.
-const ROUND: usize = 32;
-
-// A collection that has begun.
-pub struct Begun {
-    pub setup: Setup,
-    pub progress: Progress,
-}
-
-// Whom worker b names: the next one, and the last one worker 0.
-fn next_of(workers: u32, b: u32) -> u32
-    requires { ⌜ b < workers ⌝ }
-    ensures { λ r. ⌜ r ≡ nextOf workers b ⌝ }
-{
-    if b + 1 < workers { b + 1 } else { 0 }
-}
-
-// Writes a round: a turn of each worker.
-fn put_round(round: &mut [u8], workers: u32)
-    requires { ⌜ (workers ≤ most-workers) × (length (now round) ≡ 2 * workers) ⌝ }
-    ensures { λ _. ⌜ now (round .exit) ≡ roundFrom workers 0 workers ⌝ }
-{
-    for b in 0..workers {
-        let at = 2 * b as usize;
-        round[at] = b as u8;
-        round[at + 1] = next_of(workers, b) as u8;
-    }
-}
+ghost use Rattle.rounds.specs.Whole.{AllMarked, IsStart, DoesRounds};
 
 // Rounds, until all workers have ended.
 fn take_rounds(
@@ -68,8 +33,8 @@ fn take_rounds(
     let setup = begun.setup;
     let workers = setup.workers;
     let size = 2 * workers as usize;
-    let mut round = [0u8; ROUND];
-    put_round(&mut round[..size], workers);
+    let mut round = [0u8; rounds::MOST];
+    rounds::put_round(&mut round[..size], workers);
     let mut p = begun.progress;
     let mut i: u32 = 0;
     while p.running != 0 {

@@ -45,6 +45,18 @@ static struct mark_answer mark_of(const uint32_t *offsets, size_t offsets_len, c
     return a;
 }
 
+struct mark_all_answer { uint32_t number; struct kullneyra_marked answer; };
+static struct mark_all_answer mark_all_of(const uint32_t *offsets, size_t offsets_len, const uint32_t *targets,
+                                          size_t targets_len, const uint32_t *starts, size_t starts_len,
+                                          uint32_t workers, uint32_t batch, uint32_t cutoff, uint8_t *marks,
+                                          size_t marks_len, uint32_t *work, size_t work_len, uint64_t *tallies,
+                                          size_t tallies_len) {
+    struct mark_all_answer a;
+    a.number = kullneyra_mark_all_into(offsets, offsets_len, targets, targets_len, starts, starts_len, workers, batch,
+                                       cutoff, marks, marks_len, work, work_len, tallies, tallies_len, &a.answer);
+    return a;
+}
+
 struct saved_words_answer { uint32_t number; uint64_t answer; };
 static struct saved_words_answer saved_words_of(uint32_t objects, uint32_t workers) {
     struct saved_words_answer a;
@@ -218,7 +230,7 @@ func storeOf(a C.struct_kullneyra_store) Store {
 	}
 }
 
-// Marked, of Mark: what the turns did.
+// Marked, of Mark, MarkAll: what the turns did.
 type Marked struct {
 	Finished bool   // every worker has ended: the marks are exactly the reachable objects
 	Live     uint64 // marked objects
@@ -334,6 +346,21 @@ func Mark(g Graph, starts []uint32, s Settings, schedule []byte, b Buffers) (Mar
 	a := C.mark_of(offsetsAt, offsetsLen, targetsAt, targetsLen, startsAt, startsLen, C.uint32_t(s.Workers),
 		C.uint32_t(s.Batch), C.uint32_t(s.Cutoff), scheduleAt, scheduleLen, marksAt, marksLen, workAt, workLen,
 		talliesAt, talliesLen)
+	return markedOf(a.answer), refused(uint32(a.number))
+}
+
+// MarkAll is a whole collection without a schedule, which is always finished: the workers have their turns in rounds,
+// each asking the next one, until all have ended. Answer, marks, work and tallies are those of Mark with so many
+// rounds. With one worker nobody asks, and its turns are made in rows: the quickest way to mark.
+func MarkAll(g Graph, starts []uint32, s Settings, b Buffers) (Marked, error) {
+	offsetsAt, offsetsLen := u32s(g.Offsets)
+	targetsAt, targetsLen := u32s(g.Targets)
+	startsAt, startsLen := u32s(starts)
+	marksAt, marksLen := u8s(b.Marks)
+	workAt, workLen := u32s(b.Work)
+	talliesAt, talliesLen := u64s(b.Tallies)
+	a := C.mark_all_of(offsetsAt, offsetsLen, targetsAt, targetsLen, startsAt, startsLen, C.uint32_t(s.Workers),
+		C.uint32_t(s.Batch), C.uint32_t(s.Cutoff), marksAt, marksLen, workAt, workLen, talliesAt, talliesLen)
 	return markedOf(a.answer), refused(uint32(a.number))
 }
 

@@ -28,9 +28,9 @@ func TestVersion(t *testing.T) {
 	}
 }
 
-func ExampleMark() {
+func ExampleMarkAll() {
 	b := buffers(6, 1)
-	marked, err := kullneyra.Mark(storeS, []uint32{0}, kullneyra.Settings{Workers: 1, Batch: 2, Cutoff: 1}, make([]byte, 2*40), b)
+	marked, err := kullneyra.MarkAll(storeS, []uint32{0}, kullneyra.Settings{Workers: 1, Batch: 1024, Cutoff: 4096}, b)
 	fmt.Println(marked.Finished, marked.Live, marked.Followed, err)
 	list := make([]uint32, 6)
 	swept, err := kullneyra.Sweep(b.Marks, []uint64{100, 200, 300, 400, 500, 600}, list)
@@ -38,6 +38,13 @@ func ExampleMark() {
 	// Output:
 	// true 4 5 <nil>
 	// [4 5] 1100 <nil>
+}
+
+func ExampleMark() {
+	b := buffers(6, 2)
+	marked, err := kullneyra.Mark(storeS, []uint32{0}, kullneyra.Settings{Workers: 2, Batch: 1, Cutoff: 1}, []byte{0, 0, 1, 0, 0, 0}, b)
+	fmt.Println(marked.Finished, marked.Moved, err)
+	// Output: false 3 <nil>
 }
 
 func ExampleRefusal() {
@@ -200,13 +207,17 @@ func check(rng *rand.Rand) error {
 	if err != nil || !marked.Finished {
 		return fmt.Errorf("finished %v, %v", marked.Finished, err)
 	}
+	whole := buffers(n, workers)
+	if all, err := kullneyra.MarkAll(g, starts, settings, whole); err != nil || !all.Finished || all.Live != marked.Live {
+		return fmt.Errorf("all at once: %+v, %v", all, err)
+	}
 	hops, work := make([]uint32, n), make([]uint32, 2*n)
 	if err := kullneyra.Hops(g, starts, hops, work); err != nil {
 		return err
 	}
 	for v := range reached {
-		if (b.Marks[v] != 0) != reached[v] || (hops[v] != kullneyra.NoHops) != reached[v] {
-			return fmt.Errorf("object %d of %v from %v: mark %d, %d hops, reached %v", v, g, starts, b.Marks[v], hops[v], reached[v])
+		if (b.Marks[v] != 0) != reached[v] || (whole.Marks[v] != 0) != reached[v] || (hops[v] != kullneyra.NoHops) != reached[v] {
+			return fmt.Errorf("object %d of %v from %v: marks %d and %d, %d hops, reached %v", v, g, starts, b.Marks[v], whole.Marks[v], hops[v], reached[v])
 		}
 	}
 	return nil

@@ -332,30 +332,49 @@ func (s *Graph) SeedOrder(seed kullneyra.Seed, workers uint32) (Order, error) {
 // ErrUnfinished is no refusal: the schedule was too short.
 var ErrUnfinished = errors.New("the schedule does not finish the collection, so nothing is known to be dead")
 
-// Dead runs the proved marker and sweep on the store, and answers the numbers of what is dead.
-func (s *Graph) Dead(order Order) ([]uint32, error) {
-	n, workers := len(s.sizes), int(order.Settings.Workers)
-	buffers := kullneyra.Buffers{
+// alone are the settings of one worker, whom nobody asks: the fewest polls.
+var alone = kullneyra.Settings{Workers: 1, Batch: kullneyra.MostSetting, Cutoff: kullneyra.MostSetting}
+
+// Dead runs a whole collection of the proved marker, and the sweep, and answers the numbers of what is dead.
+func (s *Graph) Dead() ([]uint32, error) {
+	buffers := s.buffers(alone)
+	marked, err := kullneyra.MarkAll(s.graph, s.starts, alone, buffers)
+	return s.swept(buffers.Marks, marked, err)
+}
+
+// DeadBy does so by the turns of an order, which may be too few.
+func (s *Graph) DeadBy(order Order) ([]uint32, error) {
+	buffers := s.buffers(order.Settings)
+	marked, err := kullneyra.Mark(s.graph, s.starts, order.Settings, order.Schedule, buffers)
+	return s.swept(buffers.Marks, marked, err)
+}
+
+func (s *Graph) buffers(settings kullneyra.Settings) kullneyra.Buffers {
+	n, workers := len(s.sizes), int(settings.Workers)
+	return kullneyra.Buffers{
 		Marks:   make([]byte, n),
 		Work:    make([]uint32, kullneyra.Work(n, workers)),
 		Tallies: make([]uint64, kullneyra.Tallies(workers)),
 	}
-	marked, err := kullneyra.Mark(s.graph, s.starts, order.Settings, order.Schedule, buffers)
+}
+
+// swept lists what a finished marking did not reach.
+func (s *Graph) swept(marks []byte, marked kullneyra.Marked, err error) ([]uint32, error) {
 	if err != nil {
 		return nil, err
 	}
 	if !marked.Finished {
 		return nil, ErrUnfinished
 	}
-	list := make([]uint32, n)
-	swept, err := kullneyra.Sweep(buffers.Marks, s.sizes, list)
+	list := make([]uint32, len(s.sizes))
+	swept, err := kullneyra.Sweep(marks, s.sizes, list)
 	if err != nil {
 		return nil, err
 	}
 	return list[:swept.Dead], nil
 }
 
-// mark says of each object whether it lives, by a collection of one worker for each slice.
+// mark says of each object whether it lives, by a collection for each slice.
 func (s *Store) mark(ctx context.Context, references []Reference, keep []int, most limits) ([]bool, error) {
 	parts, err := s.slices(references, keep, most)
 	if err != nil {
@@ -370,11 +389,7 @@ func (s *Store) mark(ctx context.Context, references []Reference, keep []int, mo
 		if err != nil {
 			return nil, err
 		}
-		order, err := store.Enough(1)
-		if err != nil {
-			return nil, err
-		}
-		dead, err := store.Dead(order)
+		dead, err := store.Dead()
 		if err != nil {
 			return nil, err
 		}

@@ -625,15 +625,18 @@ func TestLimits(t *testing.T) {
 	if err != nil {
 		t.Fatal(err)
 	}
-	if _, err := read.Dead(oci.RoundRobin(1, 1)); !errors.Is(err, oci.ErrUnfinished) {
+	if _, err := read.DeadBy(oci.RoundRobin(1, 1)); !errors.Is(err, oci.ErrUnfinished) {
 		t.Error("a schedule that does not finish:", err)
+	}
+	if dead, err := read.Dead(); err != nil || len(dead) != 0 {
+		t.Error(dead, err)
 	}
 	for workers := uint32(1); workers <= kullneyra.MostWorkers; workers++ {
 		order, err := read.Enough(workers)
 		if err != nil {
 			t.Fatal(err)
 		}
-		if dead, err := read.Dead(order); err != nil || len(dead) != 0 {
+		if dead, err := read.DeadBy(order); err != nil || len(dead) != 0 {
 			t.Error(workers, dead, err)
 		}
 	}
@@ -642,7 +645,7 @@ func TestLimits(t *testing.T) {
 		if err != nil {
 			t.Fatal(err)
 		}
-		if dead, err := read.Dead(order); err != nil || len(dead) != 0 {
+		if dead, err := read.DeadBy(order); err != nil || len(dead) != 0 {
 			t.Error(workers, dead, err)
 		}
 	}

@@ -9,9 +9,9 @@ from typing import Sequence
 from ._lent import Call, Read, Write
 from ._types import Buffers, Graph, Renewed, Settings
 
-__all__ = ["Header", "Store", "Marked", "Stopped", "Tally", "Swept", "Seed", "header", "read", "mark", "saved_words",
-    "begin", "resume", "sweep", "schedule_length", "deal", "hop_words", "hops", "update_words", "add", "remove",
-    "market_header", "import_", "export_length", "export", "scan_length", "scan"]
+__all__ = ["Header", "Store", "Marked", "Stopped", "Tally", "Swept", "Seed", "header", "read", "mark", "mark_all",
+    "saved_words", "begin", "resume", "sweep", "schedule_length", "deal", "hop_words", "hops", "update_words", "add",
+    "remove", "market_header", "import_", "export_length", "export", "scan_length", "scan"]
 
 _header = Call("header", "bytes: &[u8]", "u32", 3)
 _read = Call(
@@ -25,6 +25,13 @@ _mark = Call(
     "mark",
     "offsets: &[u32], targets: &[u32], starts: &[u32], workers: u32, batch: u32, cutoff: u32, schedule: &[u8],"
     " marks: &mut [u8], work: &mut [u32], tallies: &mut [u64]",
+    "u64",
+    7,
+)
+_mark_all = Call(
+    "mark_all",
+    "offsets: &[u32], targets: &[u32], starts: &[u32], workers: u32, batch: u32, cutoff: u32, marks: &mut [u8],"
+    " work: &mut [u32], tallies: &mut [u64]",
     "u64",
     7,
 )
@@ -113,7 +120,7 @@ class Store:
 
 @dataclass(frozen=True)
 class Marked:
-    """`mark`: what the turns did."""
+    """`mark`, `mark_all`: what the turns did."""
 
     finished: bool  # every worker has ended: the marks are exactly the reachable objects
     live: int  # marked objects
@@ -226,6 +233,16 @@ def mark(graph: Graph, starts: Read, settings: Settings, schedule: Read, buffers
     tallies are four words for each worker, worker 0's first: the fields of `Tally`."""
     return Marked.of(
         _mark(graph.offsets, graph.targets, starts, settings.workers, settings.batch, settings.cutoff, schedule,
+            buffers.marks, buffers.work, buffers.tallies)
+    )
+
+
+def mark_all(graph: Graph, starts: Read, settings: Settings, buffers: Buffers) -> Marked:
+    """A whole collection without a schedule, which is always finished: the workers have their turns in rounds, each
+    asking the next one, until all have ended. Answer, marks, work and tallies are those of `mark` with so many rounds.
+    With one worker nobody asks, and its turns are made in rows: the quickest way to mark."""
+    return Marked.of(
+        _mark_all(graph.offsets, graph.targets, starts, settings.workers, settings.batch, settings.cutoff,
             buffers.marks, buffers.work, buffers.tallies)
     )
 

@@ -13,7 +13,7 @@ use Rattle.marker.specs.Answer.{callOf}
 use Rattle.marker.specs.Stages.{Runnable, Runs}
 use Rattle.marker.proofs.Stages.{firstAnew, front-long, first-stretch, start-ready, workers-few, registers-long, runnable, passed}
 use Rattle.step.specs.Held.{memory}
-use Rattle.mark_all.specs.Whole.{wholeOf, DoesRounds}
+use Rattle.rounds.specs.Whole.{wholeOf, DoesRounds}
 use Rattle.mark_all.proofs.Calling.{finds-whole, begun-ready, whole-settle, whole-runs, all-refused, all-fine}
 use Rattle.mark_all.proofs.mark_all.Statement.{statement}
 use Rattle.mark_all.proofs.mark_all.Tie as tie

@@ -9,8 +9,8 @@ use Rattle.graph.specs.Graph.{Graph, references}
 use Rattle.desk.specs.Limits.{most-workers}
 use Rattle.step.specs.Held.{memory}
 use Rattle.step.specs.Turned.{Ready}
-use Rattle.mark_all.specs.Whole.{roundFrom, IsStart}
-use Rattle.mark_all.proofs.Rounds.{round-long}
+use Rattle.rounds.specs.Whole.{roundFrom, IsStart}
+use Rattle.rounds.proofs.Rounds.{round-long}
 use Rattle.mark_all.proofs.Taking.{RoundsAt, rounds-begun, rounds-most, fewer, round-ready, round-done, rounds-over}
 use Rattle.mark_all.proofs.take_rounds.Statement.{statement}
 use Rattle.mark_all.proofs.take_rounds.Tie as tie

@@ -17,14 +17,14 @@ pub struct Buffers {
     work: Vec<u32>,
     tallies: Vec<u64>,
     list: Vec<u32>,
-    stack: Vec<(u32, u32)>,
+    stack: Vec<u32>,
 }
 
 impl Buffers {
     fn new(graph: &Graph, workers: usize) -> Self {
         let (n, m) = (graph.n(), graph.m());
         let work = kullneyra::lengths::work(n, workers);
-        let mut stack = vec![(1, 1); n + 1];
+        let mut stack = vec![1; n + 1];
         stack.clear();
         Buffers {
             offsets: vec![1; n + 1],
@@ -79,14 +79,17 @@ pub fn read(graph: &Graph, repetitions: usize) -> Times {
 /// The sweep, with the marks of a finished collection.
 pub fn sweep(graph: &Graph, repetitions: usize) -> Times {
     let mut buffers = Buffers::new(graph, 0);
-    reference::depth_first(&graph.offsets, &graph.targets, 0, &mut buffers.marks, &mut buffers.stack);
+    tuned::depth_first(&graph.offsets, &graph.targets, 0, &mut buffers.marks, &mut buffers.stack);
     let proved = |b: &mut Buffers| {
         black_box(kullneyra::sweep(&b.marks, &graph.sizes, &mut b.list)).expect("sizes");
     };
     let reference = |b: &mut Buffers| {
         black_box(reference::sweep(&b.marks, &graph.sizes, &mut b.list)).expect("sizes");
     };
-    Times::of(&medians(&mut buffers, repetitions, [&proved, &reference]))
+    let tuned = |b: &mut Buffers| {
+        black_box(tuned::sweep(&b.marks, &graph.sizes, &mut b.list)).expect("sizes");
+    };
+    Times::of(&medians(&mut buffers, repetitions, [&proved, &reference, &tuned]))
 }
 
 /// The sides of a marking, by their places in its medians.
@@ -192,11 +195,46 @@ pub fn mark(graph: &Graph, settings: Settings, repetitions: usize) -> Marking {
         black_box(run_reference(graph, settings, &turns, b));
     };
     let floor = |b: &mut Buffers| {
-        black_box(reference::depth_first(&graph.offsets, &graph.targets, 0, &mut b.marks, &mut b.stack));
+        black_box(tuned::depth_first(&graph.offsets, &graph.targets, 0, &mut b.marks, &mut b.stack));
     };
     // In the order of the sides' places.
     let medians = medians(&mut buffers, repetitions, [&proved, &tuned, &reference, &floor]);
     Marking { medians, turns: turns.len() / 2, followed: outcome.followed, handed: outcome.handed }
+}
+
+/// Whole collections of one worker: in one call; a plain depth-first marking; the same call tuned; and the marker with as many
+/// rounds as are sure to finish, in a schedule that is there already. All leave the same marks.
+pub fn whole(graph: &Graph, repetitions: usize) -> Medians<4> {
+    let settings = Settings { workers: 1, batch: 1024, cutoff: 4096 };
+    let run = |b: &mut Buffers| {
+        let (Graph { offsets, targets, .. }, Buffers { marks, work, tallies, .. }) = (graph, b);
+        kullneyra::mark_all(offsets, targets, &[0], settings, marks, work, tallies).expect("a call")
+    };
+    let mut buffers = Buffers::new(graph, 1);
+    let marked = run(&mut buffers);
+    let (marks, tallies) = (buffers.marks.clone(), buffers.tallies.clone());
+    let turns = round_robin(1, 7 * marked.followed as usize + 6);
+    assert_eq!(run_proved(graph, settings, &turns, &mut buffers), marked);
+    assert_eq!((&buffers.marks, &buffers.tallies), (&marks, &tallies));
+    let run_tuned = |b: &mut Buffers| {
+        tuned::mark_all(call(graph, settings, &[]), &mut b.marks, &mut b.work, &mut b.tallies).expect("a call")
+    };
+    assert_eq!(run_tuned(&mut buffers).words(), marked.words());
+    let live = tuned::depth_first(&graph.offsets, &graph.targets, 0, &mut buffers.marks, &mut buffers.stack);
+    assert_eq!((live, &buffers.marks), (marked.live, &marks));
+    let all = |b: &mut Buffers| {
+        black_box(run(b));
+    };
+    let floor = |b: &mut Buffers| {
+        black_box(tuned::depth_first(&graph.offsets, &graph.targets, 0, &mut b.marks, &mut b.stack));
+    };
+    let tuned = |b: &mut Buffers| {
+        black_box(run_tuned(b));
+    };
+    let rounds = |b: &mut Buffers| {
+        black_box(run_proved(graph, settings, &turns, b));
+    };
+    medians(&mut buffers, repetitions, [&all, &floor, &tuned, &rounds])
 }
 
 /// A collection that is stopped and taken up, in nanoseconds.

@@ -115,7 +115,15 @@ fn layered(n: usize) -> Graph {
     Graph::new("layered", n, pairs)
 }
 
-pub fn all() -> Vec<Graph> {
-    let (n, m) = (reference::MOST_OBJECTS, reference::MOST_REFERENCES);
+/// One of each kind, with so many objects and, where these are drawn, references.
+fn of_size(n: usize, m: usize) -> Vec<Graph> {
     vec![uniform(n, m), power_law(n, m), chain(n), star(n), layered(n)]
+}
+
+pub fn all() -> Vec<Graph> {
+    of_size(reference::MOST_OBJECTS, reference::MOST_REFERENCES)
+}
+
+pub fn small() -> Vec<Graph> {
+    of_size(1_000, 16_000)
 }

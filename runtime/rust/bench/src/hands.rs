@@ -18,8 +18,9 @@ fn deal(workers: u32, repetitions: usize) -> Times {
     let cards = hand();
     let proved = |schedule: &mut Vec<u8>| black_box(kullneyra::deal(&cards, workers, schedule)).expect("a hand");
     let reference = |schedule: &mut Vec<u8>| black_box(reference::deal(&cards, workers, schedule)).expect("a hand");
+    let tuned = |schedule: &mut Vec<u8>| black_box(tuned::deal(&cards, workers, schedule)).expect("a hand");
     let mut schedule = vec![1; 2 * workers as usize * CARDS];
-    Times::of(&medians(&mut schedule, repetitions, [&proved, &reference]))
+    Times::of(&medians(&mut schedule, repetitions, [&proved, &reference, &tuned]))
 }
 
 fn deal_seed(workers: u32, repetitions: usize) -> Times {
@@ -31,8 +32,12 @@ fn deal_seed(workers: u32, repetitions: usize) -> Times {
         let mut seed = reference::Seed { first: 1, second: 0 };
         black_box(reference::deal_seed(&mut seed, CARDS, workers, schedule)).expect("a seed");
     };
+    let tuned = |schedule: &mut Vec<u8>| {
+        let mut seed = reference::Seed { first: 1, second: 0 };
+        black_box(tuned::deal_seed(&mut seed, CARDS, workers, schedule)).expect("a seed");
+    };
     let mut schedule = vec![1; 2 * workers as usize * CARDS];
-    Times::of(&medians(&mut schedule, repetitions, [&proved, &reference]))
+    Times::of(&medians(&mut schedule, repetitions, [&proved, &reference, &tuned]))
 }
 
 fn rows(names: [&'static str; 3], times: impl Fn(u32) -> Times) -> Vec<CallRow> {

@@ -21,7 +21,7 @@ use graphs::Graph;
 use kullneyra::Settings;
 use std::path::PathBuf;
 use std::{env, fs, io};
-use table::{CallRow, GrowthRow, MarkRow};
+use table::{CallRow, GrowthRow, MarkRow, WholeRow};
 
 const REPETITIONS: usize = 21;
 const WORKERS: [u32; 3] = [1, 4, 16];
@@ -43,6 +43,11 @@ fn mark_rows(graphs: &[Graph], repetitions: usize) -> Vec<MarkRow> {
         eprintln!("bench: marked {}", graph.name);
     }
     rows
+}
+
+fn whole_row(graph: &Graph, repetitions: usize) -> WholeRow {
+    let medians = calls::whole(graph, repetitions);
+    WholeRow { graph: graph.name, objects: graph.n(), references: graph.m(), medians }
 }
 
 fn growth_rows(repetitions: usize) -> Vec<GrowthRow> {
@@ -87,6 +92,8 @@ fn main() -> io::Result<()> {
     eprintln!("bench: read, swept, dealt, counted hops, updated, imported and exported");
     let marks = mark_rows(&graphs, repetitions);
     let stops = stop_rows(&graphs, repetitions);
+    let wholes: Vec<WholeRow> =
+        graphs.iter().chain(&graphs::small()).map(|graph| whole_row(graph, repetitions)).collect();
     let growth = growth_rows(repetitions);
 
     let text = [
@@ -95,6 +102,7 @@ fn main() -> io::Result<()> {
         ),
         table::calls("Reader", "reference", &read),
         table::marks(&marks),
+        table::wholes(&wholes),
         table::calls("Sweep", "object", &sweep),
         table::calls("Schedule of a hand and of a seed", "turn", &deal),
         table::calls("Hops; Rust is a plain queue, tuned the same search on the same bag", "reference", &hops),

@@ -1,6 +1,7 @@
 //! The tables, as Markdown.
 
 use crate::calls::{Marking, Stops, Times, FLOOR, PROVED, REFERENCE, TUNED};
+use crate::measure::Medians;
 use kullneyra::Settings;
 use std::fmt::Write;
 
@@ -76,6 +77,30 @@ pub fn marks(rows: &[MarkRow]) -> String {
             write!(text, " {:.2} |", row.over(side)).expect("text");
         }
         text.push('\n');
+    }
+    text + "\n"
+}
+
+/// One whole collection, in one call.
+pub struct WholeRow {
+    pub graph: &'static str,
+    pub objects: usize,
+    pub references: usize,
+    pub medians: Medians<4>,
+}
+
+const WHOLES_HEAD: &str = "\
+| Store | objects | references | one call, µs | depth-first, µs | : depth-first | : tuned | : mark with enough rounds |
+|---|--:|--:|--:|--:|--:|--:|--:|
+";
+
+pub fn wholes(rows: &[WholeRow]) -> String {
+    let mut text = format!("## A whole collection in one call, W 1, D 1024, K 4096\n\n{WHOLES_HEAD}");
+    for WholeRow { graph, objects, references, medians } in rows {
+        let [all, floor] = [0, 1].map(|side| medians.times[side] / 1_000.0);
+        let [_, over_floor, over_tuned, over_rounds] = medians.over;
+        write!(text, "| {graph} | {objects} | {references} | {all:.1} | {floor:.1} |").expect("text");
+        writeln!(text, " {over_floor:.2} | {over_tuned:.2} | {over_rounds:.2} |").expect("text");
     }
     text + "\n"
 }

@@ -45,7 +45,7 @@ fn spread(below: usize, step: usize) -> Vec<u32> {
 /// The marks of the graph as a finished collection leaves them.
 fn finished(graph: &Graph) -> Vec<u8> {
     let (mut marks, mut stack) = (vec![0; graph.n()], Vec::new());
-    reference::depth_first(&graph.offsets, &graph.targets, 0, &mut marks, &mut stack);
+    tuned::depth_first(&graph.offsets, &graph.targets, 0, &mut marks, &mut stack);
     marks
 }
 

@@ -7,12 +7,13 @@ use crate::sides::{by_hand, number_of, written, Buffers, Renewal};
 use kullneyra::{raw, Schedule, Settings};
 
 impl Call {
-    pub const CALLS: usize = 23;
+    pub const CALLS: usize = 24;
     pub const NAMES: [&'static str; Self::CALLS] = [
         "header",
         "read",
         "references",
         "mark",
+        "mark_all",
         "saved_words",
         "begin",
         "resume",
@@ -39,6 +40,7 @@ impl Call {
         &[0, 1, 2, 3, 4, 5, 6, 7, 13],
         &[0, 7],
         &[0, 4, 5, 7, 8, 9, 10, 13],
+        &[0, 4, 5, 7, 8, 10, 13],
         &[0, 4, 7, 8],
         &[0, 4, 5, 7, 8, 9, 10, 13],
         &[0, 4, 5, 7, 8, 9, 10, 13, 14],
@@ -67,27 +69,28 @@ impl Call {
             Call::Read { .. } => 1,
             Call::References { .. } => 2,
             Call::Mark { .. } => 3,
-            Call::Begin { .. } => 5,
-            Call::Resume { .. } => 6,
-            Call::Sweep { .. } => 7,
-            Call::Deal { .. } => 9,
-            Call::Draw { .. } => 10,
-            Call::DealSeed { .. } => 11,
-            Call::Hops { .. } => 13,
-            Call::Add { .. } => 15,
-            Call::Remove { .. } => 16,
-            Call::MarketHeader { .. } => 17,
-            Call::Import { .. } => 18,
-            Call::ExportLength { .. } => 19,
-            Call::Export { .. } => 20,
-            Call::ScanLength { .. } => 21,
-            Call::Scan { .. } => 22,
+            Call::MarkAll { .. } => 4,
+            Call::Begin { .. } => 6,
+            Call::Resume { .. } => 7,
+            Call::Sweep { .. } => 8,
+            Call::Deal { .. } => 10,
+            Call::Draw { .. } => 11,
+            Call::DealSeed { .. } => 12,
+            Call::Hops { .. } => 14,
+            Call::Add { .. } => 16,
+            Call::Remove { .. } => 17,
+            Call::MarketHeader { .. } => 18,
+            Call::Import { .. } => 19,
+            Call::ExportLength { .. } => 20,
+            Call::Export { .. } => 21,
+            Call::ScanLength { .. } => 22,
+            Call::Scan { .. } => 23,
         }
     }
 
     /// The right length of the result buffer; 0 for a call that has none.
     pub fn result_words(&self) -> usize {
-        [3, 4, 2, 7, 1, 8, 8, 2, 1, 0, 1, 0, 1, 0, 1, 0, 0, 3, 3, 1, 0, 1, 0][self.place()]
+        [3, 4, 2, 7, 7, 1, 8, 8, 2, 1, 0, 1, 0, 1, 0, 1, 0, 0, 3, 3, 1, 0, 1, 0][self.place()]
     }
 }
 
@@ -103,22 +106,22 @@ pub struct NumberCall {
 
 pub static NUMBER_CALLS: [NumberCall; 4] = [
     NumberCall {
-        place: 4,
+        place: 5,
         given: &[("objects", u32::MAX as u64), ("workers", u32::MAX as u64)],
         make: |side, given, result| side.saved_words(given[0] as u32, given[1] as u32, result),
     },
     NumberCall {
-        place: 8,
+        place: 9,
         given: &[("cards", usize::MAX as u64), ("workers", u32::MAX as u64)],
         make: |side, given, result| side.schedule_length(given[0] as usize, given[1] as u32, result),
     },
     NumberCall {
-        place: 12,
+        place: 13,
         given: &[("objects", u32::MAX as u64)],
         make: |side, given, result| side.hop_words(given[0] as u32, result),
     },
     NumberCall {
-        place: 14,
+        place: 15,
         given: &[("objects", u32::MAX as u64)],
         make: |side, given, result| side.update_words(given[0] as u32, result),
     },
@@ -148,6 +151,17 @@ pub trait Side {
 
     fn mark(&self, call: &Mark, marks: &mut [u8], work: &mut [u32], tallies: &mut [u64], result: &mut [u64]) -> u32 {
         plain::mark(call, marks, work, tallies, result)
+    }
+
+    fn mark_all(
+        &self,
+        call: &Mark,
+        marks: &mut [u8],
+        work: &mut [u32],
+        tallies: &mut [u64],
+        result: &mut [u64],
+    ) -> u32 {
+        plain::mark_all(call, marks, work, tallies, result)
     }
 
     fn saved_words(&self, objects: u32, workers: u32, result: &mut [u64]) -> u32 {
@@ -292,6 +306,28 @@ impl Side for Proved {
             call.batch,
             call.cutoff,
             &call.schedule,
+            marks,
+            work,
+            tallies,
+            result,
+        )
+    }
+
+    fn mark_all(
+        &self,
+        call: &Mark,
+        marks: &mut [u8],
+        work: &mut [u32],
+        tallies: &mut [u64],
+        result: &mut [u64],
+    ) -> u32 {
+        raw::mark_all(
+            &call.offsets,
+            &call.targets,
+            &call.starts,
+            call.workers,
+            call.batch,
+            call.cutoff,
             marks,
             work,
             tallies,
@@ -474,6 +510,26 @@ impl Side for Typed {
         written(answer.map(kullneyra::Marked::words), result)
     }
 
+    fn mark_all(
+        &self,
+        call: &Mark,
+        marks: &mut [u8],
+        work: &mut [u32],
+        tallies: &mut [u64],
+        result: &mut [u64],
+    ) -> u32 {
+        let answer = kullneyra::mark_all(
+            &call.offsets,
+            &call.targets,
+            &call.starts,
+            Settings { workers: call.workers, batch: call.batch, cutoff: call.cutoff },
+            marks,
+            work,
+            tallies,
+        );
+        written(answer.map(kullneyra::Marked::words), result)
+    }
+
     fn saved_words(&self, objects: u32, workers: u32, result: &mut [u64]) -> u32 {
         let answer = kullneyra::saved_words(objects, workers);
         written(answer.map(|word| [word]), result)
@@ -644,6 +700,10 @@ impl Side for Untouched {
     }
 
     fn mark(&self, _: &Mark, _: &mut [u8], _: &mut [u32], _: &mut [u64], _: &mut [u64]) -> u32 {
+        WRONG_LENGTH
+    }
+
+    fn mark_all(&self, _: &Mark, _: &mut [u8], _: &mut [u32], _: &mut [u64], _: &mut [u64]) -> u32 {
         WRONG_LENGTH
     }
 

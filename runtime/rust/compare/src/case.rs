@@ -27,6 +27,8 @@ pub enum Call {
         object: u32,
     },
     Mark(Mark),
+    /// Its schedule is empty.
+    MarkAll(Mark),
     Sweep {
         marks: Vec<u8>,
         sizes: Vec<u64>,
@@ -298,7 +300,7 @@ impl fmt::Display for Case {
                 list(f, "targets", targets)?;
                 writeln!(f, "  object {object}")?;
             }
-            Call::Mark(mark) => write!(f, "{mark}")?,
+            Call::Mark(mark) | Call::MarkAll(mark) => write!(f, "{mark}")?,
             Call::Sweep { marks, sizes, list: length } => {
                 list(f, "marks", marks)?;
                 list(f, "sizes", sizes)?;

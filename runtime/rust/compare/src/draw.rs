@@ -10,7 +10,7 @@ use crate::store::{self, Store};
 use reference::{Tally, CARD_WORKERS, LARGEST_SIZE, MOST_LEASES, MOST_OBJECTS, SCAN_WORK, STARTS};
 
 /// The weights of the calls that are not of numbers; each of those has the weight 1.
-const OTHERS: usize = 56;
+const OTHERS: usize = 60;
 
 /// A small case.
 pub fn small(rng: &mut Rng) -> Case {
@@ -34,6 +34,7 @@ pub fn small(rng: &mut Rng) -> Case {
         48 | 49 => export(rng),
         50 | 51 => Call::ScanLength(scan(rng)),
         52..=55 => scan_into(rng),
+        56..=59 => Call::MarkAll(Mark { schedule: Vec::new(), ..mark(rng) }),
         behind => numbers(rng, behind - OTHERS),
     };
     let result = match call.result_words() {

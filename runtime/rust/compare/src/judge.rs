@@ -22,7 +22,22 @@ pub fn judge(case: &Case) -> Result<After, String> {
             same_as_marked(case, side, mark, &got).map_err(|what| format!("{name}, begin against mark: {what}"))?;
         }
     }
+    if let (Call::MarkAll(mark), 0) = (&case.call, got.number) {
+        let rounds = Case { call: Call::Mark(in_rounds(mark)), ..case.clone() };
+        for (name, side) in [("library", &Proved as &dyn Side), ("reference", &Reference)] {
+            same(&rounds, side, &got)
+                .map_err(|what| format!("{name}, mark with enough rounds against mark_all: {what}"))?;
+        }
+    }
     Ok(got)
+}
+
+/// The same call with so many rounds, each worker naming the next one, as are sure to finish.
+fn in_rounds(call: &Mark) -> Mark {
+    let (_, leaving) = reached(&call.offsets, &call.targets, &call.starts);
+    let workers = call.workers as usize;
+    let round: Vec<u8> = (0..workers).flat_map(|b| [b as u8, ((b + 1) % workers) as u8]).collect();
+    Mark { schedule: round.repeat(7 * leaving + 4 * workers + 2), ..call.clone() }
 }
 
 /// Calls in a row leave what one call leaves.
@@ -77,6 +92,7 @@ pub fn demands(case: &Case, got: &After) -> Result<(), String> {
     }
     match &case.call {
         Call::Mark(call) | Call::Begin { mark: call, .. } if got.number == 0 => run_demands(call, got),
+        Call::MarkAll(call) if got.number == 0 => run_demands(&in_rounds(call), got),
         Call::Resume { mark, .. } if got.number == 0 => resumed_demands(mark, got),
         Call::Deal { cards, workers, .. } if got.number == 0 => {
             let schedule: Vec<u8> = got.lent(0).iter().map(|&byte| byte as u8).collect();

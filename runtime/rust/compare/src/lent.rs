@@ -173,7 +173,12 @@ pub fn after(case: &Case, side: &dyn Side) -> After {
         Call::References { offsets, targets, object } => {
             longs_only(case, |result| side.references(offsets, targets, *object, result))
         }
-        Call::Mark(mark) => after_marking(case, side, mark),
+        Call::Mark(mark) => {
+            after_marking(case, mark, |marks, work, tallies, result| side.mark(mark, marks, work, tallies, result))
+        }
+        Call::MarkAll(mark) => {
+            after_marking(case, mark, |marks, work, tallies, result| side.mark_all(mark, marks, work, tallies, result))
+        }
         Call::Begin { mark, saved, .. } => {
             let mut saved = words(*saved, case.fill(4));
             after_saving(case, mark, &mut saved, |lent| side.begin(mark, lent))
@@ -301,10 +306,14 @@ fn after_read(case: &Case, side: &dyn Side, bytes: &[u8], lengths: [usize; 4]) -
     After { number, buffers }
 }
 
-fn after_marking(case: &Case, side: &dyn Side, mark: &Mark) -> After {
+fn after_marking(
+    case: &Case,
+    mark: &Mark,
+    call: impl FnOnce(&mut [u8], &mut [u32], &mut [u64], &mut [u64]) -> u32,
+) -> After {
     let (mut marks, mut work) = (bytes(mark.marks, case.fill(1)), words(mark.work, case.fill(2)));
     let (mut tallies, mut result) = (longs(mark.tallies, case.fill(3)), longs(case.result, case.fill(0)));
-    let number = side.mark(mark, marks.part(), work.part(), tallies.part(), result.part());
+    let number = call(marks.part(), work.part(), tallies.part(), result.part());
     let buffers = vec![
         ("marks", Whole::Bytes(marks.0)),
         ("work", Whole::Words(work.0)),

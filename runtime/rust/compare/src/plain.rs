@@ -68,6 +68,10 @@ pub fn mark(call: &Mark, marks: &mut [u8], work: &mut [u32], tallies: &mut [u64]
     told(result, || reference::mark(call.call(), marks, work, tallies).map(Outcome::words))
 }
 
+pub fn mark_all(call: &Mark, marks: &mut [u8], work: &mut [u32], tallies: &mut [u64], result: &mut [u64]) -> u32 {
+    told(result, || reference::mark_all(call.call(), marks, work, tallies).map(Outcome::words))
+}
+
 pub fn begin(call: &Mark, lent: &mut Buffers<'_>) -> u32 {
     let Buffers { marks, work, tallies, saved, result } = lent;
     told(result, || reference::begin(call.call(), marks, work, tallies, saved).map(Stopped::words))
@@ -87,7 +91,7 @@ pub fn deal(cards: &[u32], workers: u32, schedule: &mut [u8]) -> u32 {
 }
 
 /// What is done with the two words of a seed; another number of them is refused before anything else.
-fn seeded(seed: &mut [u32], call: impl FnOnce(&mut Seed) -> u32) -> u32 {
+pub fn seeded(seed: &mut [u32], call: impl FnOnce(&mut Seed) -> u32) -> u32 {
     let &mut [first, second] = seed else {
         return WRONG_LENGTH;
     };

@@ -1,7 +1,7 @@
 //! The sides of the comparison that are written by hand; `calls` has the others.
 
 use crate::case::Mark;
-use crate::plain::{header_words, number, store_words, told};
+use crate::plain::{header_words, number, seeded, store_words, told};
 use kullneyra::Refusal;
 use reference::Outcome;
 
@@ -74,6 +74,29 @@ impl Side for Tuned {
 
     fn mark(&self, call: &Mark, marks: &mut [u8], work: &mut [u32], tallies: &mut [u64], result: &mut [u64]) -> u32 {
         told(result, || tuned::mark(call.call(), marks, work, tallies).map(Outcome::words))
+    }
+
+    fn mark_all(
+        &self,
+        call: &Mark,
+        marks: &mut [u8],
+        work: &mut [u32],
+        tallies: &mut [u64],
+        result: &mut [u64],
+    ) -> u32 {
+        told(result, || tuned::mark_all(call.call(), marks, work, tallies).map(Outcome::words))
+    }
+
+    fn sweep(&self, marks: &[u8], sizes: &[u64], list: &mut [u32], result: &mut [u64]) -> u32 {
+        told(result, || tuned::sweep(marks, sizes, list).map(|swept| [u64::from(swept.count), swept.freed]))
+    }
+
+    fn deal(&self, cards: &[u32], workers: u32, schedule: &mut [u8]) -> u32 {
+        number(tuned::deal(cards, workers, schedule))
+    }
+
+    fn deal_seed(&self, seed: &mut [u32], rounds: usize, workers: u32, schedule: &mut [u8]) -> u32 {
+        seeded(seed, |seed| number(tuned::deal_seed(seed, rounds, workers, schedule)))
     }
 
     fn hops(&self, offsets: &[u32], targets: &[u32], starts: &[u32], hops: &mut [u32], work: &mut [u32]) -> u32 {

@@ -50,6 +50,8 @@ enum Fault {
     SinceNotLooked,
     /// The last worker of a round asks itself.
     LastAsksItself,
+    /// A whole collection does not count the turn in which the last worker ends.
+    LastTurnForgotten,
     /// A refused draw moves the second word.
     RefusedSeedMoved,
     /// The seed is moved by one draw too few.
@@ -115,6 +117,21 @@ impl Side for Fault {
         }
         if *self == Fault::OwnersForgotten && number == 0 {
             marks.iter_mut().for_each(|mark| *mark = (*mark).min(1));
+        }
+        number
+    }
+
+    fn mark_all(
+        &self,
+        call: &Mark,
+        marks: &mut [u8],
+        work: &mut [u32],
+        tallies: &mut [u64],
+        result: &mut [u64],
+    ) -> u32 {
+        let number = Reference.mark_all(call, marks, work, tallies, result);
+        if *self == Fault::LastTurnForgotten && number == 0 {
+            result[5] -= 1;
         }
         number
     }
@@ -295,6 +312,7 @@ fn faults_are_found() {
     assert!(found(Fault::MovedNotLooked).is_some());
     assert!(found(Fault::SinceNotLooked).is_some());
     assert!(found(Fault::LastAsksItself).is_some());
+    assert!(found(Fault::LastTurnForgotten).is_some());
     assert!(found(Fault::RefusedSeedMoved).is_some());
     assert!(found(Fault::SeedOneDrawBehind).is_some());
     assert!(found(Fault::FarthestLost).is_some());

@@ -22,10 +22,11 @@ enum Kind {
 use Kind::{Bytes, Longs, Numbers, UpTo, Words};
 
 /// The calls but for those of numbers, and the lists of each.
-const FORMS: [(&str, &[Kind]); 14] = [
+const FORMS: [(&str, &[Kind]); 15] = [
     ("read", &[Bytes, Words, Words, Longs, Words]),
     ("references", &[Words, Words, Numbers(1)]),
     ("mark", &[Words, Words, Words, Numbers(3), Bytes, Bytes, Words, Longs]),
+    ("mark_all", &[Words, Words, Words, Numbers(3), Bytes, Words, Longs]),
     ("begin", &[Words, Words, Words, Numbers(3), Bytes, Bytes, Words, Longs, Words]),
     ("resume", &[Words, Words, Words, Numbers(3), Bytes, Bytes, Words, Longs, Words]),
     ("sweep", &[Bytes, Longs, Words]),
@@ -214,11 +215,22 @@ fn marked(number: u32, result: &[u64]) -> Result<String, String> {
     }
 }
 
+/// Where the lists that are lent to the marker begin: behind the schedule, where the call has one.
+fn lent_at(case: &Case) -> usize {
+    if case.call == "mark_all" {
+        4
+    } else {
+        5
+    }
+}
+
 /// What the marker reads. What is lent to it has the lengths of the line.
 fn marking(case: &Case) -> Mark {
     let [workers, batch, cutoff] = case.numbers(3);
-    let (offsets, targets, starts, schedule) = (case.words(0), case.words(1), case.words(2), case.bytes(4));
-    let (marks, work, tallies) = (case.lists[5].len(), case.lists[6].len(), case.lists[7].len());
+    let (offsets, targets, starts) = (case.words(0), case.words(1), case.words(2));
+    let lent = lent_at(case);
+    let schedule = if lent > 4 { case.bytes(4) } else { Vec::new() };
+    let [marks, work, tallies] = [0, 1, 2].map(|i| case.lists[lent + i].len());
     Mark { offsets, targets, starts, workers, batch, cutoff, schedule, marks, work, tallies }
 }
 
@@ -243,10 +255,14 @@ fn parts(side: &dyn Side, case: &Case) -> Result<Vec<String>, String> {
             let references = targets.get(start..start + length).ok_or(format!("{part:?} is no part of the targets"))?;
             vec![verdict("", number), shown(references)]
         }
-        "mark" => {
+        "mark" | "mark_all" => {
             let (call, mut result) = (marking(case), unwritten::<u64, { Outcome::WORDS }>());
-            let (mut marks, mut work, mut tallies) = (case.bytes(5), case.words(6), case.longs(7));
-            let number = side.mark(&call, &mut marks, &mut work, &mut tallies, &mut result);
+            let lent = lent_at(case);
+            let (mut marks, mut work, mut tallies) = (case.bytes(lent), case.words(lent + 1), case.longs(lent + 2));
+            let number = match case.call {
+                "mark" => side.mark(&call, &mut marks, &mut work, &mut tallies, &mut result),
+                _ => side.mark_all(&call, &mut marks, &mut work, &mut tallies, &mut result),
+            };
             vec![marked(number, &result)?, shown(&marks), shown(&work), shown(&tallies)]
         }
         "begin" | "resume" => {

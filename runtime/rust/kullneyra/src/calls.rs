@@ -69,7 +69,7 @@ impl Store {
     }
 }
 
-/// [`mark`]: what the turns did.
+/// [`mark`], [`mark_all`]: what the turns did.
 #[derive(Clone, Copy, Debug, Default, PartialEq, Eq)]
 #[non_exhaustive]
 pub struct Marked {
@@ -267,6 +267,34 @@ pub fn mark(
         settings.batch,
         settings.cutoff,
         schedule.0,
+        marks,
+        work,
+        tallies,
+        &mut result,
+    ))?;
+    Ok(Marked::from_words(result))
+}
+
+/// A whole collection without a schedule, which is always finished: the workers have their turns in rounds, each asking
+/// the next one, until all have ended. Answer, marks, work and tallies are those of [`mark`] with so many rounds. With
+/// one worker nobody asks, and its turns are made in rows: the quickest way to mark.
+pub fn mark_all(
+    offsets: &[u32],
+    targets: &[u32],
+    starts: &[u32],
+    settings: Settings,
+    marks: &mut [u8],
+    work: &mut [u32],
+    tallies: &mut [u64],
+) -> Result<Marked, Refusal> {
+    let mut result = [0; Marked::WORDS];
+    answer(raw::mark_all(
+        offsets,
+        targets,
+        starts,
+        settings.workers,
+        settings.batch,
+        settings.cutoff,
         marks,
         work,
         tallies,

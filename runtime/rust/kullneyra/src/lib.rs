@@ -20,8 +20,8 @@
 //! # One collection
 //!
 //! ```
-//! use kullneyra::{header, lengths, mark, read, references, sweep, tallies};
-//! use kullneyra::{Schedule, Settings, Turn, STARTS};
+//! use kullneyra::{header, lengths, mark_all, read, references, sweep, tallies};
+//! use kullneyra::{Settings, STARTS};
 //!
 //! // Two objects, 0 and 1, and the reference 0→0: object 1 hangs on nothing.
 //! let catalogue = [
@@ -40,10 +40,8 @@
 //! assert_eq!(references(&offsets, &targets, 0), [0]);
 //!
 //! let settings = Settings { workers: 1, batch: 64, cutoff: 64 };
-//! let turns = [Turn { worker: 0, asked: 0 }; 3];
 //! let (mut marks, mut work, mut words) = ([0; 2], [0; lengths::work(2, 1)], [0; lengths::tallies(1)]);
-//! let schedule = Schedule::new(&turns);
-//! let marked = mark(&offsets, &targets, starts, settings, schedule, &mut marks, &mut work, &mut words)?;
+//! let marked = mark_all(&offsets, &targets, starts, settings, &mut marks, &mut work, &mut words)?;
 //! assert!(marked.finished);
 //! for (worker, tally) in tallies(&words).enumerate() {
 //!     assert_eq!((worker, tally.followed, tally.won), (0, 1, 0));
@@ -57,7 +55,7 @@
 //!
 //! # Stop and go on
 //!
-//! [`begin`] marks as [`mark`] does and saves the collection; [`resume`] takes it up, in the same process or, from
+//! [`mark`] takes the turns of a schedule, which the caller makes; [`begin`] marks as [`mark`] does and saves the collection; [`resume`] takes it up, in the same process or, from
 //! words that were kept in a file, in another. However the turns are parted, the collection ends as one call ends it.
 //!
 //! ```

@@ -49,6 +49,25 @@ mod c {
             result: *mut u64,
             result_len: usize,
         ) -> u32;
+        pub fn kullneyra_mark_all(
+            offsets: *const u32,
+            offsets_len: usize,
+            targets: *const u32,
+            targets_len: usize,
+            starts: *const u32,
+            starts_len: usize,
+            workers: u32,
+            batch: u32,
+            cutoff: u32,
+            marks: *mut u8,
+            marks_len: usize,
+            work: *mut u32,
+            work_len: usize,
+            tallies: *mut u64,
+            tallies_len: usize,
+            result: *mut u64,
+            result_len: usize,
+        ) -> u32;
         pub fn kullneyra_saved_words(objects: u32, workers: u32, result: *mut u64, result_len: usize) -> u32;
         pub fn kullneyra_begin(
             offsets: *const u32,
@@ -322,6 +341,44 @@ pub fn mark(
             cutoff,
             schedule.as_ptr(),
             schedule.len(),
+            marks.as_mut_ptr(),
+            marks.len(),
+            work.as_mut_ptr(),
+            work.len(),
+            tallies.as_mut_ptr(),
+            tallies.len(),
+            result.as_mut_ptr(),
+            result.len(),
+        )
+    }
+}
+
+/// [`crate::mark_all`] on words. Result words: finished, live, followed, handed, refused, moved, carrying.
+#[allow(clippy::too_many_arguments)]
+pub fn mark_all(
+    offsets: &[u32],
+    targets: &[u32],
+    starts: &[u32],
+    workers: u32,
+    batch: u32,
+    cutoff: u32,
+    marks: &mut [u8],
+    work: &mut [u32],
+    tallies: &mut [u64],
+    result: &mut [u64],
+) -> u32 {
+    // SAFETY: each pointer comes with the length of its own slice, and a slice that is written overlaps no other.
+    unsafe {
+        c::kullneyra_mark_all(
+            offsets.as_ptr(),
+            offsets.len(),
+            targets.as_ptr(),
+            targets.len(),
+            starts.as_ptr(),
+            starts.len(),
+            workers,
+            batch,
+            cutoff,
             marks.as_mut_ptr(),
             marks.len(),
             work.as_mut_ptr(),

@@ -185,6 +185,11 @@ impl<'a> Machine<'a> {
         }
     }
 
+    /// Every worker has ended.
+    fn is_over(&self) -> bool {
+        self.workers.iter().all(|one| one.status == Status::Ended)
+    }
+
     /// Writes out the stretches and the tallies; what is answered.
     pub fn leave(&self, work: &mut [u32], tallies: &mut [u64]) -> Outcome {
         let stretch = 2 * self.marks.len() + 4;
@@ -201,7 +206,7 @@ impl<'a> Machine<'a> {
 
     pub fn outcome(&self) -> Outcome {
         Outcome {
-            finished: self.workers.iter().all(|one| one.status == Status::Ended),
+            finished: self.is_over(),
             live: self.marks.iter().filter(|&&mark| mark != 0).count() as u64,
             followed: self.followed,
             handed: self.handed,
@@ -413,33 +418,17 @@ pub fn mark(call: Call<'_>, marks: &mut [u8], work: &mut [u32], tallies: &mut [u
     Ok(machine.leave(work, tallies))
 }
 
-/// The floor of the benchmark: a plain depth-first marking, with no workers and no turns.
-pub fn depth_first(offsets: &[u32], targets: &[u32], index: u32, marks: &mut [u8], stack: &mut Vec<Run>) -> u64 {
-    marks.fill(0);
-    marks[index as usize] = 1;
-    let mut live = 1;
-    stack.clear();
-    stack.push((offsets[index as usize], offsets[index as usize + 1]));
-    while let Some((first, end)) = stack.pop() {
-        let mut e = first;
-        while e < end {
-            let target = targets[e as usize] as usize;
-            e += 1;
-            if marks[target] == 0 {
-                marks[target] = 1;
-                live += 1;
-                let run = (offsets[target], offsets[target + 1]);
-                if run.0 < run.1 {
-                    if e < end {
-                        stack.push((e, end));
-                    }
-                    stack.push(run);
-                    break;
-                }
-            }
-        }
+/// A whole collection, SPECIFICATION 15: rounds of all workers, each naming the next one, until all have ended. The schedule
+/// of the call is not looked at.
+pub fn mark_all(call: Call<'_>, marks: &mut [u8], work: &mut [u32], tallies: &mut [u64]) -> Result<Outcome, u8> {
+    let call = Call { schedule: &[], ..call };
+    check(call, marks.len(), work.len(), tallies.len(), true)?;
+    let round: Vec<u8> = (0..call.workers).flat_map(|b| [b as u8, ((b + 1) % call.workers) as u8]).collect();
+    let mut machine = Machine::start(call, marks);
+    while !machine.is_over() {
+        machine.run(&round);
     }
-    live
+    Ok(machine.leave(work, tallies))
 }
 
 #[cfg(test)]
@@ -503,6 +492,21 @@ mod tests {
         };
         let outcome = mark(call, &mut marks, &mut work, &mut words).unwrap();
         assert_eq!(outcome.words(), [1, 2, 4, 2, 0, 16, 0]);
+    }
+
+    /// Store S in one call: with one worker case D, with two 14 rounds.
+    #[test]
+    fn whole() {
+        let marked = |workers: u32, batch: u32| {
+            let (mut marks, mut work) = (vec![7; 6], vec![9; 16 * workers as usize]);
+            let mut words = vec![5; 4 * workers as usize];
+            let call =
+                Call { offsets: &OFFSETS, targets: &TARGETS, starts: &[0], workers, batch, cutoff: 1, schedule: &[] };
+            mark_all(call, &mut marks, &mut work, &mut words).unwrap().words()
+        };
+        assert_eq!(marked(1, 2), [1, 4, 5, 0, 0, 12, 0]);
+        let [finished, live, followed, .., carrying] = marked(2, 1);
+        assert_eq!([finished, live, followed, carrying], [1, 4, 5, 0]);
     }
 
     #[test]

@@ -11,16 +11,22 @@
 //! - Nothing is counted at a turn that can be worked out at the end.
 //! - The words behind the runs are cleared once, at the end, and there are no turns after the last worker has ended.
 
+mod cards;
 mod check;
+mod floor;
 mod hops;
 mod market;
 mod read;
 mod scan;
+mod sweep;
 
+pub use cards::{deal, deal_seed};
+pub use floor::depth_first;
 pub use hops::hops;
 pub use market::{export, import};
 pub use read::read;
 pub use scan::{scan, scan_length};
+pub use sweep::sweep;
 
 use reference::{Call, Outcome, Tally};
 
@@ -366,6 +372,61 @@ impl Machine<'_> {
         moved
     }
 
+    /// Rounds of all workers, each naming the next, until the last one has ended; how many turns changed something.
+    fn rounds(&mut self) -> u64 {
+        let mut moved = 0;
+        loop {
+            for b in 0..=self.highest {
+                let next = if b < self.highest { b + 1 } else { 0 };
+                match self.turn(b, next) {
+                    Turned::Nothing => {}
+                    Turned::Something => moved += 1,
+                    Turned::Last => return moved + 1,
+                }
+            }
+        }
+    }
+
+    /// The same of one worker alone: a run is followed as far as the batch goes.
+    fn rows(&mut self) -> u64 {
+        let Machine { offsets, targets, marks, work, .. } = self;
+        let worker = &mut self.workers[0];
+        let (mut first, mut end, mut top) = (worker.first, worker.end, worker.top as usize);
+        let (mut carried, mut batch, mut polls, mut followed, mut won) = (worker.carried, 0, 0u32, 0, 0);
+        while first < end {
+            if batch == 0 {
+                batch = self.batch.min(carried);
+                carried -= batch;
+                polls += 1;
+            }
+            let until = first + batch.min(end - first);
+            for &target in &targets[first as usize..until as usize] {
+                let target = target as usize;
+                if marks[target] == 0 {
+                    marks[target] = 1;
+                    won += 1;
+                    let (from, to) = (offsets[target], offsets[target + 1]);
+                    if from < to {
+                        work[top] = from;
+                        work[top + 1] = to;
+                        top += 2;
+                        carried += to - from;
+                    }
+                }
+            }
+            followed += until - first;
+            batch -= until - first;
+            first = until;
+            if first == end && top > 0 {
+                top -= 2;
+                (first, end) = (work[top], work[top + 1]);
+            }
+        }
+        *worker = Worker { status: ENDED, taken: followed, won, ..Worker::default() };
+        self.counts = Counts { refused: 0, carrying: 0, awake: 0 };
+        u64::from(followed) + u64::from(won) + u64::from(polls) + 1
+    }
+
     /// Writes the run being followed on top of each stretch, clears what stands behind, and writes the tallies; their
     /// sum.
     fn settle(&mut self, stretch: usize, tallies: &mut [u64]) -> Tally {
@@ -390,45 +451,74 @@ impl Machine<'_> {
     }
 }
 
+/// A collection before its first turn.
+struct Begun<'a> {
+    machine: Machine<'a>,
+    stretch: usize,
+    /// How many objects the starts are.
+    distinct: u64,
+}
+
+impl<'a> Begun<'a> {
+    fn start(call: Call<'a>, marks: &'a mut [u8], work: &'a mut [u32]) -> Self {
+        let Call { offsets, targets, starts, workers, batch, cutoff, .. } = call;
+        let stretch = 2 * (offsets.len() - 1) + 4;
+        let mut blocks = Workers::default();
+        for (b, worker) in blocks.iter_mut().enumerate() {
+            worker.base = (b * stretch) as u32;
+            worker.top = worker.base;
+        }
+        marks.fill(0);
+        let mut at = stretch;
+        let mut distinct = 0;
+        for v in starts.iter().map(|&start| start as usize) {
+            if std::mem::replace(&mut marks[v], 1) != 0 {
+                continue;
+            }
+            distinct += 1;
+            let (from, to) = (offsets[v], offsets[v + 1]);
+            if from < to {
+                blocks[0].carried += to - from;
+                at -= 2;
+                work[at] = from;
+                work[at + 1] = to;
+            }
+        }
+        if at < stretch {
+            blocks[0].aim(work[stretch - 2], work[stretch - 1], targets);
+            blocks[0].status = POLL;
+            blocks[0].top += (stretch - 2 - at) as u32;
+            work.copy_within(at..stretch - 2, 0);
+        }
+        blocks[0].taken = blocks[0].carried;
+        let counts = Counts { refused: 0, carrying: u32::from(at < stretch), awake: workers };
+        let (highest, ring) = (workers as u8 - 1, Ring { holder: 0, token: false, black: 0 });
+        let machine = Machine { offsets, targets, batch, cutoff, marks, work, workers: blocks, highest, ring, counts };
+        Begun { machine, stretch, distinct }
+    }
+
+    /// What it comes to after so many turns that changed something.
+    fn answer(mut self, moved: u64, tallies: &mut [u64]) -> Outcome {
+        let Tally { followed, won, handed, .. } = self.machine.settle(self.stretch, tallies);
+        let Counts { refused, carrying, awake } = self.machine.counts;
+        let (live, carrying) = (self.distinct + won, u64::from(carrying));
+        Outcome { finished: awake == 0, live, followed, handed, refused, moved, carrying }
+    }
+}
+
 /// The marker's call: the counts, or the number of the refusal.
 pub fn mark(call: Call<'_>, marks: &mut [u8], work: &mut [u32], tallies: &mut [u64]) -> Result<Outcome, u8> {
     check::call(call, marks.len(), work.len(), tallies.len())?;
-    let Call { offsets, targets, starts, workers, batch, cutoff, schedule } = call;
-    let stretch = 2 * (offsets.len() - 1) + 4;
-    let mut blocks = Workers::default();
-    for (b, worker) in blocks.iter_mut().enumerate() {
-        worker.base = (b * stretch) as u32;
-        worker.top = worker.base;
-    }
-    marks.fill(0);
-    let mut at = stretch;
-    let mut distinct = 0;
-    for v in starts.iter().map(|&start| start as usize) {
-        if std::mem::replace(&mut marks[v], 1) != 0 {
-            continue;
-        }
-        distinct += 1;
-        let (from, to) = (offsets[v], offsets[v + 1]);
-        if from < to {
-            blocks[0].carried += to - from;
-            at -= 2;
-            work[at] = from;
-            work[at + 1] = to;
-        }
-    }
-    if at < stretch {
-        blocks[0].aim(work[stretch - 2], work[stretch - 1], targets);
-        blocks[0].status = POLL;
-        blocks[0].top += (stretch - 2 - at) as u32;
-        work.copy_within(at..stretch - 2, 0);
-    }
-    blocks[0].taken = blocks[0].carried;
-    let counts = Counts { refused: 0, carrying: u32::from(at < stretch), awake: workers };
-    let (highest, ring) = (workers as u8 - 1, Ring { holder: 0, token: false, black: 0 });
-    let mut machine = Machine { offsets, targets, batch, cutoff, marks, work, workers: blocks, highest, ring, counts };
-    let moved = machine.turns(schedule);
-    let Tally { followed, won, handed, .. } = machine.settle(stretch, tallies);
-    let Counts { refused, carrying, awake } = machine.counts;
-    let (live, carrying) = (distinct + won, u64::from(carrying));
-    Ok(Outcome { finished: awake == 0, live, followed, handed, refused, moved, carrying })
+    let mut begun = Begun::start(call, marks, work);
+    let moved = begun.machine.turns(call.schedule);
+    Ok(begun.answer(moved, tallies))
+}
+
+/// A whole collection: rounds of several workers, or one worker's turns in rows.
+pub fn mark_all(call: Call<'_>, marks: &mut [u8], work: &mut [u32], tallies: &mut [u64]) -> Result<Outcome, u8> {
+    let call = Call { schedule: &[], ..call };
+    check::call(call, marks.len(), work.len(), tallies.len())?;
+    let mut begun = Begun::start(call, marks, work);
+    let moved = if call.workers == 1 { begun.machine.rows() } else { begun.machine.rounds() };
+    Ok(begun.answer(moved, tallies))
 }

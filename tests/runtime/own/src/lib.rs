@@ -2,7 +2,7 @@
 //! `match` on a refusal that must have a way for those still to come.
 #![deny(unreachable_patterns)]
 
-use kullneyra::{header, lengths, mark, read, sweep, Refusal, Schedule, Settings, Turn, STARTS};
+use kullneyra::{header, lengths, mark_all, read, sweep, Refusal, Settings, STARTS};
 use std::error::Error;
 
 /// What to do about a refusal.
@@ -28,7 +28,7 @@ pub fn advice(refusal: Refusal) -> Advice {
     }
 }
 
-/// The dead objects of a catalogue, found by one worker in as many turns as any order needs.
+/// The dead objects of a catalogue, found by one worker.
 pub fn dead(catalogue: &[u8]) -> Result<Vec<u32>, Box<dyn Error>> {
     let head = header(catalogue)?;
     let (n, m) = (head.objects as usize, head.references as usize);
@@ -37,10 +37,8 @@ pub fn dead(catalogue: &[u8]) -> Result<Vec<u32>, Box<dyn Error>> {
     let store = read(catalogue, &mut offsets, &mut targets, &mut sizes, &mut starts)?;
     let starts = &starts[..store.starts as usize];
     let settings = Settings { workers: 1, batch: 64, cutoff: 64 };
-    let turns = vec![Turn { worker: 0, asked: 0 }; 7 * m + 1];
     let (mut marks, mut work, mut tallies) = (vec![0; n], vec![0; lengths::work(n, 1)], [0; lengths::tallies(1)]);
-    let schedule = Schedule::new(&turns);
-    let marked = mark(&offsets, &targets, starts, settings, schedule, &mut marks, &mut work, &mut tallies)?;
+    let marked = mark_all(&offsets, &targets, starts, settings, &mut marks, &mut work, &mut tallies)?;
     assert!(marked.finished);
     let mut list = vec![0; n];
     let swept = sweep(&marks, &sizes, &mut list)?;
