@@ -56,6 +56,9 @@ return { letters, boxes: [...document.querySelectorAll('#boxes .box > rect:first
          map: seen(document.getElementById('map')), scale: Course.map.scale(), editor: document.getElementById('text').checkVisibility() };
 """
 # Until so many turns are drawn; whether they were in time.
+# How long a page may take to look as it is stored, in seconds.
+SETTLED = 15
+
 TURN = """
 const drawing = document.getElementById('drawing'), wanted = String(arguments[0]);
 return new Promise((done) => {
@@ -113,6 +116,7 @@ class Page(unittest.TestCase):
         self.browser.get("about:blank")
         self.browser.get(self.where)
         self.turn(0)
+        self.whole()
 
     def tearDown(self):
         """No error in the console, but what a test is about. What the page keeps over a reload does not reach the next test."""
@@ -140,6 +144,10 @@ class Page(unittest.TestCase):
         """Waits until so many turns are drawn."""
         if not self.js(TURN, number):
             self.fail(f"turn {number} is not drawn, but {self.shown()}")
+
+    def whole(self):
+        """Waits until all turns of the case are known: before that, a later one cannot be shown."""
+        self.wait(lambda: self.js("return Boolean(Course.run && Course.run.done)"))
 
     def write(self, text, turn=0):
         """Puts a case into the editor and runs it."""
@@ -649,6 +657,7 @@ class Page(unittest.TestCase):
                     self.speak(language)
                     self.write(FOUR_BOXES, 50)
                     self.turn(50)
+                    self.whole()
                     self.wait(lambda: self.js("return document.querySelectorAll('#map g[data-v]').length") == 40)
                     self.js("document.getElementById('writing').open = false; Course.redraw()")
                     for number in (50, 51, 9, handed):
@@ -674,6 +683,10 @@ class Page(unittest.TestCase):
             (Path(os.environ["SCREENSHOTS"]) / f"{name}.png").write_bytes(png)
         if os.environ.get("PICTURES") == "store":
             pictures.store(name, png)
+        until = time.monotonic() + SETTLED
+        while pictures.fault(name, png) and time.monotonic() < until:  # what a busy machine sets or paints late
+            time.sleep(0.1)
+            png = self.picture(wide, high)
         self.assertEqual(pictures.fault(name, png), "")
         for hidden in ("#boxes .arrow.fresh", "#boxes .load.fresh", "#boxes [data-box='2']"):
             self.js("document.querySelector(arguments[0]).style.visibility = 'hidden'", hidden)
