@@ -38,7 +38,6 @@ MOST_NOT_RUN = 5
 COPIED = ("bin/collect", "bin/deck", "staticlib", "course", "stamp")
 LINKED = ("rlib",)
 NEEDED = ("bin/collect", "staticlib/libkullneyra.a", "stamp/collect")
-LEFT_OUT = {".git", "__pycache__"}
 SECONDS = 300  # for one block; all of them take less than a minute
 
 FENCE = re.compile(r"^```(.*)$")
@@ -146,7 +145,7 @@ def plan(top: Path) -> list[Step]:
 
 def copy(top: Path, place: Path) -> None:
     """The repository's files with their times, and of target/ what the gate made."""
-    shutil.copytree(top, place, symlinks=True, ignore=lambda folder, _: LEFT_OUT | ({"target"} if Path(folder) == top else set()))
+    shutil.copytree(top, place, symlinks=True, ignore=shutil.ignore_patterns(".git", "__pycache__", "target"))
     for name in COPIED:
         source, to = top / "target" / name, place / "target" / name
         to.parent.mkdir(parents=True, exist_ok=True)
