@@ -1,6 +1,7 @@
 #!/usr/bin/env python3
 """Dead wood of crates/: names that a file imports and does not use, definitions and lemmas that nothing cites, arrows of
-crates.txt that no file of the crate needs; and files of specs/ and contracts that cite proofs/.
+crates.txt that no file of the crate needs; files of specs/ and contracts that cite proofs/; and more functions with many
+parameters than there may be: they are dear to prove, and hard to call rightly.
 
 Files are read as text, name by name. Where a local name is spelled like an imported one, the text does not tell which of
 the two is meant, and the import counts as used. What a must-fail edit writes into a file counts as written there, so that
@@ -35,6 +36,10 @@ NO_CODE = re.compile(r"""//[^\n]*|b?'(?:\\.|[^\\'])'|b?"(?:\\.|[^\\"])*\"""")
 CLAUSE = re.compile(r"\b(?:requires|ensures)\s*\{")
 GHOST = re.compile(r"^ghost (use [^;]*);", re.MULTILINE)
 BROUGHT = re.compile(r"^use ([\w:]+?)(?: as (\w+))?;", re.MULTILINE)
+
+# A function's name and its parameters, of which WIDE are many; so many functions may have as many.
+FUNCTION = re.compile(r"\bfn (\w+)(?:<[^>]*>)?\(([^)]*)\)")
+WIDE, MOST_WIDE = 8, 15
 
 
 class Token(NamedTuple):
@@ -366,12 +371,26 @@ def upwards(found: Iterable[File]) -> Iterator[str]:
                     yield f"crates/{file.path}:{line}: what is promised cites {module}"
 
 
+def wide(top: Path) -> Iterator[str]:
+    """Functions with many parameters, where there are more of them than there may be."""
+    found = []
+    for path in sorted(top.glob("crates/*/src/*.rt")):
+        code = NO_CODE.sub("", path.read_text(encoding="utf-8"))
+        for function in FUNCTION.finditer(code):
+            if function[2].count(":") >= WIDE:
+                line = code.count("\n", 0, function.start()) + 1
+                found.append(f"{path.relative_to(top)}:{line}: {function[1]} has {function[2].count(':')} parameters")
+    if len(found) > MOST_WIDE:
+        yield from found
+
+
 def faults(top: Path) -> Iterator[str]:
     found = files(top)
     yield from unused(found)
     yield from uncited(top, found)
     yield from arrows(top, found)
     yield from upwards(found)
+    yield from wide(top)
 
 
 def main() -> int:

@@ -254,6 +254,15 @@ class Dead(unittest.TestCase):
         self.write(CODE, text.replace("r ≡ result", "Same r r → r ≡ result"))
         self.assertEqual(self.faults(), [[f"{CODE}:2", "what is promised cites Rattle.below.proofs.Laws"]])
 
+    def test_wide(self):
+        eight = ",\n    ".join(f"{name}: &[u32; 4]" for name in "abcdefgh")
+        function = "fn wide(\n    {}\n) {{\n}}\n\n"
+        self.write("crates/below/src/lib.rt", function.format(eight) * crates.MOST_WIDE)
+        self.found()
+        self.write("crates/below/src/lib.rt", function.format(eight) * (crates.MOST_WIDE + 1) + function.format(eight[14:]))
+        self.assertIn(["crates/below/src/lib.rt:13", "wide has 8 parameters"], self.faults())
+        self.assertEqual(len(self.faults()), crates.MOST_WIDE + 1)
+
     def test_this_tree(self):
         """Every file of the repository can be read."""
         self.assertTrue(crates.files(crates.TOP))

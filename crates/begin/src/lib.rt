@@ -6,6 +6,7 @@ use desk::SavedWords;
 use desk::Settings;
 use desk::places;
 use marker::Marked;
+use marker::start;
 use refusal::Refusal;
 use refusal::Verdict;
 use worker::registers;
@@ -60,21 +61,25 @@ pub fn begin(
     if let Verdict::Faulty(cause) = verdict {
         return Marked::Refused(cause);
     }
+    let setup = marker::setup_of(settings, offsets.len() - 1);
     let workers = settings.workers;
     let mut registers = [0u32; registers::ALL];
     let size = registers::BLOCK * workers as usize;
     let regs = &mut registers[..size];
-    let p = marker::run(
+    let begun = start::start(offsets, targets, starts, setup, marks, work, regs);
+    slices::clear_u64s(tallies);
+    let p = marker::take_turns(
         offsets,
         targets,
-        starts,
-        settings,
+        setup,
         schedule,
         marks,
         work,
         tallies,
         regs,
+        begun,
     );
+    marker::settle(setup, work, regs);
     save::save(workers, marks, work, tallies, regs, p, saved);
     marker::answer(tallies, workers, p)
 }

@@ -27,7 +27,7 @@ use Rattle.marker.specs.declared.Marked.the-variants.{Refused}
 use Rattle.marker.specs.Answer.{row, Finds}
 use Rattle.marker.specs.Stages.{IsScheduled, scheduled, setupOf, Runnable, Runs, rowOf, Settled, Settling}
 use Rattle.marker.specs.Starting.{Started}
-use Rattle.marker.proofs.Stages.{firstPart, firstAnew, turns-ready, settle-ready, leaves, run-leaves, row-left, passed, answered-refused, answered-fine}
+use Rattle.marker.proofs.Stages.{turns-ready, settle-ready, leaves, run-leaves, row-left, passed, answered-refused, answered-fine}
 use Rattle.rounds.specs.Whole.{enoughRounds, wholeOf, AllMarked, IsStart, DoesRounds}
 use Rattle.rounds.proofs.Rounds.{rounds-fit, rounds-long, enough-end}
 
@@ -51,12 +51,12 @@ module _ (c : Call) {marks work tallies regs : List ℕ} (x : Runnable (wholeOf 
       let m : k * (2 * c .workers) ≤ k * 32 = mul-le-mul-left k (omega (arith, x .passed .accepted .workers-limit)) in
       omega (arith, rounds-long (c .workers) k, m, reached-limit (x .passed .accepted), x .passed .references-limit, x .passed .accepted .workers-limit)
 
-  module _ {marks₁ s₁ tallies₁ regs₁ : List ℕ} {p₁ : Progress} (d : Started (c .offsets) (c .targets) (c .starts) g marks₁ s₁ regs₁ p₁)
-      (l₁ : length s₁ ≡ length (firstPart (g .stretch) work)) (z₁ : tallies₁ ≡ replicate (length tallies) 0) where
-    abbrev ready : Ready (IsScheduled g (c .offsets) (c .targets) (wholeOf c .schedule)) g (memory marks₁ (firstAnew (g .stretch) work s₁) tallies₁ regs₁ p₁)
-    ready = turns-ready x is d l₁ z₁ short
+  module _ {marks₁ work₁ tallies₁ regs₁ : List ℕ} {p₁ : Progress} (d : Started (c .offsets) (c .targets) (c .starts) g marks₁ work₁ regs₁ p₁)
+      (z₁ : tallies₁ ≡ replicate (length tallies) 0) where
+    abbrev ready : Ready (IsScheduled g (c .offsets) (c .targets) (wholeOf c .schedule)) g (memory marks₁ work₁ tallies₁ regs₁ p₁)
+    ready = turns-ready x is d z₁ short
 
-    unfoldable pub begun-ready : Ready (IsStart g (c .offsets) (c .targets)) g (memory marks₁ (firstAnew (g .stretch) work s₁) tallies₁ regs₁ p₁)
+    unfoldable pub begun-ready : Ready (IsStart g (c .offsets) (c .targets)) g (memory marks₁ work₁ tallies₁ regs₁ p₁)
     unfolding turns-ready
     begun-ready =
         record {
@@ -68,7 +68,7 @@ module _ (c : Call) {marks work tallies regs : List ℕ} (x : Runnable (wholeOf 
         }
 
     module _ {marks₂ work₂ tallies₂ regs₂ : List ℕ} {p₂ : Progress}
-        (t : DoesRounds g (c .offsets) (c .targets) (memory marks₁ (firstAnew (g .stretch) work s₁) tallies₁ regs₁ p₁) (memory marks₂ work₂ tallies₂ regs₂ p₂)) where
+        (t : DoesRounds g (c .offsets) (c .targets) (memory marks₁ work₁ tallies₁ regs₁ p₁) (memory marks₂ work₂ tallies₂ regs₂ p₂)) where
       held : Holds (ready .graph) g (scheduled g (wholeOf c .schedule) (ready .graph) (ready .state)) (memory marks₂ work₂ tallies₂ regs₂ p₂)
       unfolding turns-ready begun-ready
       held =

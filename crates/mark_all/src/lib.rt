@@ -102,18 +102,11 @@ pub fn mark_all(
         return Marked::Refused(cause);
     }
     let setup = marker::setup_of(settings, offsets.len() - 1);
-    let len = setup.stretch;
+    let workers = settings.workers;
     let mut registers = [0u32; registers::ALL];
-    let size = registers::BLOCK * settings.workers as usize;
-    let begun = start::start(
-        offsets,
-        targets,
-        starts,
-        setup,
-        marks,
-        &mut work[0..len],
-        &mut registers[..size],
-    );
+    let size = registers::BLOCK * workers as usize;
+    let regs = &mut registers[..size];
+    let begun = start::start(offsets, targets, starts, setup, marks, work, regs);
     slices::clear_u64s(tallies);
     let p = take_all(
         offsets,
@@ -121,12 +114,12 @@ pub fn mark_all(
         marks,
         work,
         tallies,
-        &mut registers[..size],
+        regs,
         Begun {
             setup,
             progress: begun,
         },
     );
-    marker::settle(setup, work, &registers[..size]);
-    marker::answer(tallies, settings.workers, p)
+    marker::settle(setup, work, regs);
+    marker::answer(tallies, workers, p)
 }

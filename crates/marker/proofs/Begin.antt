@@ -1,10 +1,12 @@
 -- The start in the lent memories: every worker idle, or the first one busy with the starts' runs.
 use mathlib.Core.Path.{_≡_, refl, sym, ap, _∙_}
 use mathlib.Core.Logic.{_≢_}
-use mathlib.Core.List.{List, [], _∷_}
-use Prim.Native.Nat.{ℕ, zero, suc, _+_, _-_, _*_, _<_}
+use mathlib.Core.List.{List, [], _∷_, _++_}
+use Prim.Native.Nat.{ℕ, zero, suc, _+_, _-_, _*_, _≤_, _<_}
+use native.Mathlib.Nat.{mul-le-mul-right}
 use native.Mathlib.Omega.{arith}
-use lib.ListN.{length, getD, replicate, getD-replicate, length-replicate}
+use lib.ListN.{length, getD, replicate, take, drop, getD-replicate, length-replicate, length-append, length-drop}
+use lib.Seq.{length-take-le, take-at}
 use Rattle.laws.specs.Sum.{sum}
 use Rattle.laws.specs.Every.{Every}
 use Rattle.laws.proofs.Sum.{sum-none}
@@ -27,10 +29,11 @@ use Rattle.step.specs.declared.Setup.{Setup}
 use Rattle.machine.specs.Ring.{freshRing}
 use Rattle.step.proofs.Ringing.{fresh-words}
 use Rattle.step.specs.Counting.{running?, countsOf, freshProgress}
-use Rattle.step.specs.Held.{memory, BlockIs, Holds}
+use Rattle.step.specs.declared.Progress.{Progress}
+use Rattle.step.specs.Held.{memory, stretchAt, BlockIs, Holds}
 use Rattle.step.proofs.Each.{all-same, hold-one}
 use Rattle.marker.specs.declared.start.Gathered.{Gathered}
-use Rattle.marker.specs.Starting.{Gatherable, runsFrom, IsGathered, Gathers, Startable, begin, Started}
+use Rattle.marker.specs.Starting.{Gatherable, runsFrom, IsGathered, Gathers, Startable, Started, StretchStarted}
 
 -- idle workers are all running
 idle-running : (k : ℕ) → sum running? (replicate k idle) ≡ k
@@ -82,26 +85,16 @@ first-target G (run f j ∷ rs) t s d h e = omega (arith, ap (λ (x : Top). x .f
 pub cleared : (marks : List ℕ) {marks₁ : List ℕ} → marks₁ ≡ replicate (length marks) 0 → marks₁ ≡ replicate (length marks₁) 0
 cleared marks {marks₁} e = e ∙ sym (ap (λ (k : ℕ). replicate {A = ℕ} k 0) (ap length e ∙ length-replicate (length marks) 0))
 
-module _ {offsets targets starts : List ℕ} {g : Setup} {marks s regs : List ℕ} (x : Startable offsets targets starts g marks s regs) where
+module _ {offsets targets starts : List ℕ} {g : Setup} {marks regs : List ℕ} (x : Startable offsets targets starts g marks regs) where
   abbrev G : Graph
   G = graph offsets targets
 
   abbrev runs : List Run
   runs = runsFrom G starts
 
-  pub gather-ready : {marks₁ : List ℕ} → length marks₁ ≡ length marks → Gatherable offsets starts marks₁ s
-  gather-ready e =
-      record {
-        graph = G;
-        workers = g .workers;
-        setting = _;
-        accepted = x .accepted;
-        offsets-are = refl;
-        objects-limit = x .objects-limit;
-        references-limit = x .references-limit;
-        marks-long = e ∙ x .marks-long;
-        long = x .long;
-      }
+  -- the state before the first turn
+  abbrev begin : State
+  begin = start G starts (g .workers)
 
   some-workers : suc (g .workers - 1) ≡ g .workers
   some-workers = omega (arith, x .accepted .some-worker)
@@ -137,81 +130,125 @@ module _ {offsets targets starts : List ℕ} {g : Setup} {marks s regs : List �
         long = omega (arith, ap length (x .regs-are), length-replicate {A = ℕ} (9 * g .workers) 0, x .accepted .some-worker);
       }
 
-  begin-workers : (w : Worker) → withRuns runs ≡ w → begin offsets targets starts g .workers ≡ w ∷ replicate (g .workers - 1) idle
+  begin-workers : (w : Worker) → withRuns runs ≡ w → begin .workers ≡ w ∷ replicate (g .workers - 1) idle
   unfolding start
   begin-workers w e = ap (λ (y : Worker). y ∷ replicate (g .workers - 1) idle) e
 
-  -- all starts are gathered
-  module _ {marks₁ marks₂ s₁ : List ℕ} {t : Gathered} (ml : length marks₁ ≡ length marks) (all : Gathers offsets starts marks₁ s marks₂ s₁ t) where
-    d : IsGathered G starts marks₂ s₁ t
-    unfolding gather-ready
-    d = all (gather-ready ml)
+  -- worker 0's stretch
+  module _ (s : List ℕ) (fits : length s ≡ g .stretch) where
+    pub gather-ready : {marks₁ : List ℕ} → length marks₁ ≡ length marks → Gatherable offsets starts marks₁ s
+    gather-ready e =
+        record {
+          graph = G;
+          workers = g .workers;
+          setting = _;
+          accepted = x .accepted;
+          offsets-are = refl;
+          objects-limit = x .objects-limit;
+          references-limit = x .references-limit;
+          marks-long = e ∙ x .marks-long;
+          long = fits ∙ x .stretch-is;
+        }
 
-    begin-marks : marks₂ ≡ begin offsets targets starts g .marks
-    unfolding start
-    begin-marks = d .marks-are
+    -- all starts are gathered
+    module _ {marks₁ marks₂ s₁ : List ℕ} {t : Gathered} (ml : length marks₁ ≡ length marks) (all : Gathers offsets starts marks₁ s marks₂ s₁ t) where
+      d : IsGathered G starts marks₂ s₁ t
+      unfolding gather-ready
+      d = all (gather-ready ml)
 
-    -- the counts, where so many workers carry
-    begin-counts : (k : ℕ) → k ≡ carries? (withRuns runs)
-        → countsOf (freshProgress (t .live) k (g .workers)) (begin offsets targets starts g .tallies) ≡ begin offsets targets starts g .counts
-    unfolding start
-    begin-counts k e =
-        none-tallied (t .live) k (g .workers)
-        ∙ ap (λ (l : ℕ). freshCounts l k) (d .live-is ∙ ap live (d .marks-are))
-        ∙ ap (λ (c : ℕ). freshCounts (live (begin offsets targets starts g .marks)) c) e
+      begin-marks : marks₂ ≡ begin .marks
+      unfolding start
+      begin-marks = d .marks-are
 
-    -- no tally counts anything
-    begin-tallies : {tallies : List ℕ} → tallies ≡ replicate (g .workers * 4) 0 → tallies ≡ talliesWords (begin offsets targets starts g .tallies)
-    unfolding start talliesWords
-    begin-tallies e = e ∙ sym (laid-replicate tallyWords noTally (g .workers) 4 0 refl)
+      -- the counts, where so many workers carry
+      begin-counts : (k : ℕ) → k ≡ carries? (withRuns runs)
+          → countsOf (freshProgress (t .live) k (g .workers)) (begin .tallies) ≡ begin .counts
+      unfolding start
+      begin-counts k e =
+          none-tallied (t .live) k (g .workers)
+          ∙ ap (λ (l : ℕ). freshCounts l k) (d .live-is ∙ ap live (d .marks-are))
+          ∙ ap (λ (c : ℕ). freshCounts (live (begin .marks)) c) e
 
-    -- nobody has followed anything
-    begin-rested : (b : ℕ) → getD (begin offsets targets starts g .rested) b 0 ≡ 0
-    unfolding start
-    begin-rested b = none-marked (g .workers) b
+      -- no tally counts anything
+      begin-tallies : {tallies : List ℕ} → tallies ≡ replicate (g .workers * 4) 0 → tallies ≡ talliesWords (begin .tallies)
+      unfolding start talliesWords
+      begin-tallies e = e ∙ sym (laid-replicate tallyWords noTally (g .workers) 4 0 refl)
 
-    -- the ring is fresh
-    begin-ring : begin offsets targets starts g .ring ≡ freshRing (g .workers)
-    unfolding start
-    begin-ring = refl
+      -- nobody has followed anything
+      begin-rested : (b : ℕ) → getD (begin .rested) b 0 ≡ 0
+      unfolding start
+      begin-rested b = none-marked (g .workers) b
 
-    -- none has references
-    pub begin-none : t .carried ≡ 0 → Started offsets targets starts g marks₂ s₁ regs (freshProgress (t .live) 0 (g .workers))
-    unfolding carried sum
-    begin-none z work tallies long is zeros =
-        let none : runs ≡ [] = no-runs runs (sym (d .carried-is) ∙ z) in
-        idle-holds (t .live) 0 (begin offsets targets starts g) begin-marks (begin-tallies zeros) (begin-workers idle (ap withRuns none))
-        (begin-counts 0 (sym (ap (λ (rs : List Run). carries? (withRuns rs)) none))) begin-ring begin-rested work long
+      -- the ring is fresh
+      begin-ring : begin .ring ≡ freshRing (g .workers)
+      unfolding start
+      begin-ring = refl
 
-    module _ (h : t .carried ≢ 0) (sl : length s₁ ≡ length s) where
-      some : 0 < length runs
-      some = carried-length runs (omega (arith, d .carried-is, h))
+      -- none has references
+      pub begin-none : t .carried ≡ 0 → StretchStarted offsets targets starts g marks₂ s₁ regs (freshProgress (t .live) 0 (g .workers))
+      unfolding carried sum
+      begin-none z work long is tallies zeros =
+          let none : runs ≡ [] = no-runs runs (sym (d .carried-is) ∙ z) in
+          idle-holds (t .live) 0 begin begin-marks (begin-tallies zeros) (begin-workers idle (ap withRuns none))
+          (begin-counts 0 (sym (ap (λ (rs : List Run). carries? (withRuns rs)) none))) begin-ring begin-rested work long
 
-      pub lower-ready : Lowerable s₁ (t .at)
-      lower-ready = record { runs = runs; ends = d .ends; some = some; small = omega (arith, sl, x .long, x .objects-limit) }
+      module _ (h : t .carried ≢ 0) (sl : length s₁ ≡ length s) where
+        some : 0 < length runs
+        some = carried-length runs (omega (arith, d .carried-is, h))
 
-      -- the runs stand at the beginning of the stretch
-      module _ {s₂ : List ℕ} {top : Top} (l : Lowered s₁ (t .at) s₂ top) where
-        told : Told runs top s₂
-        told = l .told runs (d .ends) some
+        pub lower-ready : Lowerable s₁ (t .at)
+        lower-ready = record { runs = runs; ends = d .ends; some = some; small = omega (arith, sl, fits, x .stretch-is, x .objects-limit) }
 
-        pub first-inside : top .first < length targets
-        first-inside = first-target G runs top s₂ told some (start-inside (x .accepted))
+        -- the runs stand at the beginning of the stretch
+        module _ {s₂ : List ℕ} {top : Top} (l : Lowered s₁ (t .at) s₂ top) where
+          told : Told runs top s₂
+          told = l .told runs (d .ends) some
 
-        pub begin-some : (regs₁ : List ℕ) → regs₁ ≡ storeAt regs 0 (firstBlock (t .carried) top (getD targets (top .first) 0))
-            → Started offsets targets starts g marks₂ s₂ regs₁ (freshProgress (t .live) 1 (g .workers))
-        begin-some regs₁ er work tallies long is zeros =
-            let c = countsOf (freshProgress (t .live) 1 (g .workers)) [] in
-            let counted : carries? (withRuns runs) ≡ 1 = ap carries? (some-runs runs some) ∙ set-some (carried runs) (omega (arith, d .carried-is, h)) in
-            let s₀ : State = record { marks = []; workers = idle ∷ replicate (g .workers - 1) idle; rested = []; ring = freshRing (g .workers); tallies = []; counts = c } in
-            let r = firstBlock (t .carried) top (getD targets (top .first) 0) in
-            let st : Stored regs 0 r regs₁ = rw er (store-stored regs 0 (first-room .long) r) in
-            hold-one (idle-holds (t .live) 1 s₀ refl refl refl refl refl (λ b. refl) work long) (ap suc (length-replicate (g .workers - 1) idle) ∙ some-workers) 0
-            (omega (arith, x .accepted .some-worker)) refl (busy empty 0 poll runs) work st refl (all-same (g .workers) (g .stretch) 0 work)
-            (rw is (first-is G runs top s₂ told some (t .carried) (d .carried-is)))
-            refl {s′ = begin offsets targets starts g} (begin-workers (busy empty 0 poll runs) (some-runs runs some)) begin-marks
-            (begin-tallies zeros)
-            (begin-counts 1 (sym counted))
-            (rw begin-ring (fresh-words (g .workers)))
-            (λ i k. begin-rested i)
-            tt
+          pub first-inside : top .first < length targets
+          first-inside = first-target G runs top s₂ told some (start-inside (x .accepted))
+
+          pub begin-some : (regs₁ : List ℕ) → regs₁ ≡ storeAt regs 0 (firstBlock (t .carried) top (getD targets (top .first) 0))
+              → StretchStarted offsets targets starts g marks₂ s₂ regs₁ (freshProgress (t .live) 1 (g .workers))
+          begin-some regs₁ er work long is tallies zeros =
+              let c = countsOf (freshProgress (t .live) 1 (g .workers)) [] in
+              let counted : carries? (withRuns runs) ≡ 1 = ap carries? (some-runs runs some) ∙ set-some (carried runs) (omega (arith, d .carried-is, h)) in
+              let s₀ : State = record { marks = []; workers = idle ∷ replicate (g .workers - 1) idle; rested = []; ring = freshRing (g .workers); tallies = []; counts = c } in
+              let r = firstBlock (t .carried) top (getD targets (top .first) 0) in
+              let st : Stored regs 0 r regs₁ = rw er (store-stored regs 0 (first-room .long) r) in
+              hold-one (idle-holds (t .live) 1 s₀ refl refl refl refl refl (λ b. refl) work long) (ap suc (length-replicate (g .workers - 1) idle) ∙ some-workers) 0
+              (omega (arith, x .accepted .some-worker)) refl (busy empty 0 poll runs) work st refl (all-same (g .workers) (g .stretch) 0 work)
+              (rw is (first-is G runs top s₂ told some (t .carried) (d .carried-is)))
+              refl {s′ = begin} (begin-workers (busy empty 0 poll runs) (some-runs runs some)) begin-marks
+              (begin-tallies zeros)
+              (begin-counts 1 (sym counted))
+              (rw begin-ring (fresh-words (g .workers)))
+              (λ i k. begin-rested i)
+              tt
+
+-- ---- worker 0's stretch in the work memory
+
+module _ (g : Setup) (work : List ℕ) (some : 1 ≤ g .workers) (long : length work ≡ g .workers * g .stretch) where
+  -- the first stretch of the work memory, and the memory with it written anew
+  abbrev first : List ℕ
+  first = take (g .stretch - 0) work
+
+  abbrev anew : List ℕ → List ℕ
+  anew s = s ++ drop (g .stretch - 0) work
+
+  pub first-within : g .stretch ≤ length work
+  first-within = omega (arith, long, mul-le-mul-right (g .stretch) some)
+
+  pub first-long : length first ≡ g .stretch
+  first-long = let e : g .stretch - 0 ≡ g .stretch = omega arith in rw e (length-take-le (g .stretch) work first-within)
+
+  module _ (s : List ℕ) (same : length s ≡ length first) where
+    pub anew-long : length (anew s) ≡ length work
+    anew-long = rw (length-append, length-drop) (omega (arith, same, first-long, first-within))
+
+    anew-first : stretchAt (g .stretch) 0 (anew s) ≡ s
+    anew-first = let e : 0 * g .stretch ≡ 0 = omega arith in rw e (take-at s (drop (g .stretch - 0) work) (g .stretch) (same ∙ first-long))
+
+    -- the start in the first stretch is the start in the work memory
+    pub started : (offsets targets starts marks regs : List ℕ) (p : Progress) → StretchStarted offsets targets starts g marks s regs p
+        → Started offsets targets starts g marks (anew s) regs p
+    started offsets targets starts marks regs p h = h (anew s) (anew-long ∙ long) anew-first

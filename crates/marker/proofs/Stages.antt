@@ -1,12 +1,11 @@
 -- From the checks to the stages, and from the stages to the answer.
 use mathlib.Core.Path.{_≡_, refl, sym, ap, _∙_}
-use mathlib.Core.List.{List, _∷_, _++_}
-use Prim.Native.Nat.{ℕ, zero, suc, _-_, _*_, _≤_, _<_, _^_}
-use native.Mathlib.Nat.{mul-le-mul-right}
+use mathlib.Core.List.{List, _∷_}
+use Prim.Native.Nat.{ℕ, zero, suc, _*_, _≤_, _<_, _^_}
 use native.Mathlib.Omega.{arith}
-use lib.ListN.{length, replicate, take, drop, length-append, length-drop}
+use lib.ListN.{length, replicate, take}
 use lib.Dec.{eqb}
-use lib.Seq.{length-take-le, take-at}
+use lib.Seq.{length-take-le}
 use Rattle.refusal.specs.declared.Refusal.{Refusal}
 use Rattle.refusal.specs.declared.Verdict.{Verdict}
 use Rattle.refusal.specs.declared.Verdict.the-variants.{Fine, Faulty}
@@ -16,7 +15,6 @@ use Rattle.graph.specs.Graph.{Graph, objects}
 use Rattle.desk.specs.declared.Lengths.{Lengths}
 use Rattle.desk.specs.declared.SavedWords.{SavedWords}
 use Rattle.desk.specs.Limits.{most-workers}
-use Rattle.desk.specs.Lengths.{stretchLength}
 use Rattle.desk.specs.Kept.{unlessRefused}
 use Rattle.machine.specs.Machine as machine
 use Rattle.machine.specs.Machine.{State, start, entries, allEnded, result}
@@ -33,7 +31,7 @@ use Rattle.worker.specs.Registers.{block-words, register-words}
 use Rattle.step.specs.declared.Setup.{Setup}
 use Rattle.step.specs.declared.Progress.{Progress}
 use Rattle.step.specs.Counting.{Countable}
-use Rattle.step.specs.Held.{Memory, memory, settingOf, stretchAt, Holds}
+use Rattle.step.specs.Held.{Memory, memory, settingOf, Holds}
 use Rattle.step.specs.Turned.{Ready}
 use Rattle.step.proofs.Counting.{countable}
 use Rattle.marker.specs.declared.Marked.{Marked}
@@ -89,51 +87,30 @@ row-left {s = s} {μ} l r e =
 
 -- ---- a call without a fault, from the start
 
--- the first stretch of the work memory, of L words, and the memory with it written anew
-abbrev pub firstPart : ℕ → List ℕ → List ℕ
-firstPart L work = take (L - 0) work
-
-abbrev pub firstAnew : ℕ → List ℕ → List ℕ → List ℕ
-firstAnew L work s = s ++ drop (L - 0) work
-
-module _ (L : ℕ) (work : List ℕ) (room : L ≤ length work) where
-  front-part : length (firstPart L work) ≡ L
-  front-part = let e : L - 0 ≡ L = omega arith in rw e (length-take-le L work room)
-
-  module _ (s : List ℕ) (long : length s ≡ length (firstPart L work)) where
-    pub front-long : length (firstAnew L work s) ≡ length work
-    front-long = rw (length-append, length-drop) (omega (arith, long, front-part, room))
-
-    pub front-here : stretchAt L 0 (firstAnew L work s) ≡ s
-    front-here = let e : 0 * L ≡ 0 = omega arith in rw e (take-at s (drop (L - 0) work) L (long ∙ front-part))
-
 module _ {c : Call} {marks work tallies regs : List ℕ} (x : Runnable c marks work tallies regs) where
   module _ {g : Setup} (is : g ≡ setupOf c) where
-    -- worker 0's stretch
-    pub first-stretch : g .stretch ≤ length work
-    first-stretch =
-        rw is (omega (arith, x .passed .work-exact, mul-le-mul-right (stretchLength (objects (graphOf c))) (x .passed .accepted .some-worker)))
-
-    pub start-ready : Startable (c .offsets) (c .targets) (c .starts) g marks (firstPart (g .stretch) work) regs
+    pub start-ready : Startable (c .offsets) (c .targets) (c .starts) g marks regs
     start-ready =
         record {
           accepted = rw is (x .passed .accepted);
           objects-limit = x .passed .objects-limit;
           references-limit = x .passed .references-limit;
+          stretch-is = ap (λ (h : Setup). h .stretch) is;
           marks-long = x .passed .marks-exact;
-          long = front-part (g .stretch) work first-stretch ∙ ap (λ (h : Setup). h .stretch) is;
           regs-are = rw is (x .regs-are);
         }
+
+    pub work-long : length work ≡ g .workers * g .stretch
+    work-long = rw is (x .passed .work-exact)
 
     -- the state after the turns is the call's
     pub run-leaves : {μ : Memory} → Leaves (graphOf c) g (scheduled g (c .schedule) (graphOf c) (start (graphOf c) (c .starts) (g .workers))) μ → Runs c μ
     run-leaves l = rw is at l
 
     -- after the start, with the tallies cleared
-    module _ {marks₁ s₁ tallies₁ regs₁ : List ℕ} {p₁ : Progress} (d : Started (c .offsets) (c .targets) (c .starts) g marks₁ s₁ regs₁ p₁)
-        (l₁ : length s₁ ≡ length (firstPart (g .stretch) work)) (z₁ : tallies₁ ≡ replicate (length tallies) 0) (short : length (c .schedule) < 2 ^ 64) where
-      unfoldable pub turns-ready : Ready (IsScheduled g (c .offsets) (c .targets) (c .schedule)) g
-          (memory marks₁ (firstAnew (g .stretch) work s₁) tallies₁ regs₁ p₁)
+    module _ {marks₁ work₁ tallies₁ regs₁ : List ℕ} {p₁ : Progress} (d : Started (c .offsets) (c .targets) (c .starts) g marks₁ work₁ regs₁ p₁)
+        (z₁ : tallies₁ ≡ replicate (length tallies) 0) (short : length (c .schedule) < 2 ^ 64) where
+      unfoldable pub turns-ready : Ready (IsScheduled g (c .offsets) (c .targets) (c .schedule)) g (memory marks₁ work₁ tallies₁ regs₁ p₁)
       unfolding start
       turns-ready =
           record {
@@ -150,9 +127,7 @@ module _ {c : Call} {marks work tallies regs : List ℕ} (x : Runnable c marks w
                   handed-room = omega arith;
                   moved-room = omega arith;
                 };
-            holds =
-                d _ tallies₁ (front-long (g .stretch) work first-stretch s₁ l₁ ∙ rw is (x .passed .work-exact))
-                (front-here (g .stretch) work first-stretch s₁ l₁) (z₁ ∙ rw is (ap (λ (k : ℕ). replicate {A = ℕ} k 0) (x .passed .tallies-exact)));
+            holds = d tallies₁ (z₁ ∙ rw is (ap (λ (k : ℕ). replicate {A = ℕ} k 0) (x .passed .tallies-exact)));
             here =
                 record {
                   graph-is = refl;

@@ -9,7 +9,7 @@ use Rattle.graph.specs.Chain.{marksAt}
 use Rattle.graph.specs.Limits.{most-objects, most-references}
 use Rattle.desk.specs.Lengths.{tally-words, stretchLength}
 use Rattle.machine.specs.Run.{Run, carried}
-use Rattle.machine.specs.Machine.{Setting, State, live, unmarked, startRuns, start}
+use Rattle.machine.specs.Machine.{Setting, live, unmarked, startRuns, start}
 use Rattle.machine.specs.Accepted.{Accepted}
 use Rattle.worker.specs.Registers.{block-words}
 use Rattle.worker.specs.Stretch.{EndsWith}
@@ -60,22 +60,23 @@ Gathers offsets starts marks s marks′ s′ t = (x : Gatherable offsets starts 
 
 -- ---- the start
 
--- an accepted call, its marks, worker 0's stretch, and registers that are all zero
-pub record Startable (offsets targets starts : List ℕ) (g : Setup) (marks s regs : List ℕ) : Type 0 where
+-- an accepted call, its marks, and registers that are all zero
+pub record Startable (offsets targets starts : List ℕ) (g : Setup) (marks regs : List ℕ) : Type 0 where
   pub accepted : Accepted (graph offsets targets) starts (g .workers) (settingOf g)
   pub objects-limit : objects (graph offsets targets) ≤ most-objects
   pub references-limit : references (graph offsets targets) ≤ most-references
+  pub stretch-is : g .stretch ≡ stretchLength (objects (graph offsets targets))
   pub marks-long : length marks ≡ objects (graph offsets targets)
-  pub long : length s ≡ stretchLength (objects (graph offsets targets))
   pub regs-are : regs ≡ replicate (block-words * g .workers) 0
 
--- the state before the first turn
-abbrev pub begin : List ℕ → List ℕ → List ℕ → Setup → State
-begin offsets targets starts g = start (graph offsets targets) starts (g .workers)
-
--- the memories hold it, whatever words the other stretches have, with tallies that are all zero
+-- the memories hold the state before the first turn, with tallies that are all zero
 abbrev pub Started : List ℕ → List ℕ → List ℕ → Setup → List ℕ → List ℕ → List ℕ → Progress → Type 0
-Started offsets targets starts g marks′ s′ regs′ p =
-    (work tallies : List ℕ) → length work ≡ g .workers * g .stretch → stretchAt (g .stretch) 0 work ≡ s′
-    → tallies ≡ replicate (g .workers * tally-words) 0
-    → Holds (graph offsets targets) g (begin offsets targets starts g) (memory marks′ work tallies regs′ p)
+Started offsets targets starts g marks′ work′ regs′ p =
+    (tallies : List ℕ) → tallies ≡ replicate (g .workers * tally-words) 0
+    → Holds (graph offsets targets) g (start (graph offsets targets) starts (g .workers)) (memory marks′ work′ tallies regs′ p)
+
+-- they do with these words in worker 0's stretch, whatever words the other stretches have
+abbrev pub StretchStarted : List ℕ → List ℕ → List ℕ → Setup → List ℕ → List ℕ → List ℕ → Progress → Type 0
+StretchStarted offsets targets starts g marks′ s′ regs′ p =
+    (work : List ℕ) → length work ≡ g .workers * g .stretch → stretchAt (g .stretch) 0 work ≡ s′
+    → Started offsets targets starts g marks′ work regs′ p

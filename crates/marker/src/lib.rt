@@ -25,7 +25,7 @@ ghost use Rattle.step.specs.Counting.{Countable};
 ghost use Rattle.step.specs.Held.{memory};
 ghost use Rattle.step.specs.Turned.{Ready};
 ghost use Rattle.marker.specs.Answer.{callOf, row, Finds, Answered};
-ghost use Rattle.marker.specs.Stages.{IsScheduled, DoesAll, topFor, Settling, Settled, rowOf, setupFor, Runnable, Runs};
+ghost use Rattle.marker.specs.Stages.{IsScheduled, DoesAll, topFor, Settling, Settled, rowOf, setupFor};
 
 pub enum Marked {
     // All workers have ended.
@@ -178,50 +178,6 @@ pub fn setup_of(settings: Settings, objects: usize) -> Setup
     }
 }
 
-// A whole run of a checked call, with its registers all zero: the start, the turns of the schedule,
-// and the stretches written out.
-pub fn run(
-    offsets: &[u32],
-    targets: &[u32],
-    starts: &[u32],
-    settings: Settings,
-    schedule: &[u8],
-    marks: &mut [u8],
-    work: &mut [u32],
-    tallies: &mut [u64],
-    regs: &mut [u32],
-) -> Progress
-    requires { ⌜ Runnable (callOf (now offsets) (now targets) (now starts) settings (now schedule)) (now marks) (now work) (now tallies) (now regs) ⌝ }
-    ensures { λ p. ⌜ Runs (callOf (now (offsets .entry)) (now (targets .entry)) (now (starts .entry)) settings (now (schedule .entry)))
-        (memory (now (marks .exit)) (now (work .exit)) (now (tallies .exit)) (now (regs .exit)) p) ⌝ }
-{
-    let setup = setup_of(settings, offsets.len() - 1);
-    let len = setup.stretch;
-    let begun = start::start(
-        offsets,
-        targets,
-        starts,
-        setup,
-        marks,
-        &mut work[0..len],
-        regs,
-    );
-    slices::clear_u64s(tallies);
-    let p = take_turns(
-        offsets,
-        targets,
-        setup,
-        schedule,
-        marks,
-        work,
-        tallies,
-        regs,
-        begun,
-    );
-    settle(setup, work, regs);
-    p
-}
-
 // The marker's call.
 pub fn mark(
     offsets: &[u32],
@@ -246,19 +202,24 @@ pub fn mark(
     if let Verdict::Faulty(cause) = verdict {
         return Marked::Refused(cause);
     }
+    let setup = setup_of(settings, offsets.len() - 1);
     let workers = settings.workers;
     let mut registers = [0u32; registers::ALL];
     let size = registers::BLOCK * workers as usize;
-    let p = run(
+    let regs = &mut registers[..size];
+    let begun = start::start(offsets, targets, starts, setup, marks, work, regs);
+    slices::clear_u64s(tallies);
+    let p = take_turns(
         offsets,
         targets,
-        starts,
-        settings,
+        setup,
         schedule,
         marks,
         work,
         tallies,
-        &mut registers[..size],
+        regs,
+        begun,
     );
+    settle(setup, work, regs);
     answer(tallies, workers, p)
 }

@@ -6,8 +6,9 @@ use worker::registers;
 use worker::registers::Block;
 use worker::stretch;
 ghost use mathlib.Core.Path.{_≡_};
+ghost use Prim.Native.Nat.{_*_};
 ghost use lib.ListN.{length, replicate};
-ghost use Rattle.marker.specs.Starting.{Gathering, GathersOne, Gatherable, Gathers, Startable, Started};
+ghost use Rattle.marker.specs.Starting.{Gathering, GathersOne, Gatherable, Gathers, Startable, Started, StretchStarted};
 
 // What the starts so far come to: the marks set, the references of their runs, and where the runs
 // stand, from `at` to the end of the stretch. Each new one stands before the others, so that the
@@ -74,7 +75,7 @@ fn gather(offsets: &[u32], starts: &[u32], marks: &mut [u8], s: &mut [u32]) -> G
 }
 
 // The start, where s is worker 0's stretch and the registers are all zero.
-pub fn start(
+fn start_stretch(
     offsets: &[u32],
     targets: &[u32],
     starts: &[u32],
@@ -83,8 +84,8 @@ pub fn start(
     s: &mut [u32],
     regs: &mut [u32],
 ) -> Progress
-    requires { ⌜ Startable (now offsets) (now targets) (now starts) setup (now marks) (now s) (now regs) ⌝ }
-    ensures { λ p. ⌜ Started (now (offsets .entry)) (now (targets .entry)) (now (starts .entry)) setup (now (marks .exit)) (now (s .exit)) (now (regs .exit)) p ⌝ }
+    requires { ⌜ Startable (now offsets) (now targets) (now starts) setup (now marks) (now regs) × (length (now s) ≡ setup .stretch) ⌝ }
+    ensures { λ p. ⌜ StretchStarted (now (offsets .entry)) (now (targets .entry)) (now (starts .entry)) setup (now (marks .exit)) (now (s .exit)) (now (regs .exit)) p ⌝ }
 {
     clear_marks(marks);
     let t = gather(offsets, starts, marks, s);
@@ -111,4 +112,29 @@ pub fn start(
         },
     );
     counts::begun(starts, 1, setup.workers as u64)
+}
+
+// The start of a checked call in its lent memories, whose registers are all zero. The tallies are cleared by the caller.
+pub fn start(
+    offsets: &[u32],
+    targets: &[u32],
+    starts: &[u32],
+    setup: Setup,
+    marks: &mut [u8],
+    work: &mut [u32],
+    regs: &mut [u32],
+) -> Progress
+    requires { ⌜ Startable (now offsets) (now targets) (now starts) setup (now marks) (now regs) × (length (now work) ≡ setup .workers * setup .stretch) ⌝ }
+    ensures { λ p. ⌜ Started (now (offsets .entry)) (now (targets .entry)) (now (starts .entry)) setup (now (marks .exit)) (now (work .exit)) (now (regs .exit)) p ⌝ }
+{
+    let len = setup.stretch;
+    start_stretch(
+        offsets,
+        targets,
+        starts,
+        setup,
+        marks,
+        &mut work[0..len],
+        regs,
+    )
 }
