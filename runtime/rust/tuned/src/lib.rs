@@ -19,6 +19,7 @@ mod market;
 mod read;
 mod scan;
 mod sweep;
+mod updates;
 
 pub use cards::{deal, deal_seed};
 pub use floor::depth_first;
@@ -27,6 +28,7 @@ pub use market::{export, import};
 pub use read::read;
 pub use scan::{scan, scan_length};
 pub use sweep::sweep;
+pub use updates::{add, remove};
 
 use reference::{Call, Outcome, Tally};
 
