@@ -29,10 +29,8 @@ const HEAD: &str = "\
 
 /// Our whole collections beside Tricolor's for each reference, and our imports beside mmread's for each byte; nothing where neither was run.
 pub fn table(folder: &Path, wholes: &[Merged], imports: &[Merged]) -> String {
-    let Ok(lines) = fs::read_to_string(folder.join("today.txt")) else {
-        return String::new();
-    };
-    let mut text = HEAD.to_string();
+    let lines = fs::read_to_string(folder.join("today.txt")).unwrap_or_default();
+    let mut text = String::new();
     for line in lines.lines() {
         let words: Vec<&str> = line.split('\t').collect();
         let [what, store, theirs] = words[..] else { continue };
@@ -44,5 +42,8 @@ pub fn table(folder: &Path, wholes: &[Merged], imports: &[Merged]) -> String {
         writeln!(text, "| {store} | `{ours}` | {time:.2} | `{what}` | {theirs:.2} | {:.1} |", theirs / time)
             .expect("text");
     }
-    text + "\n"
+    if text.is_empty() {
+        return text;
+    }
+    format!("{HEAD}{text}\n")
 }
