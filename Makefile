@@ -13,7 +13,7 @@
 #: make deb               makes Debian packages, in target/deb
 #: make compare           compares the library with the reference on more cases than the gate does: CASES=5000000 SEED=2
 #: make bench             measures at four places of the code, some minutes; its tables and plots go to target/bench/
-#: make bench-instructions counts the instructions of each call, some minutes
+#: make bench-instructions counts the instructions of each call and finds the stack that it takes
 #: make oci-stress        800 pushes beside prunes and 200 kills, some minutes
 #: make clean             removes all that was proved and built here
 #:
@@ -156,7 +156,7 @@ bench:
 	$(CARGO) build $(RELEASE) --package bench
 	tools/bench target/bench
 
-# The instructions of each call, by valgrind.
+# The instructions of each call, by valgrind, and the stack that it takes.
 bench-instructions:
 	@tools/need bench-instructions rt ar gcc cargo python3 valgrind
 	@$(MAKE) --no-print-directory library
