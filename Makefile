@@ -12,12 +12,13 @@
 #: make uninstall         takes away what make install put there, with the same PREFIX and DESTDIR
 #: make deb               makes Debian packages, in target/deb
 #: make compare           compares the library with the reference on more cases than the gate does: CASES=5000000 SEED=2
-#: make bench             measures; its table and plots go to target/bench/
+#: make bench             measures at four places of the code, some minutes; its tables and plots go to target/bench/
+#: make bench-instructions counts the instructions of each call and finds the stack that it takes
 #: make oci-stress        800 pushes beside prunes and 200 kills, some minutes
 #: make clean             removes all that was proved and built here
 #:
 #: What is missing is told before anything is proved. What was proved is proved again only where its files have changed.
-.PHONY: help test run programs library shared packaged deb oci oci-stress steps deal course sheets pause install uninstall clean compare bench FORCE
+.PHONY: help test run programs library shared packaged deb oci oci-stress steps deal course sheets pause install uninstall clean compare bench bench-instructions FORCE
 .DEFAULT_GOAL = help
 
 # A path may have spaces in it: none is a prerequisite, and each is quoted.
@@ -148,8 +149,16 @@ compare:
 	$(CARGO) build $(RELEASE) --package compare
 	target/cargo/release/compare $(CASES) $(SEED)
 
+# Every ratio is the median over four places of the code; containerd and SciPy are measured beside ours where they are installed.
 bench:
-	@tools/need bench rt ar cargo
+	@tools/need bench rt ar gcc cargo
 	@$(MAKE) --no-print-directory library
 	$(CARGO) build $(RELEASE) --package bench
-	target/cargo/release/bench target/bench
+	tools/bench target/bench
+
+# The instructions of each call, by valgrind, and the stack that it takes.
+bench-instructions:
+	@tools/need bench-instructions rt ar gcc cargo python3 valgrind
+	@$(MAKE) --no-print-directory library
+	@$(CARGO) build $(RELEASE) --package bench
+	@tools/instructions

@@ -1,9 +1,22 @@
 //! Schedules of hands of cards, written out and drawn.
 
-use crate::calls::Times;
-use crate::measure::medians;
-use crate::table::CallRow;
+use crate::measure::{medians, Medians};
+use crate::table::{call_row, Row, Table, CALL};
 use std::hint::black_box;
+
+pub const HAND: Table = Table {
+    title: "Schedule of a hand of 10,000 cards, by turns",
+    names: &["W"],
+    columns: CALL,
+    measure: |_, repetitions| rows(|workers| deal(workers, repetitions)),
+};
+
+pub const SEED: Table = Table {
+    title: "Schedule of 10,000 draws of a seed, by turns",
+    names: &["W"],
+    columns: CALL,
+    measure: |_, repetitions| rows(|workers| deal_seed(workers, repetitions)),
+};
 
 const CARDS: usize = 10_000;
 
@@ -14,21 +27,21 @@ fn hand() -> Vec<u32> {
     (0..CARDS as u64).map(card).collect()
 }
 
-fn deal(workers: u32, repetitions: usize) -> Times {
+fn deal(workers: u32, repetitions: usize) -> Medians<3> {
     let cards = hand();
     let proved = |schedule: &mut Vec<u8>| black_box(kullneyra::deal(&cards, workers, schedule)).expect("a hand");
-    let reference = |schedule: &mut Vec<u8>| black_box(reference::deal(&cards, workers, schedule)).expect("a hand");
+    let plain = |schedule: &mut Vec<u8>| black_box(reference::deal(&cards, workers, schedule)).expect("a hand");
     let tuned = |schedule: &mut Vec<u8>| black_box(tuned::deal(&cards, workers, schedule)).expect("a hand");
     let mut schedule = vec![1; 2 * workers as usize * CARDS];
-    Times::of(&medians(&mut schedule, repetitions, [&proved, &reference, &tuned]))
+    medians(&mut schedule, repetitions, [&proved, &plain, &tuned])
 }
 
-fn deal_seed(workers: u32, repetitions: usize) -> Times {
+fn deal_seed(workers: u32, repetitions: usize) -> Medians<3> {
     let proved = |schedule: &mut Vec<u8>| {
         let mut seed = kullneyra::Seed { first: 1, second: 0 };
         black_box(seed.deal_seed(CARDS, workers, schedule)).expect("a seed");
     };
-    let reference = |schedule: &mut Vec<u8>| {
+    let plain = |schedule: &mut Vec<u8>| {
         let mut seed = reference::Seed { first: 1, second: 0 };
         black_box(reference::deal_seed(&mut seed, CARDS, workers, schedule)).expect("a seed");
     };
@@ -37,17 +50,11 @@ fn deal_seed(workers: u32, repetitions: usize) -> Times {
         black_box(tuned::deal_seed(&mut seed, CARDS, workers, schedule)).expect("a seed");
     };
     let mut schedule = vec![1; 2 * workers as usize * CARDS];
-    Times::of(&medians(&mut schedule, repetitions, [&proved, &reference, &tuned]))
+    medians(&mut schedule, repetitions, [&proved, &plain, &tuned])
 }
 
-fn rows(names: [&'static str; 3], times: impl Fn(u32) -> Times) -> Vec<CallRow> {
-    let row = |(graph, workers)| CallRow { graph, count: workers as usize * CARDS, times: times(workers) };
-    names.into_iter().zip([1, 4, 6]).map(row).collect()
-}
-
-/// Hands of so many cards by W, counted by turns; written out, and drawn.
-pub fn deal_rows(repetitions: usize) -> Vec<CallRow> {
-    let mut all = rows(["10,000 cards, W 1", "10,000 cards, W 4", "10,000 cards, W 6"], |w| deal(w, repetitions));
-    all.extend(rows(["10,000 draws, W 1", "10,000 draws, W 4", "10,000 draws, W 6"], |w| deal_seed(w, repetitions)));
-    all
+/// By W, counted by turns.
+fn rows(measure: impl Fn(u32) -> Medians<3>) -> Vec<Row> {
+    let row = |workers: u32| call_row(&workers.to_string(), workers as usize * CARDS, &measure(workers));
+    [1, 4, 6].map(row).into()
 }

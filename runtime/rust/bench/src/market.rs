@@ -1,10 +1,23 @@
-//! Matrix Market: import and export of each store, the proved calls beside plain Rust and the same passes in safe Rust.
+//! Matrix Market: import and export of each store, the proved calls beside plain Rust, which splits lines and formats numbers, and tuned Rust.
 
-use crate::calls::Times;
 use crate::graphs::Graph;
-use crate::measure::medians;
-use crate::table::CallRow;
+use crate::measure::{medians, Medians};
+use crate::table::{call_row, Row, Table, CALL};
 use std::hint::black_box;
+
+pub const IMPORT: Table = Table {
+    title: "Import of a Matrix Market text, by bytes",
+    names: &["Store"],
+    columns: CALL,
+    measure: |graphs, repetitions| rows(graphs, |graph, text, lent| import(graph, text, lent, repetitions)),
+};
+
+pub const EXPORT: Table = Table {
+    title: "Export of a Matrix Market text, by bytes",
+    names: &["Store"],
+    columns: CALL,
+    measure: |graphs, repetitions| rows(graphs, |graph, _, lent| export(graph, lent, repetitions)),
+};
 
 struct Lent {
     offsets: Vec<u32>,
@@ -14,14 +27,14 @@ struct Lent {
 }
 
 /// The text of a store, as export writes it.
-fn text(graph: &Graph) -> Vec<u8> {
+pub fn text(graph: &Graph) -> Vec<u8> {
     let length = kullneyra::export_length(&graph.offsets, &graph.targets).expect("a graph");
     let mut text = vec![0; length as usize];
     kullneyra::export(&graph.offsets, &graph.targets, &mut text).expect("a buffer of its length");
     text
 }
 
-fn import_times(graph: &Graph, text: &[u8], lent: &mut Lent, repetitions: usize) -> Times {
+fn import(graph: &Graph, text: &[u8], lent: &mut Lent, repetitions: usize) -> Medians<3> {
     let proved = |l: &mut Lent| {
         black_box(kullneyra::import(text, &mut l.offsets, &mut l.targets, &mut l.sizes)).expect("a text");
     };
@@ -31,12 +44,12 @@ fn import_times(graph: &Graph, text: &[u8], lent: &mut Lent, repetitions: usize)
     let tuned = |l: &mut Lent| {
         black_box(tuned::import(text, &mut l.offsets, &mut l.targets, &mut l.sizes)).expect("a text");
     };
-    let times = Times::of(&medians(lent, repetitions, [&proved, &plain, &tuned]));
+    let medians = medians(lent, repetitions, [&proved, &plain, &tuned]);
     assert!(lent.offsets == graph.offsets && lent.targets == graph.targets, "the same graph again");
-    times
+    medians
 }
 
-fn export_times(graph: &Graph, lent: &mut Lent, repetitions: usize) -> Times {
+fn export(graph: &Graph, lent: &mut Lent, repetitions: usize) -> Medians<3> {
     let Graph { offsets, targets, .. } = graph;
     let proved = |l: &mut Lent| {
         black_box(kullneyra::export(offsets, targets, &mut l.out)).expect("a graph");
@@ -47,13 +60,12 @@ fn export_times(graph: &Graph, lent: &mut Lent, repetitions: usize) -> Times {
     let tuned = |l: &mut Lent| {
         black_box(tuned::export(offsets, targets, &mut l.out)).expect("a graph");
     };
-    Times::of(&medians(lent, repetitions, [&proved, &plain, &tuned]))
+    medians(lent, repetitions, [&proved, &plain, &tuned])
 }
 
-/// Import and export, one row each for each store, counted by bytes of the text.
-pub fn rows(graphs: &[Graph], repetitions: usize) -> [Vec<CallRow>; 2] {
-    let (mut imports, mut exports) = (Vec::new(), Vec::new());
-    for graph in graphs {
+/// One row for each store, counted by bytes of the text.
+fn rows(graphs: &[Graph], measure: impl Fn(&Graph, &[u8], &mut Lent) -> Medians<3>) -> Vec<Row> {
+    let row = |graph: &Graph| {
         let text = text(graph);
         let mut lent = Lent {
             offsets: vec![1; graph.n() + 1],
@@ -61,9 +73,7 @@ pub fn rows(graphs: &[Graph], repetitions: usize) -> [Vec<CallRow>; 2] {
             sizes: vec![1; graph.n()],
             out: vec![1; text.len()],
         };
-        let row = |times| CallRow { graph: graph.name, count: text.len(), times };
-        imports.push(row(import_times(graph, &text, &mut lent, repetitions)));
-        exports.push(row(export_times(graph, &mut lent, repetitions)));
-    }
-    [imports, exports]
+        call_row(graph.name, text.len(), &measure(graph, &text, &mut lent))
+    };
+    graphs.iter().map(row).collect()
 }

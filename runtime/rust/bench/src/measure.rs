@@ -33,9 +33,11 @@ fn nanoseconds<B>(buffers: &mut B, side: &dyn Fn(&mut B), times: usize) -> f64 {
     (processor_time() - start) / times as f64
 }
 
-fn median(mut all: Vec<f64>) -> f64 {
+/// The middle one, or half the sum of the middle two.
+pub fn median(mut all: Vec<f64>) -> f64 {
     all.sort_by(f64::total_cmp);
-    all[all.len() / 2]
+    let middle = all.len() / 2;
+    (all[middle] + all[(all.len() - 1) / 2]) / 2.0
 }
 
 /// Medians over the repetitions.
@@ -47,9 +49,20 @@ pub struct Medians<const N: usize> {
     pub over: [f64; N],
 }
 
+/// Runs a side once. tools/instructions counts what is done in here, and knows it by its name.
+#[inline(never)]
+#[no_mangle]
+fn bench_counted(run: &mut dyn FnMut()) {
+    run();
+}
+
 /// Measures. Every repetition runs all sides, one after the other, in an order that turns; the buffers
-/// are the same for all and were written before the first.
+/// are the same for all and were written before the first. Without a repetition nothing is measured: each side is run, to be counted.
 pub fn medians<B, const N: usize>(buffers: &mut B, repetitions: usize, sides: [&dyn Fn(&mut B); N]) -> Medians<N> {
+    if repetitions == 0 {
+        sides.iter().for_each(|side| bench_counted(&mut || side(buffers)));
+        return Medians { times: [0.0; N], over: [0.0; N] };
+    }
     let once = nanoseconds(buffers, sides[0], 1);
     let times = (LEAST / once.max(1.0)).clamp(1.0, 100_000.0) as usize;
     let mut all = vec![[0.0; N]; repetitions];

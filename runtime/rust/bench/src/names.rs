@@ -1,10 +1,16 @@
 //! Names in texts: the proved call beside a pass that classifies each byte, and the same scan in safe Rust.
 
-use crate::calls::Times;
 use crate::measure::medians;
-use crate::table::CallRow;
+use crate::table::{call_row, Row, Table, CALL};
 use reference::Scan;
 use std::hint::black_box;
+
+pub const TABLE: Table = Table {
+    title: "Names in texts, by bytes; Rust only classifies each byte",
+    names: &["Texts"],
+    columns: CALL,
+    measure: |_, repetitions| rows(repetitions),
+};
 
 const WIDTH: usize = 64;
 const NAMES: usize = 65_536;
@@ -56,7 +62,7 @@ fn classified(text: &[u8]) -> usize {
 }
 
 /// One row for each kind of texts, counted by bytes: the proved call, the pass as plain Rust, and the tuned scan.
-pub fn rows(repetitions: usize) -> Vec<CallRow> {
+fn rows(repetitions: usize) -> Vec<Row> {
     let mut drawn = Drawn(1);
     let names = names(&mut drawn);
     let manifests: Vec<Vec<u8>> = (0..MANIFESTS).map(|_| manifest(&mut drawn, &names)).collect();
@@ -74,7 +80,7 @@ pub fn rows(repetitions: usize) -> Vec<CallRow> {
     ];
     let bytes = names.concat().into_bytes();
     let named: Vec<u32> = (0..names.len() as u32).collect();
-    let row = |(graph, texts, ends): &(&'static str, Vec<u8>, Vec<u64>)| {
+    let row = |(name, texts, ends): &(&'static str, Vec<u8>, Vec<u64>)| {
         let owners = vec![0; ends.len()];
         let (objects, width) = (NAMES as u32, WIDTH as u32);
         let scan = Scan { objects, width, names: &bytes, named: &named, texts, ends, owners: &owners };
@@ -89,8 +95,7 @@ pub fn rows(repetitions: usize) -> Vec<CallRow> {
             black_box(tuned::scan_length(scan, work)).expect("names and texts");
         };
         let mut work = vec![0; kullneyra::SCAN_WORK];
-        let times = Times::of(&medians(&mut work, repetitions, [&proved, &plain, &tuned]));
-        CallRow { graph, count: texts.len(), times }
+        call_row(name, texts.len(), &medians(&mut work, repetitions, [&proved, &plain, &tuned]))
     };
     all.iter().map(row).collect()
 }

@@ -1,7 +1,7 @@
 //! Plots as SVG, written by hand.
 
-use crate::calls;
-use crate::table::{GrowthRow, MarkRow};
+use crate::marker::PER_REFERENCE;
+use crate::table::Merged;
 use std::fmt::Write;
 
 const PROVED: &str = "#1b6ca8";
@@ -42,14 +42,15 @@ fn legend(svg: &mut String, x: f64, y: f64, entries: &[(&str, &str)]) {
     }
 }
 
-/// The machines' bars, from the top.
-const BARS: [(usize, &str); 3] = [(calls::PROVED, PROVED), (calls::TUNED, TUNED), (calls::REFERENCE, REFERENCE)];
+/// The colours of the machines' bars, from the top.
+const BARS: [&str; 3] = [PROVED, TUNED, REFERENCE];
 
 /// Bars of ns per reference, three for each marking, with a line where depth-first marking stands.
 /// The scale is logarithmic, from 1 ns.
-pub fn marks(rows: &[MarkRow]) -> String {
+pub fn marks(rows: &[Merged]) -> String {
     let (left, top, step, width) = (190.0, 55.0, 30.0, 620.0);
-    let highest = rows.iter().flat_map(|row| BARS.map(|(side, _)| row.per_reference(side))).fold(10.0, f64::max);
+    let per_reference = |row: &Merged| PER_REFERENCE.map(|column| row.figures[column][0]);
+    let highest = rows.iter().flat_map(per_reference).fold(10.0, f64::max);
     let across = |value: f64| width * value.max(1.0).log10() / highest.log10();
     let height = top + step * rows.len() as f64 + 30.0;
     let mut svg = start(left + width + 40.0, height, "Marker: ns per reference (logarithmic)");
@@ -63,41 +64,37 @@ pub fn marks(rows: &[MarkRow]) -> String {
     }
     for (i, row) in rows.iter().enumerate() {
         let y = top + step * i as f64;
-        let s = row.settings;
-        let name = format!("{}, W {}, D {}, K {}", row.graph, s.workers, s.batch, s.cutoff);
+        let name = format!("{}, W {}, D, K {}", row.names[0], row.names[1], row.names[2]);
         label(&mut svg, left - 6.0, y + 14.0, "end", "10", &name);
-        for (place, (side, color)) in BARS.into_iter().enumerate() {
-            bar(&mut svg, left, y + 3.0 + 8.0 * place as f64, across(row.per_reference(side)), 8.0, color);
+        let [machines @ .., floor] = per_reference(row);
+        for (place, (time, color)) in machines.into_iter().zip(BARS).enumerate() {
+            bar(&mut svg, left, y + 3.0 + 8.0 * place as f64, across(time), 8.0, color);
         }
-        let x = left + across(row.per_reference(calls::FLOOR));
+        let x = left + across(floor);
         line(&mut svg, (x, y + 1.0), (x, y + 29.0), FLOOR);
     }
     svg + "</svg>\n"
 }
 
-/// One line of the growth plot.
+/// One line of the growth plot: its column has nanoseconds for each reference.
 struct Curve {
     name: &'static str,
     color: &'static str,
     dashed: bool,
-    time: fn(&GrowthRow) -> f64,
-}
-
-const fn mark_time<const SIDE: usize>() -> fn(&GrowthRow) -> f64 {
-    |row| row.mark.marking.medians.times[SIDE]
+    column: usize,
 }
 
 const CURVES: [Curve; 6] = [
-    Curve { name: "mark, proved", color: PROVED, dashed: false, time: mark_time::<{ calls::PROVED }>() },
-    Curve { name: "mark, tuned", color: TUNED, dashed: false, time: mark_time::<{ calls::TUNED }>() },
-    Curve { name: "mark, Rust", color: REFERENCE, dashed: false, time: mark_time::<{ calls::REFERENCE }>() },
-    Curve { name: "depth-first", color: FLOOR, dashed: false, time: mark_time::<{ calls::FLOOR }>() },
-    Curve { name: "read, proved", color: PROVED, dashed: true, time: |row| row.read.proved },
-    Curve { name: "read, Rust", color: REFERENCE, dashed: true, time: |row| row.read.reference },
+    Curve { name: "mark, proved", color: PROVED, dashed: false, column: 2 },
+    Curve { name: "mark, tuned", color: TUNED, dashed: false, column: 3 },
+    Curve { name: "mark, Rust", color: REFERENCE, dashed: false, column: 4 },
+    Curve { name: "depth-first", color: FLOOR, dashed: false, column: 5 },
+    Curve { name: "read, proved", color: PROVED, dashed: true, column: 0 },
+    Curve { name: "read, Rust", color: REFERENCE, dashed: true, column: 1 },
 ];
 
 /// Time over references, both logarithmic: a straight line of slope 1 is time in proportion.
-pub fn growth(rows: &[GrowthRow]) -> String {
+pub fn growth(rows: &[Merged]) -> String {
     let (left, top, width, height) = (80.0, 40.0, 560.0, 440.0);
     let across = |references: f64| left + width * (references.log10() - 3.0) / 3.0;
     let up = |time: f64| top + height - height * (time.log10() - 3.0) / 5.0;
@@ -114,8 +111,11 @@ pub fn growth(rows: &[GrowthRow]) -> String {
     }
     let mut names = Vec::new();
     for curve in &CURVES {
-        let points: Vec<(f64, f64)> =
-            rows.iter().map(|row| (across(row.references as f64), up((curve.time)(row)))).collect();
+        let point = |row: &Merged| {
+            let references: f64 = row.names[0].parse().expect("a number of references");
+            (across(references), up(row.figures[curve.column][0] * references))
+        };
+        let points: Vec<(f64, f64)> = rows.iter().map(point).collect();
         draw(&mut svg, curve, &points);
         names.extend(points.last().map(|&(_, y)| (y + 4.0, curve.name)));
     }

@@ -1,173 +1,120 @@
-//! The tables, as Markdown.
+//! Tables: their rows as measured, in a file, over several files, and as Markdown.
 
-use crate::calls::{Marking, Stops, Times, FLOOR, PROVED, REFERENCE, TUNED};
-use crate::measure::Medians;
-use kullneyra::Settings;
+use crate::graphs::Graph;
+use crate::measure::{median, Medians};
 use std::fmt::Write;
 
-/// One measured marking.
-pub struct MarkRow {
-    pub graph: &'static str,
-    pub settings: Settings,
-    pub marking: Marking,
+/// What the figures of a column are.
+#[derive(Clone, Copy)]
+pub enum Kind {
+    Count,
+    Nanoseconds,
+    Microseconds,
+    Ratio,
+    /// A ratio with the least and the most of it.
+    Span,
 }
 
-impl MarkRow {
-    /// A side's nanoseconds for one reference.
-    pub fn per_reference(&self, side: usize) -> f64 {
-        self.marking.medians.times[side] / self.marking.followed as f64
-    }
-
-    /// The proved library's time over a side's.
-    pub fn over(&self, side: usize) -> f64 {
-        self.marking.medians.over[side]
-    }
-
-    /// One worker with large batches, where the goal is twice the floor.
-    pub fn is_like_the_floor(&self) -> bool {
-        self.settings.workers == 1 && self.settings.batch >= 1024
-    }
+pub struct Table {
+    pub title: &'static str,
+    /// The heads of the names in a row, and of its figures.
+    pub names: &'static [&'static str],
+    pub columns: &'static [(&'static str, Kind)],
+    pub measure: fn(&[Graph], usize) -> Vec<Row>,
 }
 
-/// One measured reading or sweep, with how many elements it is counted by.
-pub struct CallRow {
-    pub graph: &'static str,
-    pub count: usize,
-    pub times: Times,
+pub struct Row {
+    pub names: Vec<String>,
+    pub figures: Vec<f64>,
 }
 
-/// One size in the growth table: reader and marker.
-pub struct GrowthRow {
-    pub references: usize,
-    pub read: Times,
-    pub mark: MarkRow,
+/// A row over several files: of each figure the median, the least and the most.
+pub struct Merged {
+    pub names: Vec<String>,
+    pub figures: Vec<[f64; 3]>,
 }
 
-pub fn calls(title: &str, unit: &str, rows: &[CallRow]) -> String {
-    let mut text = format!("## {title}\n\n");
-    text +=
-        &format!("| Store | {unit}s | proved ns/{unit} | Rust ns/{unit} | proved : Rust | proved : tuned |\n|---|--:|--:|--:|--:|--:|\n");
-    for row in rows {
-        let (proved, reference) = (row.times.proved / row.count as f64, row.times.reference / row.count as f64);
-        let ratio = row.times.ratio;
-        let tuned = row.times.tuned.map_or("".into(), |over| format!("{over:.2}"));
-        writeln!(text, "| {} | {} | {proved:.2} | {reference:.2} | {ratio:.2} | {tuned} |", row.graph, row.count)
-            .expect("text");
-    }
-    text + "\n"
+pub type Rows = Vec<Merged>;
+
+/// The columns of a call that is measured beside the plain and the tuned one; its title says what the times are divided by.
+pub const CALL: &[(&str, Kind)] = &[
+    ("how many", Kind::Count),
+    ("proved, ns each", Kind::Nanoseconds),
+    ("Rust, ns each", Kind::Nanoseconds),
+    ("tuned, ns each", Kind::Nanoseconds),
+    ("proved : Rust", Kind::Ratio),
+    ("proved : tuned", Kind::Span),
+];
+
+/// A row of these columns; the sides are the proved, the plain and the tuned one.
+pub fn call_row(name: &str, count: usize, medians: &Medians<3>) -> Row {
+    let [proved, plain, tuned] = medians.times.map(|time| time / count as f64);
+    let figures = vec![count as f64, proved, plain, tuned, medians.over[1], medians.over[2]];
+    Row { names: vec![name.into()], figures }
 }
 
-const MARK_HEAD: &str = "\
-| Store | W | D, K | turns | hand-overs | proved ns/ref | tuned ns/ref | Rust ns/ref | depth-first ns/ref | proved ns/turn | \
-proved : tuned | proved : Rust | proved : depth-first |
-|---|--:|--:|--:|--:|--:|--:|--:|--:|--:|--:|--:|--:|
-";
+/// One such row for each store.
+pub fn store_rows(graphs: &[Graph], count: fn(&Graph) -> usize, measure: impl Fn(&Graph) -> Medians<3>) -> Vec<Row> {
+    graphs.iter().map(|graph| call_row(graph.name, count(graph), &measure(graph))).collect()
+}
 
-pub fn marks(rows: &[MarkRow]) -> String {
-    let mut text = format!("## Marker, to the end of the collection\n\n{MARK_HEAD}");
-    for row in rows {
-        let Marking { medians, turns, handed, .. } = &row.marking;
-        let Settings { workers, batch, cutoff } = row.settings;
-        write!(text, "| {} | {workers} | {batch}, {cutoff} | {turns} | {handed} |", row.graph).expect("text");
-        for side in [PROVED, TUNED, REFERENCE, FLOOR] {
-            write!(text, " {:.2} |", row.per_reference(side)).expect("text");
+/// Rows as lines of a file: the table's title, the names and the figures, parted by tabs.
+pub fn written(table: &Table, rows: &[Row]) -> String {
+    let line = |row: &Row| {
+        assert_eq!((row.names.len(), row.figures.len()), (table.names.len(), table.columns.len()), "{}", table.title);
+        let figures = row.figures.iter().map(f64::to_string);
+        let words: Vec<String> =
+            [table.title.to_string()].into_iter().chain(row.names.clone()).chain(figures).collect();
+        words.join("\t") + "\n"
+    };
+    rows.iter().map(line).collect()
+}
+
+/// The rows of a table in a file's text.
+fn read(table: &Table, text: &str) -> Vec<Row> {
+    let row = |line: &str| {
+        let words: Vec<&str> = line.split('\t').collect();
+        let (names, figures) = words[1..].split_at(table.names.len());
+        Row {
+            names: names.iter().map(|name| name.to_string()).collect(),
+            figures: figures.iter().map(|figure| figure.parse().expect("a figure")).collect(),
         }
-        write!(text, " {:.2} |", medians.times[PROVED] / *turns as f64).expect("text");
-        for side in [TUNED, REFERENCE, FLOOR] {
-            write!(text, " {:.2} |", row.over(side)).expect("text");
-        }
-        text.push('\n');
+    };
+    text.lines().filter(|line| line.split('\t').next() == Some(table.title)).map(row).collect()
+}
+
+/// The rows of a table over several files.
+pub fn merged(table: &Table, texts: &[String]) -> Rows {
+    let files: Vec<Vec<Row>> = texts.iter().map(|text| read(table, text)).collect();
+    let figure = |row: usize, column: usize| {
+        let all: Vec<f64> = files.iter().map(|rows| rows[row].figures[column]).collect();
+        let (least, most) = all.iter().fold((f64::MAX, f64::MIN), |(low, high), &one| (low.min(one), high.max(one)));
+        [median(all), least, most]
+    };
+    let row = |(i, row): (usize, &Row)| Merged {
+        names: row.names.clone(),
+        figures: (0..row.figures.len()).map(|column| figure(i, column)).collect(),
+    };
+    files.first().map_or(Vec::new(), |rows| rows.iter().enumerate().map(row).collect())
+}
+
+fn cell(kind: Kind, [middle, least, most]: [f64; 3]) -> String {
+    match kind {
+        Kind::Count => format!("{middle:.0}"),
+        Kind::Microseconds => format!("{middle:.1}"),
+        Kind::Nanoseconds | Kind::Ratio => format!("{middle:.2}"),
+        Kind::Span => format!("{middle:.2} ({least:.2} to {most:.2})"),
     }
-    text + "\n"
 }
 
-/// One whole collection, in one call.
-pub struct WholeRow {
-    pub graph: &'static str,
-    pub objects: usize,
-    pub references: usize,
-    pub medians: Medians<4>,
-}
-
-const WHOLES_HEAD: &str = "\
-| Store | objects | references | one call, µs | depth-first, µs | : depth-first | : tuned | : mark with enough rounds |
-|---|--:|--:|--:|--:|--:|--:|--:|
-";
-
-pub fn wholes(rows: &[WholeRow]) -> String {
-    let mut text = format!("## A whole collection in one call, W 1, D 1024, K 4096\n\n{WHOLES_HEAD}");
-    for WholeRow { graph, objects, references, medians } in rows {
-        let [all, floor] = [0, 1].map(|side| medians.times[side] / 1_000.0);
-        let [_, over_floor, over_tuned, over_rounds] = medians.over;
-        write!(text, "| {graph} | {objects} | {references} | {all:.1} | {floor:.1} |").expect("text");
-        writeln!(text, " {over_floor:.2} | {over_tuned:.2} | {over_rounds:.2} |").expect("text");
-    }
-    text + "\n"
-}
-
-const STOPS_HEAD: &str = "\
-| Store | W | a call's checks, µs | taking up, µs | Rust, µs | : checks | : Rust | one call, µs | 100 calls, µs | Rust, µs | : one | : Rust |
-|---|--:|--:|--:|--:|--:|--:|--:|--:|--:|--:|--:|
-";
-
-pub fn stops(rows: &[(&'static str, u32, Stops)]) -> String {
-    let mut text = format!("## Stopping and going on, D 64, K 64\n\n{STOPS_HEAD}");
-    for (graph, workers, stops) in rows {
-        let Stops { checked, taken, taken_reference, over_checked, over_reference, .. } = stops;
-        let [checked, taken, reference] = [checked, taken, taken_reference].map(|time| time / 1_000.0);
-        write!(text, "| {graph} | {workers} | {checked:.1} | {taken:.1} | {reference:.1} |").expect("text");
-        write!(text, " {over_checked:.2} | {over_reference:.2} |").expect("text");
-        let Stops { whole, parts, parts_reference, over_whole, parts_over_reference, .. } = stops;
-        let [whole, parts, reference] = [whole, parts, parts_reference].map(|time| time / 1_000.0);
-        write!(text, " {whole:.1} | {parts:.1} | {reference:.1} |").expect("text");
-        writeln!(text, " {over_whole:.2} | {parts_over_reference:.2} |").expect("text");
-    }
-    text + "\n"
-}
-
-const GROWTH_HEAD: &str = "\
-| References | read, proved ns/ref | read, Rust ns/ref | mark, proved ns/ref | mark, tuned ns/ref | mark, Rust ns/ref | \
-depth-first ns/ref | mark, proved µs |
-|--:|--:|--:|--:|--:|--:|--:|--:|
-";
-
-pub fn growth(rows: &[GrowthRow]) -> String {
-    let mut text = format!("## Growth: uniform store, n = m / 16, W 4, D 64, K 64\n\n{GROWTH_HEAD}");
+pub fn markdown(table: &Table, rows: &[Merged]) -> String {
+    let heads: Vec<&str> = table.names.iter().copied().chain(table.columns.iter().map(|(head, _)| *head)).collect();
+    let right = "--:|".repeat(heads.len() - 1);
+    let mut text = format!("## {}\n\n| {} |\n|---|{right}\n", table.title, heads.join(" | "));
     for row in rows {
-        let m = row.references as f64;
-        write!(text, "| {} | {:.2} | {:.2} |", row.references, row.read.proved / m, row.read.reference / m)
-            .expect("text");
-        for side in [PROVED, TUNED, REFERENCE, FLOOR] {
-            write!(text, " {:.2} |", row.mark.per_reference(side)).expect("text");
-        }
-        writeln!(text, " {:.1} |", row.mark.marking.medians.times[PROVED] / 1_000.0).expect("text");
+        let figures = table.columns.iter().zip(&row.figures).map(|((_, kind), figure)| cell(*kind, *figure));
+        let words: Vec<String> = row.names.iter().cloned().chain(figures).collect();
+        writeln!(text, "| {} |", words.join(" | ")).expect("text");
     }
     text + "\n"
-}
-
-/// How many rows are as fast as a side, and how far the others are from it.
-fn goal(rows: &[MarkRow], name: &str, side: usize) -> String {
-    let mut ratios: Vec<f64> = rows.iter().map(|row| row.over(side)).collect();
-    ratios.sort_by(f64::total_cmp);
-    let at_most = |ratio: f64| ratios.iter().filter(|&&one| one <= ratio).count();
-    let (all, middle, worst) = (ratios.len(), ratios[ratios.len() / 2], ratios[ratios.len() - 1]);
-    format!(
-        "- At least as fast as {name}: {} of {all} rows; {} up to 1.05 for noise; median ratio {middle:.2}, worst {worst:.2}.\n",
-        at_most(1.0),
-        at_most(1.05),
-    )
-}
-
-/// How the goals stand.
-pub fn goals(rows: &[MarkRow]) -> String {
-    let mut text = "## Goals\n\n".to_string();
-    text += &goal(rows, "the tuned machine", TUNED);
-    text += &goal(rows, "the Rust machine", REFERENCE);
-    for row in rows.iter().filter(|row| row.is_like_the_floor()) {
-        let ratio = row.over(FLOOR);
-        let verdict = if ratio <= 2.0 { "within" } else { "above" };
-        writeln!(text, "- {}, W 1, D 1024, K 4096: {ratio:.2} × depth-first, {verdict} twice.", row.graph)
-            .expect("text");
-    }
-    text
 }

@@ -1,11 +1,24 @@
-//! A hundred references added and taken out: the proved call, plain Rust, and a whole fresh collection by the proved marker.
+//! A hundred references added and taken out.
 
-use crate::calls::{fresh, Times};
 use crate::graphs::Graph;
-use crate::measure::medians;
-use crate::table::CallRow;
+use crate::measure::{medians, Medians};
+use crate::table::{store_rows, Table, CALL};
 use reference::Renewed;
 use std::hint::black_box;
+
+pub const ADD: Table = Table {
+    title: "100 references added, by references",
+    names: &["Store"],
+    columns: CALL,
+    measure: |graphs, repetitions| store_rows(graphs, Graph::m, |graph| add(graph, repetitions)),
+};
+
+pub const REMOVE: Table = Table {
+    title: "100 references taken out, by references",
+    names: &["Store"],
+    columns: CALL,
+    measure: |graphs, repetitions| store_rows(graphs, Graph::m, |graph| remove(graph, repetitions)),
+};
 
 /// How many references come or go.
 const COUNT: usize = 100;
@@ -49,7 +62,7 @@ fn finished(graph: &Graph) -> Vec<u8> {
     marks
 }
 
-fn add(graph: &Graph, repetitions: usize) -> Times {
+fn add(graph: &Graph, repetitions: usize) -> Medians<3> {
     let graph = &with_room(graph);
     let Graph { offsets, targets, .. } = graph;
     let (from, to, marks) = (spread(graph.n(), 7_919), spread(graph.n(), 104_729), finished(graph));
@@ -63,12 +76,14 @@ fn add(graph: &Graph, repetitions: usize) -> Times {
         lent.marks.copy_from_slice(&marks);
         black_box(reference::add(offsets, targets, &from, &to, &mut lent.renewed())).expect("a graph");
     };
-    let collection = fresh(graph);
-    let whole = |_: &mut Lent| collection();
-    Times::of(&medians(&mut Lent::new(graph, graph.m() + COUNT), repetitions, [&proved, &plain, &whole]))
+    let tuned = |lent: &mut Lent| {
+        lent.marks.copy_from_slice(&marks);
+        black_box(tuned::add(offsets, targets, &from, &to, &mut lent.renewed())).expect("a graph");
+    };
+    medians(&mut Lent::new(graph, graph.m() + COUNT), repetitions, [&proved, &plain, &tuned])
 }
 
-fn remove(graph: &Graph, repetitions: usize) -> Times {
+fn remove(graph: &Graph, repetitions: usize) -> Medians<3> {
     let Graph { offsets, targets, .. } = graph;
     let mut numbers = spread(graph.m(), 7_919);
     numbers.sort_unstable();
@@ -81,15 +96,8 @@ fn remove(graph: &Graph, repetitions: usize) -> Times {
     let plain = |lent: &mut Lent| {
         black_box(reference::remove(offsets, targets, &numbers, &[0], &mut lent.renewed())).expect("a graph");
     };
-    let collection = fresh(graph);
-    let whole = |_: &mut Lent| collection();
-    Times::of(&medians(&mut Lent::new(graph, graph.m() - numbers.len()), repetitions, [&proved, &plain, &whole]))
-}
-
-/// One row for each store, counted by references.
-pub fn rows(graphs: &[Graph], repetitions: usize) -> [Vec<CallRow>; 2] {
-    [add, remove].map(|times| {
-        let row = |graph: &Graph| CallRow { graph: graph.name, count: graph.m(), times: times(graph, repetitions) };
-        graphs.iter().map(row).collect()
-    })
+    let tuned = |lent: &mut Lent| {
+        black_box(tuned::remove(offsets, targets, &numbers, &[0], &mut lent.renewed())).expect("a graph");
+    };
+    medians(&mut Lent::new(graph, graph.m() - numbers.len()), repetitions, [&proved, &plain, &tuned])
 }

@@ -1,13 +1,13 @@
 //! Large cases: at the limits and just beyond them.
 
-use crate::case::{Call, Case, Mark};
+use crate::case::{Call, Case, Mark, Update};
 use crate::draw;
 use crate::rng::Rng;
 use crate::store;
 use reference::{Tally, LARGEST_SIZE, MOST_LEASES, MOST_OBJECTS, MOST_REFERENCES, STARTS};
 
 /// How many there are: the first numbers of every run.
-pub const LARGE: u64 = 29;
+pub const LARGE: u64 = 36;
 
 /// The large case of this number.
 pub fn large(rng: &mut Rng, number: u64) -> Case {
@@ -17,7 +17,8 @@ pub fn large(rng: &mut Rng, number: u64) -> Case {
         8 => large_sweep(rng, MOST_OBJECTS + 1),
         9..=23 => Call::Mark(large_mark(rng, number - 9)),
         24 | 25 => large_begin(rng, number - 24),
-        _ => large_resume(rng, number - 26),
+        26..=28 => large_resume(rng, number - 26),
+        _ => large_graph(rng, number - 29),
     };
     Case { result: call.result_words(), fill: rng.word(), call }
 }
@@ -75,6 +76,46 @@ fn large_resume(rng: &mut Rng, number: u64) -> Call {
     }
     mark = parts.pop().expect("two parts");
     Call::Resume { mark, saved }
+}
+
+/// The calls over a graph, with all the objects and references that there may be; of an import also with the pairs in no order.
+fn large_graph(rng: &mut Rng, number: u64) -> Call {
+    const NEW: usize = 100;
+    let (n, m) = (MOST_OBJECTS, if number == 1 { MOST_REFERENCES - NEW } else { MOST_REFERENCES });
+    let store = store::store(rng, 0, n, m);
+    let (offsets, targets) = store.lists();
+    let mut drawn = |count, below| -> Vec<u32> { (0..count).map(|_| rng.below(below) as u32).collect() };
+    match number {
+        0 => Call::Hops { offsets, targets, starts: vec![store.index], hops: n, work: 2 * n },
+        1 => {
+            let update =
+                Update { offsets, targets, marks: vec![2; n], new_offsets: n + 1, new_targets: m + NEW, work: n };
+            Call::Add { update, from: drawn(NEW, n), to: drawn(NEW, n) }
+        }
+        2 | 3 => {
+            let numbers = drawn(if number == 2 { NEW } else { m / 2 }, m);
+            let mut named = numbers.clone();
+            named.sort_unstable();
+            named.dedup();
+            let new_targets = m - named.len();
+            let update = Update { offsets, targets, marks: vec![2; n], new_offsets: n + 1, new_targets, work: n };
+            Call::Remove { update, numbers, starts: vec![store.index] }
+        }
+        4 => {
+            let out = reference::export_length(&offsets, &targets).expect("a graph") as usize;
+            Call::Export { offsets, targets, out }
+        }
+        _ => {
+            let mut pairs = store.pairs;
+            if number == 5 {
+                pairs.sort_unstable();
+            }
+            let line = |(from, to): (u32, u32)| format!("{} {}\n", from + 1, to + 1);
+            let lines: String = pairs.into_iter().map(line).collect();
+            let text = format!("{}\n{n} {n} {m}\n{lines}", reference::BANNER).into_bytes();
+            Call::Import { text, offsets: n + 1, targets: m, sizes: n }
+        }
+    }
 }
 
 /// Shape, n, m, W, D, K and turns of each large marker's call.

@@ -114,11 +114,11 @@ pub fn hops(offsets: &[u32], targets: &[u32], starts: &[u32], hops: &mut [u32], 
 }
 
 pub fn add(offsets: &[u32], targets: &[u32], from: &[u32], to: &[u32], lent: &mut Renewal<'_>) -> u32 {
-    number(reference::add(offsets, targets, from, to, &mut lent.renewed()))
+    number(reference::add(offsets, targets, from, to, lent))
 }
 
 pub fn remove(offsets: &[u32], targets: &[u32], numbers: &[u32], starts: &[u32], lent: &mut Renewal<'_>) -> u32 {
-    number(reference::remove(offsets, targets, numbers, starts, &mut lent.renewed()))
+    number(reference::remove(offsets, targets, numbers, starts, lent))
 }
 
 pub fn market_header(text: &[u8], result: &mut [u32]) -> u32 {

@@ -6,21 +6,7 @@ use kullneyra::Refusal;
 use reference::Outcome;
 
 pub use crate::calls::{Proved, Side, Typed, Untouched};
-
-/// What is lent to `add` and `remove`.
-pub struct Renewal<'a> {
-    pub offsets: &'a mut [u32],
-    pub targets: &'a mut [u32],
-    pub marks: &'a mut [u8],
-    pub work: &'a mut [u32],
-}
-
-impl Renewal<'_> {
-    pub fn renewed(&mut self) -> reference::Renewed<'_> {
-        let Renewal { offsets, targets, marks, work } = self;
-        reference::Renewed { offsets, targets, marks, work }
-    }
-}
+pub use reference::Renewed as Renewal;
 
 /// What is lent to the calls that save.
 pub struct Buffers<'a> {
@@ -99,8 +85,20 @@ impl Side for Tuned {
         seeded(seed, |seed| number(tuned::deal_seed(seed, rounds, workers, schedule)))
     }
 
+    /// The queue stands in words of its own, since it leaves others than the call may; beside a refusal it is as it was.
     fn hops(&self, offsets: &[u32], targets: &[u32], starts: &[u32], hops: &mut [u32], work: &mut [u32]) -> u32 {
-        number(tuned::hops(offsets, targets, starts, hops, work))
+        let mut queue = work.to_vec();
+        let answer = number(tuned::hops(offsets, targets, starts, hops, &mut queue));
+        assert!(answer == 0 || queue == work, "a work word is changed beside a refusal");
+        answer
+    }
+
+    fn add(&self, offsets: &[u32], targets: &[u32], from: &[u32], to: &[u32], lent: &mut Renewal<'_>) -> u32 {
+        number(tuned::add(offsets, targets, from, to, lent))
+    }
+
+    fn remove(&self, offsets: &[u32], targets: &[u32], numbers: &[u32], starts: &[u32], lent: &mut Renewal<'_>) -> u32 {
+        number(tuned::remove(offsets, targets, numbers, starts, lent))
     }
 
     fn import(

@@ -19,7 +19,7 @@ pub struct Renewed<'a> {
     pub offsets: &'a mut [u32],
     pub targets: &'a mut [u32],
     pub marks: &'a mut [u8],
-    pub work: &'a [u32],
+    pub work: &'a mut [u32],
 }
 
 impl Renewed<'_> {

@@ -19,6 +19,7 @@ mod market;
 mod read;
 mod scan;
 mod sweep;
+mod updates;
 
 pub use cards::{deal, deal_seed};
 pub use floor::depth_first;
@@ -27,8 +28,13 @@ pub use market::{export, import};
 pub use read::read;
 pub use scan::{scan, scan_length};
 pub use sweep::sweep;
+pub use updates::{add, remove};
 
 use reference::{Call, Outcome, Tally};
+use std::hint::black_box;
+
+/// How many words below the top of the work memory the run stands whose references are touched.
+const AHEAD: usize = 8;
 
 /// What a worker is, and what its next turn does if it is busy. The busy ones are the last three.
 const IDLE: u32 = 0;
@@ -393,7 +399,12 @@ impl Machine<'_> {
         let worker = &mut self.workers[0];
         let (mut first, mut end, mut top) = (worker.first, worker.end, worker.top as usize);
         let (mut carried, mut batch, mut polls, mut followed, mut won) = (worker.carried, 0, 0u32, 0, 0);
+        let mut touched = 0;
         while first < end {
+            // References that will be followed soon are touched, so that they are near then.
+            if top >= AHEAD {
+                touched |= targets[work[top - AHEAD] as usize];
+            }
             if batch == 0 {
                 batch = self.batch.min(carried);
                 carried -= batch;
@@ -405,12 +416,11 @@ impl Machine<'_> {
                 if marks[target] == 0 {
                     marks[target] = 1;
                     won += 1;
-                    let (from, to) = (offsets[target], offsets[target + 1]);
-                    if from < to {
-                        work[top] = from;
-                        work[top + 1] = to;
+                    let ends = &offsets[target..target + 2];
+                    if ends[0] < ends[1] {
+                        work[top..top + 2].copy_from_slice(ends);
                         top += 2;
-                        carried += to - from;
+                        carried += ends[1] - ends[0];
                     }
                 }
             }
@@ -422,6 +432,7 @@ impl Machine<'_> {
                 (first, end) = (work[top], work[top + 1]);
             }
         }
+        black_box(touched);
         *worker = Worker { status: ENDED, taken: followed, won, ..Worker::default() };
         self.counts = Counts { refused: 0, carrying: 0, awake: 0 };
         u64::from(followed) + u64::from(won) + u64::from(polls) + 1
