@@ -45,8 +45,42 @@ fn width(v: u64) -> usize
     7
 }
 
-// Writes a number and the byte behind it.
-fn put_field(out: &mut [u8], at: usize, v: u64, stop: u8) -> usize
+// Writes a number of four digits and the byte behind it. Most numbers have as many, or five: they take no loop.
+fn put_four(out: &mut [u8], at: usize, v: u64, stop: u8) -> usize
+    requires { ⌜ (length (decimal v) ≡ 4) × (at + 5 ≤ length (now out)) ⌝ }
+    ensures { λ r. ⌜ Put (now (out .entry)) at (stopped (decimal v) stop) (now (out .exit)) r ⌝ }
+{
+    let tens = v / 10;
+    let hundreds = tens / 10;
+    let thousands = hundreds / 10;
+    out[at + 4] = stop;
+    out[at + 3] = (ZERO + v % 10) as u8;
+    out[at + 2] = (ZERO + tens % 10) as u8;
+    out[at + 1] = (ZERO + hundreds % 10) as u8;
+    out[at] = (ZERO + thousands % 10) as u8;
+    at + 5
+}
+
+// The same of five digits.
+fn put_five(out: &mut [u8], at: usize, v: u64, stop: u8) -> usize
+    requires { ⌜ (length (decimal v) ≡ 5) × (at + 6 ≤ length (now out)) ⌝ }
+    ensures { λ r. ⌜ Put (now (out .entry)) at (stopped (decimal v) stop) (now (out .exit)) r ⌝ }
+{
+    let tens = v / 10;
+    let hundreds = tens / 10;
+    let thousands = hundreds / 10;
+    let ten_thousands = thousands / 10;
+    out[at + 5] = stop;
+    out[at + 4] = (ZERO + v % 10) as u8;
+    out[at + 3] = (ZERO + tens % 10) as u8;
+    out[at + 2] = (ZERO + hundreds % 10) as u8;
+    out[at + 1] = (ZERO + thousands % 10) as u8;
+    out[at] = (ZERO + ten_thousands % 10) as u8;
+    at + 6
+}
+
+// The same of any number.
+fn put_digits(out: &mut [u8], at: usize, v: u64, stop: u8) -> usize
     requires { ⌜ (v < short) × (at + suc (length (decimal v)) ≤ length (now out)) ⌝ }
     ensures { λ r. ⌜ Put (now (out .entry)) at (stopped (decimal v) stop) (now (out .exit)) r ⌝ }
 {
@@ -60,6 +94,23 @@ fn put_field(out: &mut [u8], at: usize, v: u64, stop: u8) -> usize
         left = left / 10;
     }
     end + 1
+}
+
+// Writes a number and the byte behind it.
+fn put_field(out: &mut [u8], at: usize, v: u64, stop: u8) -> usize
+    requires { ⌜ (v < short) × (at + suc (length (decimal v)) ≤ length (now out)) ⌝ }
+    ensures { λ r. ⌜ Put (now (out .entry)) at (stopped (decimal v) stop) (now (out .exit)) r ⌝ }
+{
+    if v < 1000 {
+        return put_digits(out, at, v, stop);
+    }
+    if v < 10000 {
+        return put_four(out, at, v, stop);
+    }
+    if v < 100000 {
+        return put_five(out, at, v, stop);
+    }
+    put_digits(out, at, v, stop)
 }
 
 // Writes the line of a pair.
