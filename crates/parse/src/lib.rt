@@ -164,7 +164,7 @@ fn four_value(a: u8, b: u8, c: u8, d: u8) -> u64
 // good here.
 fn short_field(text: &[u8], at: usize, stop: u8) -> Field
     requires { ⌜ (at + 6 ≤ length (now text)) × (stop < 48) ⌝ }
-    ensures { λ r. ⌜ (r .good ≡ true → FieldAt (now (text .entry)) at stop true (r .value) (r .next)) ⌝ }
+    ensures { λ r. ⌜ (r .good ≡ true → FieldAt (now (text .entry)) at stop true (r .value) (r .next) × (r .next ≤ at + 6)) ⌝ }
 {
     let a = text[at];
     let b = text[at + 1];
@@ -200,20 +200,6 @@ fn field_at(text: &[u8], at: usize, stop: u8) -> Field
     requires { ⌜ (at ≤ length (now text)) × ((0 < stop) × (stop < 48)) ⌝ }
     ensures { λ r. ⌜ FieldAt (now (text .entry)) at stop (r .good) (r .value) (r .next) ⌝ }
 {
-    if 6 <= text.len() - at {
-        let short = short_field(text, at, stop);
-        if short.good {
-            return short;
-        }
-    }
-    any_field(text, at, stop)
-}
-
-// The same, byte by byte.
-fn any_field(text: &[u8], at: usize, stop: u8) -> Field
-    requires { ⌜ (at ≤ length (now text)) × ((0 < stop) × (stop < 48)) ⌝ }
-    ensures { λ r. ⌜ FieldAt (now (text .entry)) at stop (r .good) (r .value) (r .next) ⌝ }
-{
     let mut value: u64 = 0;
     let mut i = at;
     while i < text.len() {
@@ -243,8 +229,8 @@ fn any_field(text: &[u8], at: usize, stop: u8) -> Field
     NO_FIELD
 }
 
-// The line of a pair at a place.
-pub fn line_at(text: &[u8], at: usize) -> Line
+// The line of a pair at a place, number by number.
+fn any_line(text: &[u8], at: usize) -> Line
     requires { ⌜ at ≤ length (now text) ⌝ }
     ensures { λ r. ⌜ LineAt (now (text .entry)) at (r .good) (r .from) (r .to) (r .next) ⌝ }
 {
@@ -260,6 +246,39 @@ pub fn line_at(text: &[u8], at: usize) -> Line
         to: to.value,
         next: to.next,
     }
+}
+
+// The line of a pair whose numbers have four or five digits. Anything else is not good here.
+fn short_line(text: &[u8], at: usize) -> Line
+    requires { ⌜ at + 12 ≤ length (now text) ⌝ }
+    ensures { λ r. ⌜ (r .good ≡ true → LineAt (now (text .entry)) at true (r .from) (r .to) (r .next)) ⌝ }
+{
+    let from = short_field(text, at, SPACE);
+    if !from.good {
+        return NO_LINE;
+    }
+    let middle = from.next;
+    let to = short_field(text, middle, FEED);
+    Line {
+        good: to.good,
+        from: from.value,
+        to: to.value,
+        next: to.next,
+    }
+}
+
+// The line of a pair at a place.
+pub fn line_at(text: &[u8], at: usize) -> Line
+    requires { ⌜ at ≤ length (now text) ⌝ }
+    ensures { λ r. ⌜ LineAt (now (text .entry)) at (r .good) (r .from) (r .to) (r .next) ⌝ }
+{
+    if 12 <= text.len() - at {
+        let line = short_line(text, at);
+        if line.good {
+            return line;
+        }
+    }
+    any_line(text, at)
 }
 
 // What stands before the pairs.

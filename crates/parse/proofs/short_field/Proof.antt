@@ -23,9 +23,11 @@ four-value-requires c κs = c .before .are-digits .ensures (not-false _ (c .if1 
 returns-2 : tie.Need-returns-2
 returns-2 c z =
     let v = c .before in
-    let s = entry (v .before .before) in
-    rw (v .four-value .ensures .0)
-    (four-field _ (s .args .at) (s .pre .0) refl refl refl refl (four-value-requires (v .before) (v .four-value .lifetimes)) (sym (c .if2 .taken)) (s .pre .1))
+    let s = entry (v .before .before) in (
+      rw (v .four-value .ensures .0)
+          (four-field _ (s .args .at) (s .pre .0) refl refl refl refl (four-value-requires (v .before) (v .four-value .lifetimes)) (sym (c .if2 .taken)) (s .pre .1)),
+      omega arith,
+    )
 
 -- the fifth byte is a digit
 abbrev four : tie.Else3 → tie.After-four-value
@@ -38,9 +40,11 @@ returns-5 : tie.Need-returns-5
 returns-5 c z =
     let f = fifth (c .before) in
     let v = four f in
-    let s = entry (v .before .before) in
-    rw (v .four-value .ensures .0, c .wide .ensures)
-    (five-field _ (s .args .at) (s .pre .0) refl refl refl refl (four-value-requires (v .before) (v .four-value .lifetimes)) refl (digit-five f) (sym (c .before .if4 .left)) (s .pre .1))
+    let s = entry (v .before .before) in (
+      rw (v .four-value .ensures .0, c .wide .ensures)
+          (five-field _ (s .args .at) (s .pre .0) refl refl refl refl (four-value-requires (v .before) (v .four-value .lifetimes)) refl (digit-five f) (sym (c .before .if4 .left)) (s .pre .1)),
+      omega arith,
+    )
 
 pub short-field-spec : {M : Type 1} → statement M
 short-field-spec =
