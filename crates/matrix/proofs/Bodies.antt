@@ -16,9 +16,7 @@ use Rattle.laws.proofs.Scan.{Scan, scan-start, scan-right, scan-wrong, scan-end
 use Rattle.matrix.specs.Reading.{number, behind, isLine, lineBehind, pairOf, areLines, pairsIn}
 use Rattle.matrix.specs.Import.{isInside, inside}
 use Rattle.matrix.specs.Steps.{pairAt, LineAt, BodyAt}
-
-never : {P : Type 0} → false ≡ true → P
-never z = let q : _≡_ {A = ℕ} 0 1 = cc in absurd (omega arith)
+use Rattle.matrix.proofs.Fields.{never}
 
 -- e lines are passed, up to the place i
 pub record Passing (text : List ℕ) (at n m e i wrong : ℕ) : Type 0 where

@@ -158,3 +158,24 @@ printed-field o at w v stop {out} e h p =
       fits = omega arith;
       holds = p ∙ rw (take-set-le at o (at + w) stop (omega arith), d, j, append-assoc (decimal v));
     }
+
+-- ---- a number whose width is known, without a loop
+
+-- the last k digits of a number, written before the place at + k
+unfoldable pub downFrom : ℕ → ℕ → ℕ → List ℕ → List ℕ
+downFrom zero at left out = out
+downFrom (suc k) at left out = downFrom k at (left / 10) (set out (at + k) (48 + left % 10))
+
+down-printed : {o : List ℕ} {at w v left : ℕ} {out : List ℕ} (k : ℕ) → Printing o at w v (at + k) left out
+    → downFrom k at left out ≡ take at o ++ (decimal v ++ drop (at + w) o)
+unfolding downFrom
+down-printed {at = at} zero a = printed a (omega arith)
+down-printed {o} {at} {w} {v} {left} {out} (suc k) a =
+    let e : at + suc k - 1 ≡ at + k = omega arith in
+    down-printed k (rw e at (printing-next a (omega arith)))
+
+pub straight : (w : ℕ) (o : List ℕ) (at v stop : ℕ) → length (decimal v) ≡ w → at + w < length o
+    → Put o at (stopped (decimal v) stop) (downFrom w at v (set o (at + w) stop)) (at + w + 1)
+straight w o at v stop e h =
+    let x = set o (at + w) stop in
+    printed-field o at w v stop (sym e) h (down-printed w (printing-start x at w v (sym e) (rw length-set h)))

@@ -13,7 +13,11 @@ use borrow.Author.Tests.{lt-ltb, le-leb, lt-leb, eq-eqb, ne-eqb}
 use Rattle.laws.specs.Choice.{both}
 use Rattle.matrix.specs.Layout.{valueFrom}
 use Rattle.matrix.specs.Reading.{isDigit, digits, lead, number, stops}
-use Rattle.matrix.specs.Steps.{FieldAt}
+use Rattle.matrix.specs.Steps.{FieldAt, Digit, Digits, fourValue}
+
+-- what is not good is not good
+pub never : {P : Type 0} → false ≡ true → P
+never z = let q : _≡_ {A = ℕ} 0 1 = cc in absurd (omega arith)
 
 -- k digits are passed, up to the place i, and their value is this
 pub record Scanning (text : List ℕ) (at i value : ℕ) : Type 0 where
@@ -139,6 +143,36 @@ field-bad text at stop e =
       next-is = λ z. never z;
       there = omega arith;
     }
-  where
-    never : {P : Type 0} → false ≡ true → P
-    never z = let q : _≡_ {A = ℕ} 0 1 = cc in absurd (omega arith)
+
+-- ---- four or five digits, looked at all at once
+
+module _ {text : List ℕ} {at i value : ℕ} (a : Scanning text at i value) where
+  -- one digit more, of the first ten
+  one-on : {b : ℕ} (j w : ℕ) → j ≡ i + 1 → w ≡ value * 10 + (b - 48) → i < length text → b ≡ getD text i 0 → Digit b → i < at + 10
+      → Scanning text at j w
+  one-on j w p q h e d l = rw (p, q) (scanning-next a h e (d .low) (d .high) (λ z. omega arith))
+
+  -- the wanted byte behind the digits
+  stopped-on : {stop : ℕ} (j : ℕ) → j ≡ i + 1 → stop ≡ getD text i 0 → stop < 48 → i < length text → at < i → FieldAt text at stop true value j
+  stopped-on j p e l h some = rw p (field-good a (ended-low a e l) e h (λ z. omega arith))
+
+module _ (text : List ℕ) (at : ℕ) (room : at + 6 ≤ length text) where
+  abbrev byte : ℕ → ℕ
+  byte k = getD text (at + k) 0
+
+  module _ {a b c d : ℕ} (ea : a ≡ getD text at 0) (eb : b ≡ byte 1) (ec : c ≡ byte 2) (ed : d ≡ byte 3) (ds : Digits a b c d) where
+    four-on : Scanning text at (at + 4) (fourValue a b c d)
+    four-on =
+        let s₀ = scanning-start text at (omega arith) in
+        let s₁ = one-on s₀ (at + 1) (a - 48) refl (omega arith) (omega arith) ea (ds .first) (omega arith) in
+        let s₂ = one-on s₁ (at + 2) ((a - 48) * 10 + (b - 48)) (omega arith) refl (omega arith) eb (ds .second) (omega arith) in
+        let s₃ = one-on s₂ (at + 3) (((a - 48) * 10 + (b - 48)) * 10 + (c - 48)) (omega arith) refl (omega arith) ec (ds .third) (omega arith) in
+        one-on s₃ (at + 4) (fourValue a b c d) (omega arith) refl (omega arith) ed (ds .fourth) (omega arith)
+
+    pub four-field : {stop : ℕ} → stop ≡ byte 4 → stop < 48 → FieldAt text at stop true (fourValue a b c d) (at + 5)
+    four-field e l = stopped-on four-on (at + 5) (omega arith) e l (omega arith) (omega arith)
+
+    pub five-field : {e stop : ℕ} → e ≡ byte 4 → Digit e → stop ≡ byte 5 → stop < 48 → FieldAt text at stop true (fourValue a b c d * 10 + (e - 48)) (at + 6)
+    five-field {e} p q r l =
+        let s = one-on four-on (at + 5) (fourValue a b c d * 10 + (e - 48)) (omega arith) refl (omega arith) p q (omega arith) in
+        stopped-on s (at + 6) (omega arith) r l (omega arith) (omega arith)

@@ -25,10 +25,7 @@ use Rattle.records.specs.Reading.{judged}
 use Rattle.catalogue.specs.Answer.{Row}
 use Rattle.matrix.specs.Import.{fault, inside, storeOf, misfits, lentTo, lent, answerOf, Imports}
 use Rattle.matrix.specs.Promise.{valuesOf, Says, Accepts}
-use Rattle.matrix.proofs.Fields.{digits-none, digits-one}
-
-never : {P : Type 0} → false ≡ true → P
-never z = let q : _≡_ {A = ℕ} 0 1 = cc in absurd (omega arith)
+use Rattle.matrix.proofs.Fields.{never, digits-none, digits-one}
 
 -- ---- a number and the byte behind it, both ways
 

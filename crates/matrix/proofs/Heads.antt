@@ -14,9 +14,7 @@ use Rattle.laws.proofs.Test.{both-true}
 use Rattle.matrix.specs.Layout.{banner, space, feed, percent}
 use Rattle.matrix.specs.Reading.{begins, skip, isHead, stops, behind, countsIn, rows, columns, number}
 use Rattle.matrix.specs.Steps.{FieldAt, LineAt, HeadOf}
-
-never : {P : Type 0} → false ≡ true → P
-never z = let q : _≡_ {A = ℕ} 0 1 = cc in absurd (omega arith)
+use Rattle.matrix.proofs.Fields.{never}
 
 -- ---- the first line
 

@@ -1,13 +1,18 @@
 -- The text of a graph, line by line: how long it is, and what stands in the buffer while it is written.
 use mathlib.Core.Path.{_≡_, refl, ap, sym, _∙_}
+use mathlib.Core.Logic.{by-cases}
+use native.Mathlib.Decide.{decLt}
 use mathlib.Core.List.{List, [], _∷_, _++_, append-assoc, append-nil}
 use Prim.Native.Nat.{ℕ, zero, suc, _+_, _-_, _*_, _≤_, _<_}
 use native.Mathlib.Numerals.{add-one}
+use native.Mathlib.Nat.{mul-le-mul-left}
 use native.Mathlib.Omega.{arith}
 use lib.ListN.{length, getD, take, drop, length-append, length-drop, take-append-drop, drop-of-length-le}
-use lib.Seq.{take-suc, length-take-le, getD-take, getD-drop, take-all}
+use lib.Seq.{take-suc, length-take-le, getD-take, getD-drop, take-all, drop-drop}
 use Rattle.laws.specs.Blocks.{laid}
 use Rattle.laws.specs.Every.{Every}
+use Rattle.laws.specs.Sum.{sum}
+use Rattle.laws.proofs.Sum.{sum-append, sum-snoc}
 use Rattle.laws.proofs.Every.{every-at, every-map}
 use Rattle.laws.proofs.Blocks.{laid-append}
 use Rattle.laws.proofs.Grouping.{map-append}
@@ -21,7 +26,8 @@ use Rattle.slices.proofs.Written.{same-long, nothing, then, as-text}
 use Rattle.text.specs.Text.{decimal}
 use Rattle.matrix.specs.Layout.{banner, space, feed, stopped}
 use Rattle.matrix.specs.Export.{pairsFrom, pairsBelow, lineOf, countsLine, exported}
-use Rattle.matrix.specs.Steps.{pairAt, short, Exportable, Listable, Printable}
+use Rattle.matrix.specs.Steps.{pairAt, short, digitsAt, Reaches, Exportable, Listable, Printable}
+use Rattle.matrix.proofs.Decimals.{width-one, width-more}
 
 -- ---- one line
 
@@ -140,11 +146,11 @@ pub record Body (G : Graph) (out₀ : List ℕ) (start v : ℕ) (out : List ℕ)
   pub room : start + length (laid lineOf (pairsBelow G (objects G))) ≤ length out₀
   pub put : Put out₀ start (laid lineOf (pairsBelow G v)) out end
 
--- how long the text is up to the lines of the first v objects
+-- how long the text is: all but the numbers and their bytes in the lines of the objects from v on, of which the targets' digits are counted
 pub record Measured (G : Graph) (v total : ℕ) : Type 0 where
   pub passed : v ≤ objects G
-  pub total-is : total ≡ length (banner ++ countsLine (objects G) (references G)) + length (laid lineOf (pairsBelow G v))
-  pub low : total ≤ 100 + 16 * first G v
+  pub total-is : total ≡ length (banner ++ countsLine (objects G) (references G)) + length (laid lineOf (pairsBelow G v)) + sum digitsAt (drop (first G v) (G .targets))
+  pub low : total ≤ 100 + 5 * references G + 9 * first G v
 
 module _ (G : Graph) (X : Exportable G) where
   body-next : (v : ℕ) → laid lineOf (pairsBelow G (v + 1)) ≡ laid lineOf (pairsBelow G v) ++ laid lineOf (pairsFrom v (referencesOf G v))
@@ -248,64 +254,109 @@ module _ (G : Graph) (X : Exportable G) where
 
 -- ---- lengths
 
--- how long the lines of the first e references are
-pub record Counting (v : ℕ) (ts : List ℕ) (e total : ℕ) : Type 0 where
-  pub able : Listable v ts
+-- an object's number has one to five digits
+pub digits-few : (v : ℕ) → v < most-objects → {a b c d : ℕ} → Reaches 9 v a → Reaches 99 v b → Reaches 999 v c → Reaches 9999 v d
+    → suc (a + b + c + d) ≡ digitsAt v
+unfolding decimal
+digits-few v h p q r s =
+    by-cases (decLt v 9) (λ (l : v < 9). omega (arith, p .missed l, q .missed (omega arith), r .missed (omega arith), s .missed (omega arith), width-one 19 (v + 1) (omega arith)))
+    (λ (n₁ : ¬ (v < 9)). by-cases (decLt v 99)
+    (λ (l : v < 99). omega (arith, p .reached (omega arith), q .missed l, r .missed (omega arith), s .missed (omega arith), width-more 0 18 (v + 1) (omega arith) (omega arith)))
+    (λ (n₂ : ¬ (v < 99)). by-cases (decLt v 999)
+    (λ (l : v < 999). omega (arith, p .reached (omega arith), q .reached (omega arith), r .missed l, s .missed (omega arith), width-more 1 17 (v + 1) (omega arith) (omega arith)))
+    (λ (n₃ : ¬ (v < 999)). by-cases (decLt v 9999)
+    (λ (l : v < 9999). omega (arith, p .reached (omega arith), q .reached (omega arith), r .reached (omega arith), s .missed l, width-more 2 16 (v + 1) (omega arith) (omega arith)))
+    (λ (n₄ : ¬ (v < 9999)). omega (arith, p .reached (omega arith), q .reached (omega arith), r .reached (omega arith), s .reached (omega arith), width-more 3 15 (v + 1) (omega arith) (omega arith))))))
+
+-- the digits of the first e targets behind their first
+pub record Counting (ts : List ℕ) (e more : ℕ) : Type 0 where
+  pub able : Every (λ (t : ℕ). t < most-objects) ts
   pub passed : e ≤ length ts
-  pub total-is : total ≡ length (laid lineOf (pairsFrom v (take e ts)))
-  pub low : total ≤ 16 * e
+  pub more-is : e + more ≡ sum digitsAt (take e ts)
+  pub low : more ≤ 4 * e
 
-pub counting-start : {v : ℕ} {ts : List ℕ} → Listable v ts → Counting v ts 0 0
-unfolding laid
-counting-start a = record { able = a; passed = omega arith; total-is = refl; low = omega arith }
+pub counting-start : {ts : List ℕ} → Every (λ (t : ℕ). t < most-objects) ts → Counting ts 0 0
+unfolding sum
+counting-start a = record { able = a; passed = omega arith; more-is = refl; low = omega arith }
 
-module _ {v : ℕ} {ts : List ℕ} {e total : ℕ} (a : Counting v ts e total) where
+module _ {ts : List ℕ} {e more : ℕ} (a : Counting ts e more) where
   pub counting-small : e < length ts → getD ts e 0 < most-objects
-  counting-small h = every-at (λ (t : ℕ). t < most-objects) ts e 0 (a .able .targets-few) h
+  counting-small h = every-at (λ (t : ℕ). t < most-objects) ts e 0 (a .able) h
 
-  pub counting-on : e < length ts → {x y : ℕ} → (x ≡ length (decimal (v + 1))) × (x ≤ 7) → (y ≡ length (decimal (getD ts e 0 + 1))) × (y ≤ 7)
-      → Counting v ts (e + 1) (total + (x + y + 2))
-  counting-on h {x} {y} p q =
-      record {
-        able = a .able;
-        passed = omega arith;
-        total-is = omega (arith, p .0, q .0, a .total-is, lines-longer v ts e h, line-length v (getD ts e 0));
-        low = omega (arith, a .low, p .1, q .1);
-      }
+  pub counting-on : e < length ts → {x : ℕ} → (suc x ≡ digitsAt (getD ts e 0)) × (x ≤ 4) → Counting ts (e + 1) (more + x)
+  counting-on h {x} p =
+      let s = ap (λ (k : ℕ). sum digitsAt (take k ts)) (add-one e) ∙ ap (sum digitsAt) (take-suc ts e 0 h) ∙ sum-snoc digitsAt (take e ts) (getD ts e 0) in
+      record { able = a .able; passed = omega arith; more-is = omega (arith, a .more-is, s, p .0); low = omega (arith, a .low, p .1) }
 
-  pub counting-end : length ts ≤ e → (total ≡ length (laid lineOf (pairsFrom v ts))) × (total ≤ 16 * length ts)
+  pub counting-end : length ts ≤ e → (length ts + more ≡ sum digitsAt ts) × (more ≤ 4 * length ts)
   counting-end h =
       let q : e ≡ length ts = omega (arith, a .passed) in
-      (a .total-is ∙ ap (λ (l : List ℕ). length (laid lineOf (pairsFrom v l))) (take-all e ts h), omega (arith, a .low))
+      (rw (take-all e ts h, q) at (a .more-is), omega (arith, a .low))
+
+-- the lines of one object: as often its number and two bytes, and the numbers of the targets
+lines-long : (v : ℕ) (ts : List ℕ) → length (laid lineOf (pairsFrom v ts)) ≡ length ts * (digitsAt v + 2) + sum digitsAt ts
+unfolding laid sum
+lines-long v [] = omega arith
+lines-long v (t ∷ ts) =
+    let l = length-append (lineOf (pairAt v t)) (laid lineOf (pairsFrom v ts)) in
+    omega (arith, l, line-length v t, lines-long v ts)
 
 module _ (G : Graph) (X : Exportable G) where
-  pub measured-start : {x y : ℕ} → (x ≡ length (decimal (objects G))) × (x ≤ 7) → (y ≡ length (decimal (references G))) × (y ≤ 7)
-      → Measured G 0 (49 + 2 * x + y + 3)
+  pub targets-few : Every (λ (t : ℕ). t < most-objects) (G .targets)
+  targets-few = every-from (G .targets) (λ i h. omega (arith, X .formed .inside i h, X .few))
+    where
+      every-from : (l : List ℕ) → ((i : ℕ) → i < length l → getD l i 0 < most-objects) → Every (λ (t : ℕ). t < most-objects) l
+      every-from [] f = tt
+      every-from (x ∷ l) f = (f 0 (omega arith), every-from l (λ i p. f (suc i) (omega arith)))
+
+  pub measured-start : {x y k : ℕ} → (x ≡ length (decimal (objects G))) × (x ≤ 7) → (y ≡ length (decimal (references G))) × (y ≤ 7)
+      → (references G + k ≡ sum digitsAt (G .targets)) × (k ≤ 4 * references G)
+      → Measured G 0 (49 + 2 * x + y + 3 + references G + k)
   unfolding laid pairsBelow
-  measured-start p q =
-      record { passed = omega arith; total-is = omega (arith, head-length (objects G) (references G), p .0, q .0); low = omega (arith, p .1, q .1) }
+  measured-start p q r =
+      let z : first G 0 ≡ 0 = X .formed .from-zero in
+      record {
+        passed = omega arith;
+        total-is = rw z (omega (arith, head-length (objects G) (references G), p .0, q .0, r .0));
+        low = omega (arith, p .1, q .1, r .1);
+      }
 
   module _ {v total : ℕ} (a : Measured G v total) where
-    pub measured-on : v < objects G → {ts : List ℕ} → ts ≡ referencesOf G v → {x : ℕ} → (x ≡ length (laid lineOf (pairsFrom v ts))) × (x ≤ 16 * length ts)
-        → Measured G (v + 1) (total + x)
-    measured-on h {ts} e p =
-        let n = ap length e ∙ part-length G X v h in
-        let s : v + 1 ≡ suc v = omega arith in
-        let m = ap (λ (l : List ℕ). length (laid lineOf (pairsFrom v l))) e in
-        record {
-          passed = omega arith;
-          total-is = omega (arith, a .total-is, p .0, m, body-longer G X v);
-          low = rw s (omega (arith, a .low, p .1, n, X .formed .rises v h));
-        }
+    module _ (h : v < objects G) where
+      -- the targets of the objects from v on are v's, and those of the objects behind it
+      parts : sum digitsAt (drop (first G v) (G .targets)) ≡ sum digitsAt (referencesOf G v) + sum digitsAt (drop (after G v) (G .targets))
+      parts =
+          let l = drop (first G v) (G .targets) in
+          let k = after G v - first G v in
+          let e : first G v + k ≡ after G v = omega (arith, X .formed .rises v h) in
+          ap (sum digitsAt) (sym (take-append-drop k l)) ∙ sum-append digitsAt (take k l) (drop k l)
+          ∙ ap (λ (t : List ℕ). sum digitsAt t + sum digitsAt (drop k l)) (sym (its-part G X v h))
+          ∙ ap (λ (t : List ℕ). sum digitsAt (referencesOf G v) + sum digitsAt t) (drop-drop k (first G v) (G .targets) ∙ ap (λ (i : ℕ). drop i (G .targets)) e)
 
-    pub measured-room : v < objects G → {ts : List ℕ} → ts ≡ referencesOf G v → {x : ℕ} → x ≤ 16 * length ts → total + x ≤ 100000000
-    measured-room h e p =
-        let n = ap length e ∙ part-length G X v h in
-        omega (arith, a .low, p, n, X .formed .rises v h, after-limit G (X .formed) v h, X .few-references)
+      size-few : {x : ℕ} → x ≤ 7 → (after G v - first G v) * (x + 2) ≤ 9 * (after G v - first G v)
+      size-few {x} p = omega (arith, mul-le-mul-left {m = x + 2} {n = 9} (after G v - first G v) (omega arith))
+
+      pub measured-on : {x : ℕ} → (x ≡ digitsAt v) × (x ≤ 7) → Measured G (v + 1) (total + (after G v - first G v) * (x + 2))
+      measured-on {x} p =
+          let s : v + 1 ≡ suc v = omega arith in
+          let rest = sum digitsAt (referencesOf G v) in
+          let m =
+          lines-long v (referencesOf G v) ∙ ap (λ (k : ℕ). k * (digitsAt v + 2) + rest) (part-length G X v h)
+          ∙ ap (λ (y : ℕ). (after G v - first G v) * (y + 2) + rest) (sym (p .0)) in
+          record {
+            passed = omega arith;
+            total-is = rw s (omega (arith, a .total-is, rw s at (body-longer G X v), m, parts));
+            low = rw s (omega (arith, a .low, size-few (p .1), X .formed .rises v h));
+          }
+
+      pub measured-room : {x : ℕ} → x ≤ 7 → total + (after G v - first G v) * (x + 2) ≤ 100000000
+      measured-room p = omega (arith, a .low, size-few p, X .formed .rises v h, after-limit G (X .formed) v h, X .few-references)
 
     pub measured-end : objects G ≤ v → (total ≡ length (exported G)) × (total ≤ 100000000)
+    unfolding sum
     measured-end h =
-        let q : v ≡ objects G = omega (arith, a .passed) in (
-          a .total-is ∙ ap (λ (k : ℕ). length (banner ++ countsLine (objects G) (references G)) + length (laid lineOf (pairsBelow G k))) q ∙ sym (text-length G X),
-          omega (arith, a .low, ap (first G) q, X .formed .to-all, X .few-references),
-        )
+        let q : v ≡ objects G = omega (arith, a .passed) in
+        let all : drop (first G v) (G .targets) ≡ [] = drop-of-length-le (G .targets) {i = first G v} (omega (arith, ap (first G) q, X .formed .to-all)) in
+        let none : sum digitsAt (drop (first G v) (G .targets)) ≡ 0 = rw all refl in
+        let lines = ap (λ (k : ℕ). length (laid lineOf (pairsBelow G k))) q in
+        (omega (arith, a .total-is, none, lines, text-length G X), omega (arith, a .low, ap (first G) q, X .formed .to-all, X .few-references))

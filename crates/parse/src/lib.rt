@@ -2,13 +2,13 @@
 // lines of pairs. Nothing is written.
 use matrix::BANNER;
 ghost use mathlib.Core.Path.{_≡_};
-ghost use mathlib.Core.Bool.{false};
-ghost use Prim.Native.Nat.{_≤_, _<_};
+ghost use mathlib.Core.Bool.{true, false};
+ghost use Prim.Native.Nat.{_+_, _≤_, _<_};
 ghost use lib.ListN.{length, drop};
 ghost use Rattle.matrix.specs.Layout.{banner};
 ghost use Rattle.matrix.specs.Reading.{begins, skip};
 ghost use Rattle.matrix.specs.Import.{within, isInside};
-ghost use Rattle.matrix.specs.Steps.{pairAt, LineEnd, FieldAt, LineAt, HeadOf, BodyAt};
+ghost use Rattle.matrix.specs.Steps.{pairAt, LineEnd, Digit, Digits, fourValue, FieldAt, LineAt, HeadOf, BodyAt};
 
 // The bytes that part numbers and lines, and the one that begins a line to be skipped.
 const SPACE: u8 = 32;
@@ -126,6 +126,75 @@ fn skip_lines(text: &[u8], from: usize) -> usize
     at
 }
 
+// Whether a byte is a digit, and whether four are.
+fn is_digit(b: u8) -> bool
+    ensures { λ r. ⌜ (r ≡ true → Digit b) ⌝ }
+{
+    if b < ZERO {
+        return false;
+    }
+    b <= NINE
+}
+
+fn are_digits(a: u8, b: u8, c: u8, d: u8) -> bool
+    ensures { λ r. ⌜ (r ≡ true → Digits a b c d) ⌝ }
+{
+    if !is_digit(a) {
+        return false;
+    }
+    if !is_digit(b) {
+        return false;
+    }
+    if !is_digit(c) {
+        return false;
+    }
+    is_digit(d)
+}
+
+// The number of four digits.
+fn four_value(a: u8, b: u8, c: u8, d: u8) -> u64
+    requires { ⌜ Digits a b c d ⌝ }
+    ensures { λ r. ⌜ (r ≡ fourValue a b c d) × (r < 10000) ⌝ }
+{
+    let high = wide(a - ZERO) * 10 + wide(b - ZERO);
+    (high * 10 + wide(c - ZERO)) * 10 + wide(d - ZERO)
+}
+
+// A number of four or five digits with the wanted byte behind it, as most are: their bytes are looked at all at once. Anything else is not
+// good here.
+fn short_field(text: &[u8], at: usize, stop: u8) -> Field
+    requires { ⌜ (at + 6 ≤ length (now text)) × (stop < 48) ⌝ }
+    ensures { λ r. ⌜ (r .good ≡ true → FieldAt (now (text .entry)) at stop true (r .value) (r .next) × (r .next ≤ at + 6)) ⌝ }
+{
+    let a = text[at];
+    let b = text[at + 1];
+    let c = text[at + 2];
+    let d = text[at + 3];
+    let e = text[at + 4];
+    if !are_digits(a, b, c, d) {
+        return NO_FIELD;
+    }
+    let four = four_value(a, b, c, d);
+    if e == stop {
+        return Field {
+            good: true,
+            value: four,
+            next: at + 5,
+        };
+    }
+    if !is_digit(e) {
+        return NO_FIELD;
+    }
+    if text[at + 5] != stop {
+        return NO_FIELD;
+    }
+    Field {
+        good: true,
+        value: four * 10 + wide(e - ZERO),
+        next: at + 6,
+    }
+}
+
 // The number at a place, and whether the byte behind its digits is the wanted one.
 fn field_at(text: &[u8], at: usize, stop: u8) -> Field
     requires { ⌜ (at ≤ length (now text)) × ((0 < stop) × (stop < 48)) ⌝ }
@@ -160,8 +229,8 @@ fn field_at(text: &[u8], at: usize, stop: u8) -> Field
     NO_FIELD
 }
 
-// The line of a pair at a place.
-pub fn line_at(text: &[u8], at: usize) -> Line
+// The line of a pair at a place, number by number.
+fn any_line(text: &[u8], at: usize) -> Line
     requires { ⌜ at ≤ length (now text) ⌝ }
     ensures { λ r. ⌜ LineAt (now (text .entry)) at (r .good) (r .from) (r .to) (r .next) ⌝ }
 {
@@ -177,6 +246,39 @@ pub fn line_at(text: &[u8], at: usize) -> Line
         to: to.value,
         next: to.next,
     }
+}
+
+// The line of a pair whose numbers have four or five digits. Anything else is not good here.
+fn short_line(text: &[u8], at: usize) -> Line
+    requires { ⌜ at + 12 ≤ length (now text) ⌝ }
+    ensures { λ r. ⌜ (r .good ≡ true → LineAt (now (text .entry)) at true (r .from) (r .to) (r .next)) ⌝ }
+{
+    let from = short_field(text, at, SPACE);
+    if !from.good {
+        return NO_LINE;
+    }
+    let middle = from.next;
+    let to = short_field(text, middle, FEED);
+    Line {
+        good: to.good,
+        from: from.value,
+        to: to.value,
+        next: to.next,
+    }
+}
+
+// The line of a pair at a place.
+pub fn line_at(text: &[u8], at: usize) -> Line
+    requires { ⌜ at ≤ length (now text) ⌝ }
+    ensures { λ r. ⌜ LineAt (now (text .entry)) at (r .good) (r .from) (r .to) (r .next) ⌝ }
+{
+    if 12 <= text.len() - at {
+        let line = short_line(text, at);
+        if line.good {
+            return line;
+        }
+    }
+    any_line(text, at)
 }
 
 // What stands before the pairs.

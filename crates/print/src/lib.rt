@@ -2,15 +2,18 @@
 use matrix::BANNER;
 ghost use mathlib.Core.Path.{_≡_};
 ghost use mathlib.Core.List.{_++_};
-ghost use Prim.Native.Nat.{suc, _+_, _*_, _≤_, _<_};
+ghost use Prim.Native.Nat.{ℕ, suc, _+_, _*_, _≤_, _<_};
 ghost use lib.ListN.{length};
 ghost use Rattle.laws.specs.Blocks.{laid};
+ghost use Rattle.laws.specs.Every.{Every};
+ghost use Rattle.laws.specs.Sum.{sum};
 ghost use Rattle.graph.specs.Graph.{graph};
+ghost use Rattle.graph.specs.Limits.{most-objects, most-references};
 ghost use Rattle.slices.specs.Put.{Put};
 ghost use Rattle.text.specs.Text.{decimal};
 ghost use Rattle.matrix.specs.Layout.{banner, stopped};
 ghost use Rattle.matrix.specs.Export.{lineOf, pairsFrom, countsLine, exported};
-ghost use Rattle.matrix.specs.Steps.{Exportable, Printable, Listable, pairAt, short};
+ghost use Rattle.matrix.specs.Steps.{Exportable, Printable, Reaches, pairAt, short, digitsAt};
 
 // The bytes that part numbers and lines, and the digit 0.
 const SPACE: u8 = 32;
@@ -45,8 +48,42 @@ fn width(v: u64) -> usize
     7
 }
 
-// Writes a number and the byte behind it.
-fn put_field(out: &mut [u8], at: usize, v: u64, stop: u8) -> usize
+// Writes a number of four digits and the byte behind it. Most numbers have as many, or five: they take no loop.
+fn put_four(out: &mut [u8], at: usize, v: u64, stop: u8) -> usize
+    requires { ⌜ (length (decimal v) ≡ 4) × (at + 5 ≤ length (now out)) ⌝ }
+    ensures { λ r. ⌜ Put (now (out .entry)) at (stopped (decimal v) stop) (now (out .exit)) r ⌝ }
+{
+    let tens = v / 10;
+    let hundreds = tens / 10;
+    let thousands = hundreds / 10;
+    out[at + 4] = stop;
+    out[at + 3] = (ZERO + v % 10) as u8;
+    out[at + 2] = (ZERO + tens % 10) as u8;
+    out[at + 1] = (ZERO + hundreds % 10) as u8;
+    out[at] = (ZERO + thousands % 10) as u8;
+    at + 5
+}
+
+// The same of five digits.
+fn put_five(out: &mut [u8], at: usize, v: u64, stop: u8) -> usize
+    requires { ⌜ (length (decimal v) ≡ 5) × (at + 6 ≤ length (now out)) ⌝ }
+    ensures { λ r. ⌜ Put (now (out .entry)) at (stopped (decimal v) stop) (now (out .exit)) r ⌝ }
+{
+    let tens = v / 10;
+    let hundreds = tens / 10;
+    let thousands = hundreds / 10;
+    let ten_thousands = thousands / 10;
+    out[at + 5] = stop;
+    out[at + 4] = (ZERO + v % 10) as u8;
+    out[at + 3] = (ZERO + tens % 10) as u8;
+    out[at + 2] = (ZERO + hundreds % 10) as u8;
+    out[at + 1] = (ZERO + thousands % 10) as u8;
+    out[at] = (ZERO + ten_thousands % 10) as u8;
+    at + 6
+}
+
+// The same of any number.
+fn put_digits(out: &mut [u8], at: usize, v: u64, stop: u8) -> usize
     requires { ⌜ (v < short) × (at + suc (length (decimal v)) ≤ length (now out)) ⌝ }
     ensures { λ r. ⌜ Put (now (out .entry)) at (stopped (decimal v) stop) (now (out .exit)) r ⌝ }
 {
@@ -60,6 +97,23 @@ fn put_field(out: &mut [u8], at: usize, v: u64, stop: u8) -> usize
         left = left / 10;
     }
     end + 1
+}
+
+// Writes a number and the byte behind it.
+fn put_field(out: &mut [u8], at: usize, v: u64, stop: u8) -> usize
+    requires { ⌜ (v < short) × (at + suc (length (decimal v)) ≤ length (now out)) ⌝ }
+    ensures { λ r. ⌜ Put (now (out .entry)) at (stopped (decimal v) stop) (now (out .exit)) r ⌝ }
+{
+    if v < 1000 {
+        return put_digits(out, at, v, stop);
+    }
+    if v < 10000 {
+        return put_four(out, at, v, stop);
+    }
+    if v < 100000 {
+        return put_five(out, at, v, stop);
+    }
+    put_digits(out, at, v, stop)
 }
 
 // Writes the line of a pair.
@@ -107,29 +161,45 @@ pub fn put_text(out: &mut [u8], offsets: &[u32], targets: &[u32])
     }
 }
 
-// How many bytes the lines of the references of object v have.
-fn object_length(v: u32, targets: &[u32]) -> usize
-    requires { ⌜ Listable v (now targets) ⌝ }
-    ensures { λ r. ⌜ (r ≡ length (laid lineOf (pairsFrom v (now (targets .entry))))) × (r ≤ 16 * length (now (targets .entry))) ⌝ }
+// Whether a number is at least another, as a number: no jump depends on it, so that many are looked at at once.
+fn reaches(least: u32, v: u32) -> u32
+    ensures { λ r. ⌜ Reaches least v r ⌝ }
 {
-    let from = width(v as u64 + 1);
-    let mut total: usize = 0;
-    for e in 0..targets.len() {
-        total += from + width(targets[e] as u64 + 1) + 2;
-    }
-    total
+    if least <= v { 1 } else { 0 }
 }
 
-// How many bytes the text of a graph has.
+// How many digits the number of object v has, counted from 1, behind its first.
+fn more_digits(v: u32) -> u32
+    requires { ⌜ v < most-objects ⌝ }
+    ensures { λ r. ⌜ (suc r ≡ length (decimal (v + 1))) × (r ≤ 4) ⌝ }
+{
+    reaches(9, v) + reaches(99, v) + reaches(999, v) + reaches(9999, v)
+}
+
+// The same for the targets of all references.
+fn more_in(targets: &[u32]) -> u32
+    requires { ⌜ Every (λ (t : ℕ). t < most-objects) (now targets) × (length (now targets) ≤ most-references) ⌝ }
+    ensures { λ r. ⌜ (length (now (targets .entry)) + r ≡ sum digitsAt (now (targets .entry))) × (r ≤ 4 * length (now (targets .entry))) ⌝ }
+{
+    let mut more: u32 = 0;
+    for e in 0..targets.len() {
+        more += more_digits(targets[e]);
+    }
+    more
+}
+
+// How many bytes the text of a graph has: of each line the two bytes behind its numbers, and its numbers.
 pub fn text_length(offsets: &[u32], targets: &[u32]) -> usize
     requires { ⌜ Exportable (graph (now offsets) (now targets)) ⌝ }
     ensures { λ r. ⌜ (r ≡ length (exported (graph (now (offsets .entry)) (now (targets .entry))))) × (r ≤ 100000000) ⌝ }
 {
     let n = offsets.len() - 1;
-    let mut total = BANNER.len() + 2 * width(n as u64) + width(targets.len() as u64) + 3;
+    let m = targets.len();
+    let head = BANNER.len() + 2 * width(n as u64) + width(m as u64) + 3;
+    let mut total = head + m + more_in(targets) as usize;
     for v in 0..n {
-        let part = graph::references(offsets, targets, v as u32);
-        total += object_length(v as u32, part);
+        let size = (offsets[v + 1] - offsets[v]) as usize;
+        total += size * (width(v as u64 + 1) + 2);
     }
     total
 }

@@ -1,21 +1,10 @@
--- `parse::line_at` meets its contract: a number with a space behind it, and one with a line feed.
-use native.Mathlib.Omega.{arith}
+-- `parse::line_at` meets its contract: what the quick look finds is what is there.
 use borrow.Author.Needs.{needs}
-use borrow.Author.Tests.{not-true, not-false}
-use Rattle.matrix.proofs.Heads.{line-bad, line-of}
 use Rattle.parse.proofs.line_at.Statement.{statement}
 use Rattle.parse.proofs.line_at.Tie as tie
 
 returns : tie.Need-returns
-returns c =
-    let f = c .before .before in
-    line-bad (f .field-at .ensures) (not-true _ (c .if1 .taken))
-
-field-at-requires-2 : tie.Need-field-at-requires-2
-field-at-requires-2 c κs = (c .before .before .field-at .ensures .there, (omega arith, omega arith))
-
-returns-2 : tie.Need-returns-2
-returns-2 c = line-of (c .before .before .before .field-at .ensures) (not-false _ (c .before .if1 .left)) (c .field-at2 .ensures)
+returns c = rw (c .if2 .taken) (c .before .short-line .ensures (c .if2 .taken))
 
 pub line-at-spec : {M : Type 1} → statement M
-line-at-spec = tie.close (tie.spec (λ c κs. search needs) returns field-at-requires-2 returns-2)
+line-at-spec = tie.close (tie.spec (λ c. search needs) (λ c κs. search needs) returns (λ c κs. search needs) (λ c. search needs))
