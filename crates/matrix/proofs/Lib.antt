@@ -1,6 +1,7 @@
 pub mod Fields
 pub mod Heads
 pub mod Bodies
+pub mod Rising
 pub mod Filling
 pub mod Checks
 pub mod Decimals
