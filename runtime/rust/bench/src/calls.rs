@@ -241,11 +241,13 @@ pub fn whole(graph: &Graph, repetitions: usize) -> Medians<4> {
 pub struct Stops {
     /// The proved marker's call without a turn, which checks and starts.
     pub checked: f64,
-    /// Taking up what half of the turns left, without a turn: proved, and in plain Rust.
+    /// Taking up what half of the turns left, without a turn: proved, tuned, and in plain Rust.
     pub taken: f64,
+    pub taken_tuned: f64,
     pub taken_reference: f64,
-    /// Taking up over the checks, and over taking up in plain Rust.
+    /// Taking up over the checks, over the tuned one, and over taking up in plain Rust.
     pub over_checked: f64,
+    pub over_tuned: f64,
     pub over_reference: f64,
     /// All turns in one call of the proved marker, and in 100 calls that save: proved, and in plain Rust.
     pub whole: f64,
@@ -279,6 +281,12 @@ fn run_reference_part(graph: &Graph, settings: Settings, part: &[u8], fresh: boo
     let (Buffers { marks, work, tallies, .. }, saved) = saving;
     let run = if fresh { reference::begin } else { reference::resume };
     run(call(graph, settings, part), marks, work, tallies, saved).expect("a call").words()
+}
+
+/// A collection taken up by the tuned call.
+fn run_tuned_part(graph: &Graph, settings: Settings, part: &[u8], saving: &mut Saving) -> Words {
+    let (Buffers { marks, work, tallies, .. }, saved) = saving;
+    tuned::resume(call(graph, settings, part), marks, work, tallies, saved).expect("a call").words()
 }
 
 /// A call that saves, on one of the sides.
@@ -316,8 +324,13 @@ pub fn stops(graph: &Graph, settings: Settings, repetitions: usize) -> Stops {
     let long = medians(&mut saving, repetitions, [&parts, &parts_reference, &whole]);
 
     run_part(graph, settings, &turns[..turns.len() / 4 * 2], true, &mut saving);
+    let half = (run_part(graph, settings, &[], false, &mut saving), saving.1.clone());
+    assert_eq!((run_tuned_part(graph, settings, &[], &mut saving), &saving.1), (half.0, &half.1));
     let taken = |saving: &mut Saving| {
         black_box(run_part(graph, settings, &[], false, saving));
+    };
+    let taken_tuned = |saving: &mut Saving| {
+        black_box(run_tuned_part(graph, settings, &[], saving));
     };
     let taken_reference = |saving: &mut Saving| {
         black_box(run_reference_part(graph, settings, &[], false, saving));
@@ -325,12 +338,14 @@ pub fn stops(graph: &Graph, settings: Settings, repetitions: usize) -> Stops {
     let checked = |saving: &mut Saving| {
         black_box(run_proved(graph, settings, &[], &mut saving.0));
     };
-    let short = medians(&mut saving, repetitions, [&taken, &taken_reference, &checked]);
+    let short = medians(&mut saving, repetitions, [&taken, &taken_reference, &checked, &taken_tuned]);
     Stops {
         checked: short.times[2],
         taken: short.times[0],
+        taken_tuned: short.times[3],
         taken_reference: short.times[1],
         over_checked: short.over[2],
+        over_tuned: short.over[3],
         over_reference: short.over[1],
         whole: long.times[2],
         parts: long.times[0],

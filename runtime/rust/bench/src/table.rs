@@ -106,17 +106,20 @@ pub fn wholes(rows: &[WholeRow]) -> String {
 }
 
 const STOPS_HEAD: &str = "\
-| Store | W | a call's checks, µs | taking up, µs | Rust, µs | : checks | : Rust | one call, µs | 100 calls, µs | Rust, µs | : one | : Rust |
-|---|--:|--:|--:|--:|--:|--:|--:|--:|--:|--:|--:|
+| Store | W | a call's checks, µs | taking up, µs | tuned, µs | Rust, µs | : checks | : tuned | : Rust | one call, µs | 100 calls, µs | Rust, µs | : one | : Rust |
+|---|--:|--:|--:|--:|--:|--:|--:|--:|--:|--:|--:|--:|--:|
 ";
 
 pub fn stops(rows: &[(&'static str, u32, Stops)]) -> String {
     let mut text = format!("## Stopping and going on, D 64, K 64\n\n{STOPS_HEAD}");
     for (graph, workers, stops) in rows {
-        let Stops { checked, taken, taken_reference, over_checked, over_reference, .. } = stops;
-        let [checked, taken, reference] = [checked, taken, taken_reference].map(|time| time / 1_000.0);
-        write!(text, "| {graph} | {workers} | {checked:.1} | {taken:.1} | {reference:.1} |").expect("text");
-        write!(text, " {over_checked:.2} | {over_reference:.2} |").expect("text");
+        let Stops { checked, taken, taken_tuned, taken_reference, over_checked, over_tuned, over_reference, .. } =
+            stops;
+        let [checked, taken, tuned, reference] =
+            [checked, taken, taken_tuned, taken_reference].map(|time| time / 1_000.0);
+        write!(text, "| {graph} | {workers} | {checked:.1} | {taken:.1} | {tuned:.1} | {reference:.1} |")
+            .expect("text");
+        write!(text, " {over_checked:.2} | {over_tuned:.2} | {over_reference:.2} |").expect("text");
         let Stops { whole, parts, parts_reference, over_whole, parts_over_reference, .. } = stops;
         let [whole, parts, reference] = [whole, parts, parts_reference].map(|time| time / 1_000.0);
         write!(text, " {whole:.1} | {parts:.1} | {reference:.1} |").expect("text");
