@@ -218,9 +218,20 @@ module _ {G : Graph} {ms : List ℕ} {W : ℕ} {w : List ℕ} (there : LoadsTher
   parts-there {u = u} {v} room a b same =
       let marks = there .marks-length in
       record {
-        targets = record { inside = λ e q. omega (arith, there .formed .inside e q, marks); within = inside; room = room };
+        targets = record {
+          targets = record { inside = λ e q. omega (arith, there .formed .inside e q, marks); within = inside };
+          room = room;
+        };
         long = omega (arith, marks, there .some);
+        rise = λ x k q. offsets-rise G (there .formed) x k (omega (arith, marks));
+        some = by-cases (decLt (v + 1) u)
+            (λ (t : v + 1 < u).
+            let d : v + 1 + (u - (v + 1)) ≡ u = omega arith in
+            absurd (omega (arith, a .from, b .below, rw d at (offsets-rise G (there .formed) (v + 1) (u - (v + 1)) (omega (arith, a .object))))))
+            (λ (t : ¬ (v + 1 < u)). omega arith);
         objects = omega (arith, b .object, marks);
+        begins = a .from;
+        ends = omega (arith, b .below);
         leaves = λ x e l p q r s. (
           by-cases (decLt x u)
               (λ (t : x < u).

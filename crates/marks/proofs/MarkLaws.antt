@@ -3,8 +3,8 @@ use mathlib.Core.Path.{_≡_, refl, sym, ap, _∙_}
 use mathlib.Core.Bool.{Bool, true, false}
 use mathlib.Core.List.{List, map}
 use mathlib.Core.Logic.{_≢_, by-cases}
-use Prim.Native.Nat.{ℕ, zero, suc, _+_, _-_, _*_, _≤_, _<_}
-use native.Mathlib.Decide.{ℕ-discrete}
+use Prim.Native.Nat.{ℕ, zero, suc, _+_, _-_, _*_, _≤_, _<_, min, max}
+use native.Mathlib.Decide.{ℕ-discrete, decLt}
 use native.Mathlib.Nat.{add-zero}
 use native.Mathlib.Numerals.{add-one}
 use native.Mathlib.Omega.{arith}
@@ -13,7 +13,8 @@ use lib.Seq.{drop-cons, take-suc, take-length}
 use borrow.Author.Count.{below-more}
 use Rattle.laws.specs.Span.{span}
 use Rattle.laws.specs.Sum.{sum, hit}
-use Rattle.laws.proofs.Decides.{never}
+use Rattle.laws.specs.Decides.{Decides}
+use Rattle.laws.proofs.Decides.{never, decides-same}
 use Rattle.laws.proofs.Passing.{span-plus, span-agree, span-limit}
 use Rattle.laws.proofs.Span.{span-hit-one}
 use Rattle.laws.proofs.Sum.{sum-snoc, hit-same, hit-other, hit-swap}
@@ -27,7 +28,8 @@ use Rattle.graph.proofs.Scan.{below-all}
 use Rattle.machine.specs.Machine.{live}
 use Rattle.machine.specs.Sound.{Marked}
 use Rattle.marks.specs.declared.Counted.{Counted}
-use Rattle.marks.specs.Marks.{MarksCounted, MarksFound, StartsBelow, StartsThere, StartsMarked, distinct, StartsFound}
+use Rattle.marks.specs.declared.Window.{Window}
+use Rattle.marks.specs.Marks.{MarksCounted, MarksFound, StartsBelow, StartsThere, StartsMarked, distinct, StartsFound, TargetsInside, TargetsThere, PartMarked, AllMarked, PartsThere}
 
 -- ---- `count_marks`: what is left makes up the whole
 
@@ -239,3 +241,110 @@ starts-wrong n = record { right = λ z. never z refl; known = λ h. absurd (n h)
 pub zeros-for : {starts ms : List ℕ} (k : ℕ) → length ms ≤ word-bits * k → StartsBelow starts (length ms)
     → StartsThere starts ms (replicate k 0)
 zeros-for k h b = record { below = b; room = rw length-replicate (omega arith); none = bit-none k }
+
+-- ---- the targets
+
+-- the references up to one of those that are there
+pub row-there : {ts ms : List ℕ} {end to : ℕ} → TargetsInside ts ms end → to ≤ end → TargetsInside ts ms to
+row-there x h = record { inside = x .inside; within = omega (arith, x .within) }
+
+pub part-there : {ts ms bs : List ℕ} {base end to : ℕ} → TargetsThere ts ms bs base end → to ≤ end → TargetsThere ts ms bs base to
+part-there x h = record { targets = row-there (x .targets) h; room = omega (arith, x .room) }
+
+-- two parts, one behind the other
+pub parts-join : (ts ms bs : List ℕ) (base from e to : ℕ) → PartMarked ts ms bs base from e → PartMarked ts ms bs base e to → PartMarked ts ms bs base from to
+parts-join ts ms bs base from e to x y k h q z = by-cases (decLt k e) (λ (p : k < e). x k h p z) (λ (p : ¬ (k < e)). y k (omega arith) q z)
+
+-- ---- `targets_marked`: rows of marked objects
+
+-- a marked object below v that reference e leaves
+pub record Owned (os ms : List ℕ) (v e : ℕ) : Type 0 where
+  pub object : ℕ
+  pub below : object < v
+  pub is-marked : Marked ms object
+  pub begins : getD os object 0 ≤ e
+  pub ends : e < getD os (suc object) 0
+
+-- the references of the objects passed hold up to one from which on all are of marked objects
+pub record RowsAt (os ts ms bs : List ℕ) (w : Window) (from v : ℕ) : Type 0 where
+  pub low : w .from ≤ from
+  pub reach : from ≤ max (w .from) (getD os v 0)
+  pub done : (u : ℕ) → w .first ≤ u → u < v → Marked ms u → (e : ℕ) → w .from ≤ e → e < w .to → getD os u 0 ≤ e → e < getD os (suc u) 0 → e < from
+      → bit bs (e - w .from) ≡ 0 → Marked ms (getD ts e 0)
+  pub owned : (e : ℕ) → from ≤ e → e < getD os v 0 → Owned os ms v e
+
+module _ {os ts ms bs : List ℕ} {w : Window} (there : PartsThere os ts ms bs w) where
+  pub rows-start : RowsAt os ts ms bs w (w .from) (w .first)
+  rows-start =
+      record {
+        low = omega arith;
+        reach = omega arith;
+        done = λ u h q. absurd (omega arith);
+        owned = λ e h q. absurd (omega (arith, there .begins));
+      }
+
+  module _ {from v : ℕ} (x : RowsAt os ts ms bs w from v) where
+    -- what holds of all holds of the row
+    pub row-known : {to : ℕ} → v ≤ length ms → to ≤ w .to → to ≤ getD os v 0 → AllMarked os ts ms bs (w .from) (w .to)
+        → PartMarked ts ms bs (w .from) from to
+    row-known h q r all e a b z =
+        let o = x .owned e a (omega arith) in
+        all (o .object) (omega (arith, o .below)) (o .is-marked) e (omega (arith, o .begins, x .low)) (omega (arith, o .ends)) z
+
+    module _ (h : v < length ms) where
+      rises : getD os v 0 ≤ getD os (suc v) 0
+      rises = rw (← add-one v) (there .rise v 1 (omega arith))
+
+      pub row-marked-next : Marked ms v → RowsAt os ts ms bs w from (v + 1)
+      row-marked-next m =
+          rw (add-one v)
+          (record {
+            low = x .low;
+            reach = omega (arith, x .reach, rises);
+            done = λ u f l k e a b c d g z.
+                by-cases (decLt u v)
+                (λ (p : u < v). x .done u f p k e a b c d g z)
+                (λ (p : ¬ (u < v)).
+                let here : u ≡ v = omega arith in
+                absurd (omega (arith, rw here at c, x .reach)));
+            owned = λ e a b.
+                by-cases (decLt e (getD os v 0))
+                (λ (p : e < getD os v 0).
+                let o = x .owned e a p in
+                record { object = o .object; below = omega (arith, o .below); is-marked = o .is-marked; begins = o .begins; ends = o .ends })
+                (λ (p : ¬ (e < getD os v 0)). record { object = v; below = omega arith; is-marked = m; begins = omega arith; ends = b });
+          })
+
+      pub row-unmarked-next : {to from′ : ℕ} → getD ms v 0 ≡ 0 → to ≡ min (w .to) (getD os v 0) → from′ ≡ max from (getD os (v + 1) 0)
+          → PartMarked ts ms bs (w .from) from to → RowsAt os ts ms bs w from′ (v + 1)
+      row-unmarked-next {to} {from′} none is is′ part =
+          let next : from′ ≡ max from (getD os (suc v) 0) = rw (← add-one v) is′ in
+          rw (add-one v)
+          (record {
+            low = omega (arith, x .low, next);
+            reach = omega (arith, x .reach, rises, next);
+            done = λ u f l k e a b c d g z.
+                by-cases (decLt u v)
+                (λ (p : u < v).
+                by-cases (decLt e from)
+                (λ (y : e < from). x .done u f p k e a b c d y z)
+                (λ (y : ¬ (e < from)).
+                let up : suc u + (v - suc u) ≡ v = omega arith in
+                part e (omega arith) (omega (arith, is, rw up at (there .rise (suc u) (v - suc u) (omega arith)))) z))
+                (λ (p : ¬ (u < v)).
+                let here : u ≡ v = omega arith in
+                absurd (omega (arith, rw here at k, none)));
+            owned = λ e a b. absurd (omega (arith, next));
+          })
+
+  -- all objects are passed
+  pub rows-end : {from : ℕ} {r : Bool} → RowsAt os ts ms bs w from (w .last) → Decides r (PartMarked ts ms bs (w .from) from (w .to))
+      → Decides r (AllMarked os ts ms bs (w .from) (w .to))
+  rows-end {from} x d =
+      decides-same d
+      (λ part u h m e a b z.
+      let o = there .leaves u e h (omega arith) (omega arith) (omega arith) (omega arith) in
+      by-cases (decLt e from)
+      (λ (p : e < from). x .done u (o .0) (o .1) m e (omega arith) (omega arith) (omega arith) (omega arith) p z)
+      (λ (p : ¬ (e < from)). part e (omega arith) (omega arith) z))
+      (row-known x (there .objects) (omega arith) (there .ends))

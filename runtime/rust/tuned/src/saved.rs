@@ -5,7 +5,6 @@
 //!   wrong; what was wrong is looked at closely only where that is not content.
 //! - No set of references: whole runs are a set of objects, and the others, two for each worker at most, a list.
 //! - Where there are many runs, an index of the offsets tells which few objects a reference can leave.
-//! - Where there are many references, the marks are looked up as bits, which stay in the first cache.
 //! - Of work and saved words only those of the runs are copied: those behind them are zeros already, or are cleared by the
 //!   turns' end.
 
@@ -26,15 +25,6 @@ fn insert(set: &mut Objects, v: usize) -> bool {
     let new = *word & bit == 0;
     *word |= bit;
     new
-}
-
-/// The marked objects.
-fn marked(marks: &[u32]) -> Objects {
-    let mut set = [0; MOST_OBJECTS / 64];
-    for (word, marks) in set.iter_mut().zip(marks.chunks(64)) {
-        *word = marks.iter().rev().fold(0, |word, &mark| word << 1 | u64::from(mark != 0));
-    }
-    set
 }
 
 fn number(words: &[u32]) -> u64 {
@@ -201,11 +191,7 @@ impl<'a> Words<'a> {
     }
 
     /// The runs: those of marked objects, none of whose references is carried twice.
-    fn carried(&self, marked: Option<&Objects>) -> Option<Carried> {
-        let is_marked = |v: usize| match marked {
-            Some(set) => contains(set, v),
-            None => self.marks()[v] != 0,
-        };
+    fn carried(&self) -> Option<Carried> {
         let offsets = self.call.offsets;
         let m = self.call.targets.len() as u32;
         let mut all = Carried {
@@ -244,7 +230,7 @@ impl<'a> Words<'a> {
                     return None;
                 }
                 let v = object_of(from);
-                if to > offsets[v + 1] || !is_marked(v) {
+                if to > offsets[v + 1] || self.marks()[v] == 0 {
                     return None;
                 }
                 if from == offsets[v] && to == offsets[v + 1] {
@@ -266,14 +252,14 @@ impl<'a> Words<'a> {
         (apart && outside).then_some(all)
     }
 
-    /// Whether the references from one to another, of marked objects, that nobody carries have marked targets. The lowest bit
-    /// of `marked` tells of a target.
+    /// Whether the references from one to another, of marked objects, that nobody carries have marked targets.
     #[inline(always)]
-    fn part_marked(&self, near: &mut Near<'_>, from: u32, to: u32, marked: impl Fn(u32) -> u64) -> bool {
+    fn part_marked(&self, near: &mut Near<'_>, from: u32, to: u32) -> bool {
         const CHUNK: usize = 128;
+        let marks = self.marks();
         for (k, chunk) in self.call.targets[from as usize..to as usize].chunks(CHUNK).enumerate() {
-            let all = chunk.iter().fold(1, |all, &target| all & marked(target));
-            if all & 1 == 0 && !self.closely(near, from + (k * CHUNK) as u32, chunk, &marked) {
+            let all = chunk.iter().fold(true, |all, &target| all & (marks[target as usize] != 0));
+            if !all && !self.closely(near, from + (k * CHUNK) as u32, chunk) {
                 return false;
             }
         }
@@ -281,11 +267,12 @@ impl<'a> Words<'a> {
     }
 
     /// Whether each of these references with an unmarked target is carried.
-    fn closely(&self, near: &mut Near<'_>, first: u32, targets: &[u32], marked: impl Fn(u32) -> u64) -> bool {
+    fn closely(&self, near: &mut Near<'_>, first: u32, targets: &[u32]) -> bool {
         let offsets = self.call.offsets;
+        let marks = self.marks();
         let parts = &near.carried.parts.runs[..near.carried.parts.len];
         for (e, &target) in (first..).zip(targets) {
-            if marked(target) & 1 == 1 || near.known.contains(&e) {
+            if marks[target as usize] != 0 || near.known.contains(&e) {
                 continue;
             }
             if let Some(part) = parts.iter().find(|part| (part.0..part.1).contains(&e)) {
@@ -304,8 +291,7 @@ impl<'a> Words<'a> {
     }
 
     /// The same for the references of all marked objects: rows of these are looked at as one.
-    #[inline(always)]
-    fn all_marked(&self, carried: &Carried, marked: impl Fn(u32) -> u64) -> bool {
+    fn all_marked(&self, carried: &Carried) -> bool {
         const BLOCK: usize = 32;
         let offsets = self.call.offsets;
         let near = &mut Near { carried, object: 0, known: 0..0 };
@@ -318,7 +304,7 @@ impl<'a> Words<'a> {
                 continue;
             }
             if none as usize == block.len() {
-                if from < end && !self.part_marked(near, from, end, &marked) {
+                if from < end && !self.part_marked(near, from, end) {
                     return false;
                 }
                 from = after;
@@ -327,7 +313,7 @@ impl<'a> Words<'a> {
             for (i, &mark) in block.iter().enumerate() {
                 if mark == 0 {
                     let end = offsets[first + i];
-                    if from < end && !self.part_marked(near, from, end, &marked) {
+                    if from < end && !self.part_marked(near, from, end) {
                         return false;
                     }
                     from = offsets[first + i + 1];
@@ -335,17 +321,7 @@ impl<'a> Words<'a> {
             }
         }
         let end = self.call.targets.len() as u32;
-        from >= end || self.part_marked(near, from, end, &marked)
-    }
-
-    fn targets_marked(&self, marked: Option<&Objects>, carried: &Carried) -> bool {
-        let marks = self.marks();
-        match marked {
-            Some(set) => {
-                self.all_marked(carried, |target| set[target as usize / 64 % (MOST_OBJECTS / 64)] >> (target % 64))
-            }
-            None => self.all_marked(carried, |target| u64::from(marks[target as usize] != 0)),
-        }
+        from >= end || self.part_marked(near, from, end)
     }
 
     /// The workers' runs, if the words are sound.
@@ -375,12 +351,10 @@ impl<'a> Words<'a> {
         if !holds {
             return None;
         }
-        let marked = (targets.len() >= 4 * self.places.objects).then(|| marked(self.marks()));
-        let carried = self.carried(marked.as_ref())?;
+        let carried = self.carried()?;
         let ended = heads().any(|head| head[0] == ENDED);
         let adds_up = carried.carrying == carrying && followed + carried.references + leaving == m;
-        (adds_up && !(ended && carried.references > 0) && self.targets_marked(marked.as_ref(), &carried))
-            .then_some(carried)
+        (adds_up && !(ended && carried.references > 0) && self.all_marked(&carried)).then_some(carried)
     }
 
     /// Worker b, with the runs in its stretch of the work memory.
