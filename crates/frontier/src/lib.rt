@@ -2,6 +2,7 @@
 // objects, none twice, and behind them every target is marked (SPECIFICATION 8.2). Nothing lent is written:
 // the references that are carried are one bit each in local words, a window of them at a time.
 mod index;
+mod rows;
 mod runs;
 mod windows;
 
