@@ -29,9 +29,15 @@ use Rattle.machine.specs.Machine.{live}
 use Rattle.machine.specs.Sound.{Marked}
 use Rattle.marks.specs.declared.Counted.{Counted}
 use Rattle.marks.specs.declared.Window.{Window}
-use Rattle.marks.specs.Marks.{MarksCounted, MarksFound, StartsBelow, StartsThere, StartsMarked, distinct, StartsFound, TargetsInside, TargetsThere, PartMarked, AllMarked, PartsThere}
+use Rattle.marks.specs.Marks.{Unset, MarksCounted, MarksFound, StartsBelow, StartsThere, StartsMarked, distinct, StartsFound, TargetsInside, TargetsThere, PartMarked, AllMarked, PartsThere}
 
 -- ---- `count_marks`: what is left makes up the whole
+
+-- a product by 0 or 1
+pub at-most-once : (a k : ℕ) → k ≤ 1 → a * k ≤ a
+at-most-once a zero h = omega arith
+at-most-once a (suc zero) h = omega arith
+at-most-once a (suc (suc k)) h = absurd (omega arith)
 
 pub record MarksAt (os ms : List ℕ) (live⁺ leaving v : ℕ) : Type 0 where
   pub high : v ≤ length ms
@@ -83,6 +89,18 @@ module _ {os ms : List ℕ} where
               live-low = omega (arith, x .live-low);
               leaving-low = rw next (omega (arith, b, x .leaving-low));
             }
+
+    -- one or the other, as it is worked out
+    pub mark-next : {k : ℕ} → Unset (getD ms v 0) k → live′ ≡ live⁺ + (1 - k) → leaving′ ≡ leaving + (getD os (v + 1) 0 - getD os v 0) * k
+        → MarksAt os ms live′ leaving′ (v + 1)
+    mark-next {k} u a b =
+        by-cases (ℕ-discrete (getD ms v 0) 0)
+        (λ (p : getD ms v 0 ≡ 0).
+        let one = u .none p in
+        unmarked-next p (omega (arith, a, one)) (b ∙ rw one (omega arith)))
+        (λ (p : getD ms v 0 ≢ 0).
+        let none = u .some p in
+        marked-next p (omega (arith, a, none)) (b ∙ rw none (omega arith)))
 
   pub marks-end : {live⁺ leaving v : ℕ} → MarksAt os ms live⁺ leaving v → length ms ≤ v → MarksCounted os ms (record { live = live⁺; leaving = leaving })
   unfolding sum overMarked

@@ -24,6 +24,12 @@ pub record MarksThere (os ms : List ℕ) : Type 0 where
   pub long : length os ≡ suc (length ms)
   pub rises : (v : ℕ) → v < length ms → getD os v 0 ≤ getD os (suc v) 0
 
+-- what `unset` says of a mark
+pub record Unset (mark r : ℕ) : Type 0 where
+  pub low : r ≤ 1
+  pub none : mark ≡ 0 → r ≡ 1
+  pub some : (mark ≡ 0 → ⊥) → r ≡ 0
+
 -- what `count_marks` says
 pub record MarksCounted (os ms : List ℕ) (r : Counted) : Type 0 where
   pub live : r .live ≡ live ms

@@ -8,7 +8,7 @@ ghost use Prim.Native.Nat.{_≤_};
 ghost use lib.ListN.{length};
 ghost use Rattle.laws.specs.Decides.{Decides};
 ghost use Rattle.graph.specs.Limits.{most-objects};
-ghost use Rattle.marks.specs.Marks.{MarksThere, MarksCounted, MarksFound, StartsBelow, StartsThere, StartsFound, TargetsInside, TargetsThere, RowMarked, PartMarked, PartsThere, AllMarked};
+ghost use Rattle.marks.specs.Marks.{MarksThere, Unset, MarksCounted, MarksFound, StartsBelow, StartsThere, StartsFound, TargetsInside, TargetsThere, RowMarked, PartMarked, PartsThere, AllMarked};
 
 // The words of a set of all objects.
 const OBJECT_WORDS: usize = graph::MOST_OBJECTS / bits::WORD as usize;
@@ -19,7 +19,18 @@ pub struct Counted {
     pub leaving: u64,
 }
 
-// Both offsets are read whether they count or not, and the sums are words, so that the processor takes several objects at once.
+// 1 for an object that is not marked.
+fn unset(mark: u32) -> u32
+    ensures { λ r. ⌜ Unset mark r ⌝ }
+{
+    if mark == 0 {
+        return 1;
+    }
+    0
+}
+
+// What counts is worked out and no jump depends on a mark, and the sums are words, so that the processor takes several objects at
+// once.
 fn count_marks(offsets: &[u32], marks: &[u32]) -> Counted
     requires { ⌜ MarksThere (now offsets) (now marks) ⌝ }
     ensures { λ r. ⌜ MarksCounted (now (offsets .entry)) (now (marks .entry)) r ⌝ }
@@ -29,12 +40,9 @@ fn count_marks(offsets: &[u32], marks: &[u32]) -> Counted
     for v in 0..marks.len() {
         let from = offsets[v];
         let to = offsets[v + 1];
-        let size = to - from;
-        if marks[v] == 0 {
-            leaving += size;
-        } else {
-            live += 1;
-        }
+        let none = unset(marks[v]);
+        leaving += (to - from) * none;
+        live += 1 - none;
     }
     Counted {
         live: live as u64,
