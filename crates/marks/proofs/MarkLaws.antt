@@ -29,7 +29,7 @@ use Rattle.machine.specs.Machine.{live}
 use Rattle.machine.specs.Sound.{Marked}
 use Rattle.marks.specs.declared.Counted.{Counted}
 use Rattle.marks.specs.declared.Window.{Window}
-use Rattle.marks.specs.Marks.{Unset, MarksCounted, MarksFound, StartsBelow, StartsThere, StartsMarked, distinct, StartsFound, TargetsInside, TargetsThere, PartMarked, AllMarked, PartsThere}
+use Rattle.marks.specs.Marks.{Unset, MarksCounted, MarksFound, StartsBelow, StartsThere, StartsMarked, distinct, StartsFound, TargetsInside, TargetsThere, PartMarked, AllMarked, RowEnd, GapEnd, PartsThere}
 
 -- ---- `count_marks`: what is left makes up the whole
 
@@ -313,10 +313,9 @@ module _ {os ts ms bs : List ℕ} {w : Window} (there : PartsThere os ts ms bs w
       rises : getD os v 0 ≤ getD os (suc v) 0
       rises = rw (← add-one v) (there .rise v 1 (omega arith))
 
-      pub row-marked-next : Marked ms v → RowsAt os ts ms bs w from (v + 1)
+      row-marked-next : Marked ms v → RowsAt os ts ms bs w from (suc v)
       row-marked-next m =
-          rw (add-one v)
-          (record {
+          record {
             low = x .low;
             reach = omega (arith, x .reach, rises);
             done = λ u f l k e a b c d g z.
@@ -331,29 +330,50 @@ module _ {os ts ms bs : List ℕ} {w : Window} (there : PartsThere os ts ms bs w
                 let o = x .owned e a p in
                 record { object = o .object; below = omega (arith, o .below); is-marked = o .is-marked; begins = o .begins; ends = o .ends })
                 (λ (p : ¬ (e < getD os v 0)). record { object = v; below = omega arith; is-marked = m; begins = omega arith; ends = b });
-          })
+          }
 
-      pub row-unmarked-next : {to from′ : ℕ} → getD ms v 0 ≡ 0 → to ≡ min (w .to) (getD os v 0) → from′ ≡ max from (getD os (v + 1) 0)
-          → PartMarked ts ms bs (w .from) from to → RowsAt os ts ms bs w from′ (v + 1)
-      row-unmarked-next {to} {from′} none is is′ part =
-          let next : from′ ≡ max from (getD os (suc v) 0) = rw (← add-one v) is′ in
-          rw (add-one v)
-          (record {
-            low = omega (arith, x .low, next);
-            reach = omega (arith, x .reach, rises, next);
-            done = λ u f l k e a b c d g z.
-                by-cases (decLt u v)
-                (λ (p : u < v).
-                by-cases (decLt e from)
-                (λ (y : e < from). x .done u f p k e a b c d y z)
-                (λ (y : ¬ (e < from)).
-                let up : suc u + (v - suc u) ≡ v = omega arith in
-                part e (omega arith) (omega (arith, is, rw up at (there .rise (suc u) (v - suc u) (omega arith)))) z))
-                (λ (p : ¬ (u < v)).
-                let here : u ≡ v = omega arith in
-                absurd (omega (arith, rw here at k, none)));
-            owned = λ e a b. absurd (omega (arith, next));
-          })
+    -- objects that are not marked: what was pending is looked at, and nothing is
+    rows-unmarked : (k : ℕ) {to from′ : ℕ} → v + k ≤ length ms → ((u : ℕ) → v ≤ u → u < v + k → getD ms u 0 ≡ 0) → to ≡ min (w .to) (getD os v 0)
+        → from′ ≡ max from (getD os (v + k) 0) → PartMarked ts ms bs (w .from) from to → RowsAt os ts ms bs w from′ (v + k)
+    rows-unmarked k {to} {from′} h none is next part =
+        let rises = there .rise v k h in
+        record {
+          low = omega (arith, x .low, next);
+          reach = omega (arith, x .reach, rises, next);
+          done = λ u f l m e a b c d g z.
+              by-cases (decLt u v)
+              (λ (p : u < v).
+              by-cases (decLt e from)
+              (λ (y : e < from). x .done u f p m e a b c d y z)
+              (λ (y : ¬ (e < from)).
+              let up : suc u + (v - suc u) ≡ v = omega arith in
+              part e (omega arith) (omega (arith, is, rw up at (there .rise (suc u) (v - suc u) (omega arith)))) z))
+              (λ (p : ¬ (u < v)). absurd (omega (arith, m, none u (omega arith) l)));
+          owned = λ e a b. absurd (omega (arith, next));
+        }
+
+  -- marked objects, one after the other
+  rows-marked : (k : ℕ) {from v : ℕ} → RowsAt os ts ms bs w from v → v + k ≤ length ms → ((u : ℕ) → v ≤ u → u < v + k → Marked ms u)
+      → RowsAt os ts ms bs w from (v + k)
+  rows-marked zero {v = v} x h all = rw (add-zero v) x
+  rows-marked (suc k) {v = v} x h all =
+      let next : suc v + k ≡ v + suc k = omega arith in
+      let more = rows-marked k (row-marked-next x (omega arith) (all v (omega arith) (omega arith))) (omega arith) (λ u a b. all u (omega arith) (omega arith)) in
+      rw next at more
+
+  pub row-passed : {last from v u : ℕ} → RowsAt os ts ms bs w from v → last ≤ length ms → RowEnd ms v last u → RowsAt os ts ms bs w from u
+  row-passed {v = v} {u} x h r =
+      let to : v + (u - v) ≡ u = omega (arith, r .from) in
+      rw to at (rows-marked (u - v) x (omega (arith, r .from, r .high)) (λ k a b. r .each k a (omega (arith, r .from))))
+
+  pub gap-passed : {last from v u to from′ : ℕ} → RowsAt os ts ms bs w from v → last ≤ length ms → GapEnd ms v last u → to ≡ min (w .to) (getD os v 0)
+      → from′ ≡ max from (getD os u 0) → PartMarked ts ms bs (w .from) from to → RowsAt os ts ms bs w from′ u
+  gap-passed {from = from} {v} {u} x h r is next part =
+      let to : u ≡ v + (u - v) = omega (arith, r .from) in
+      let back : v + (u - v) ≡ u = omega (arith, r .from) in
+      rw back at
+      (rows-unmarked x (u - v) (omega (arith, r .from, r .high)) (λ k a b. r .each k a (omega (arith, r .from))) is
+      (next ∙ ap (λ (k : ℕ). max from (getD os k 0)) to) part)
 
   -- all objects are passed
   pub rows-end : {from : ℕ} {r : Bool} → RowsAt os ts ms bs w from (w .last) → Decides r (PartMarked ts ms bs (w .from) from (w .to))
@@ -366,3 +386,12 @@ module _ {os ts ms bs : List ℕ} {w : Window} (there : PartsThere os ts ms bs w
       (λ (p : e < from). x .done u (o .0) (o .1) m e (omega arith) (omega arith) (omega arith) (omega arith) p z)
       (λ (p : ¬ (e < from)). part e (omega arith) (omega arith) z))
       (row-known x (there .objects) (omega arith) (there .ends))
+
+-- a row and the gap behind it are some objects
+pub gap-further : {ms : List ℕ} {last v u t : ℕ} → RowEnd ms v last u → GapEnd ms u last t → v < last → v < t
+gap-further {last = last} {v} {u} {t} r g h =
+    by-cases (decLt v t)
+    (λ (p : v < t). p)
+    (λ (p : ¬ (v < t)).
+    let same : t ≡ u = omega (arith, r .from, g .from) in
+    absurd (g .stops (omega (arith, r .from, g .from)) (rw same (r .stops (omega (arith, r .from, g .from))))))

@@ -108,3 +108,17 @@ pub record PartsThere (os ts ms carried : List ℕ) (w : Window) : Type 0 where
   pub begins : getD os (w .first) 0 ≤ w .from
   pub ends : w .to ≤ getD os (w .last) 0
   pub leaves : (v e : ℕ) → v < length ms → getD os v 0 ≤ e → e < getD os (suc v) 0 → w .from ≤ e → e < w .to → (w .first ≤ v) × (v < w .last)
+
+-- the objects from v up to u are marked, and u is not, or is the end
+pub record RowEnd (ms : List ℕ) (v last u : ℕ) : Type 0 where
+  pub from : v ≤ u
+  pub high : u ≤ last
+  pub each : (k : ℕ) → v ≤ k → k < u → Marked ms k
+  pub stops : u < last → getD ms u 0 ≡ 0
+
+-- the objects from v up to u are not marked, and u is, or is the end
+pub record GapEnd (ms : List ℕ) (v last u : ℕ) : Type 0 where
+  pub from : v ≤ u
+  pub high : u ≤ last
+  pub each : (k : ℕ) → v ≤ k → k < u → getD ms k 0 ≡ 0
+  pub stops : u < last → getD ms u 0 ≡ 0 → ⊥

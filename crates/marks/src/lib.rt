@@ -8,7 +8,7 @@ ghost use Prim.Native.Nat.{_≤_};
 ghost use lib.ListN.{length};
 ghost use Rattle.laws.specs.Decides.{Decides};
 ghost use Rattle.graph.specs.Limits.{most-objects};
-ghost use Rattle.marks.specs.Marks.{MarksThere, Unset, MarksCounted, MarksFound, StartsBelow, StartsThere, StartsFound, TargetsInside, TargetsThere, RowMarked, PartMarked, PartsThere, AllMarked};
+ghost use Rattle.marks.specs.Marks.{MarksThere, Unset, MarksCounted, MarksFound, StartsBelow, StartsThere, StartsFound, TargetsInside, TargetsThere, RowMarked, PartMarked, RowEnd, GapEnd, PartsThere, AllMarked};
 
 // The words of a set of all objects.
 const OBJECT_WORDS: usize = graph::MOST_OBJECTS / bits::WORD as usize;
@@ -195,6 +195,36 @@ fn rows_marked(
     true
 }
 
+// The first object from v on that is not marked, or the last one's end.
+fn row_end(marks: &[u32], v: usize, last: usize) -> usize
+    requires { ⌜ (v ≤ last) × (last ≤ length (now marks)) ⌝ }
+    ensures { λ u. ⌜ RowEnd (now (marks .entry)) v last u ⌝ }
+{
+    let mut u = v;
+    while u < last {
+        if marks[u] == 0 {
+            return u;
+        }
+        u += 1;
+    }
+    u
+}
+
+// The first object from v on that is marked, or the last one's end.
+fn gap_end(marks: &[u32], v: usize, last: usize) -> usize
+    requires { ⌜ (v ≤ last) × (last ≤ length (now marks)) ⌝ }
+    ensures { λ u. ⌜ GapEnd (now (marks .entry)) v last u ⌝ }
+{
+    let mut u = v;
+    while u < last {
+        if marks[u] != 0 {
+            return u;
+        }
+        u += 1;
+    }
+    u
+}
+
 // The same for the references of all marked objects that lie in a window. Marked objects in a row are looked at together.
 pub fn targets_marked(
     offsets: &[u32],
@@ -211,14 +241,15 @@ pub fn targets_marked(
     let first = window.first;
     let last = window.last;
     let mut from = base;
-    for v in first..last {
-        if marks[v] == 0 {
-            let to = slices::smaller(end, offsets[v]);
-            if !rows_marked(targets, marks, carried, base, from, to) {
-                return false;
-            }
-            from = slices::larger(from, offsets[v + 1]);
+    let mut v = first;
+    while v < last {
+        let next = row_end(marks, v, last);
+        let to = slices::smaller(end, offsets[next]);
+        if !rows_marked(targets, marks, carried, base, from, to) {
+            return false;
         }
+        v = gap_end(marks, next, last);
+        from = slices::larger(from, offsets[v]);
     }
     rows_marked(targets, marks, carried, base, from, end)
 }
