@@ -1,7 +1,7 @@
 // An index of the offsets: for each block of references an object near those that they leave. It is a guess, which is tested
 // where it is used; so nothing is promised of it.
 ghost use mathlib.Core.Path.{_≡_};
-ghost use Prim.Native.Nat.{_+_, _≤_, _<_};
+ghost use Prim.Native.Nat.{_+_, _<_};
 ghost use lib.ListN.{length};
 ghost use Rattle.frontier.specs.Index.{Indexable, index-blocks};
 

@@ -3,8 +3,6 @@ use borrow.Author.Needs.{needs}
 use native.Mathlib.Omega.{arith}
 use Prim.Native.Nat.{_-_, _≤_}
 use mathlib.Core.Path.{_≡_}
-use mathlib.Core.Logic.{by-cases}
-use native.Mathlib.Decide.{ℕ-discrete}
 use borrow.Author.Tests.{not-true, not-false}
 use Rattle.laws.proofs.Decides.{decides-no, refuted}
 use Rattle.marks.proofs.MarkLaws.{RowsAt, rows-start, row-known, row-passed, gap-passed, gap-further, rows-end, part-there}

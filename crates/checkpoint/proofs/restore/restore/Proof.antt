@@ -1,7 +1,6 @@
 -- Each part is read into its buffer; together they hold the state that the words hold.
 use mathlib.Core.Path.{_≡_, refl, _∙_}
-use mathlib.Core.List.{List}
-use Prim.Native.Nat.{ℕ, _-_}
+use Prim.Native.Nat.{_-_}
 use native.Mathlib.Omega.{arith}
 use lib.ListN.{length, take, drop}
 use Rattle.graph.specs.Graph.{objects}

@@ -1,5 +1,4 @@
 -- `frontier::index::count_on` meets its contract: it passes as many offsets as it looks at, at most.
-use borrow.Author.Needs.{needs}
 use native.Mathlib.Omega.{arith}
 use Prim.Native.Nat.{_-_, _≤_}
 use mathlib.Core.Logic.{⊎-elim}
