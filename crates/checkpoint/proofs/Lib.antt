@@ -5,3 +5,4 @@ pub mod Restoring
 pub mod Resuming
 pub mod Running
 pub mod Saving
+pub mod Putting

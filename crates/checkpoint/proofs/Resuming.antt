@@ -19,6 +19,7 @@ use Rattle.machine.specs.Tally.{Tally, talliesWords}
 use Rattle.machine.specs.Machine.{State, Worker, idle, asking, denied, ended, given, busy, poll, look, claim, worker, stretch, memory as laidMemory}
 use Rattle.machine.specs.Sound.{sinceOf, Sound}
 use Rattle.theorems.proofs.Facts.{runs-room, runs-limit, carried-limit, followed-limit, live-below}
+use Rattle.worker.specs.Registers.{blockAt}
 use Rattle.step.specs.declared.Setup.{Setup}
 use Rattle.step.specs.declared.Progress.{Progress}
 use Rattle.step.specs.declared.ring.Ring.{Ring}
@@ -28,11 +29,12 @@ use Rattle.step.specs.Held.{memory, stretchAt, settingOf, Holds}
 use Rattle.saved.specs.Layout.{workerWords, workersWords, savedWords, Shaped}
 use Rattle.saved_theorems.proofs.Kept.{shaped}
 use Rattle.saved_theorems.proofs.RoundTrip.{saved-length, records-told, tallies-told, tallies-count, counts-told, marks-told, stretches-told, stretches-long, workers-word, workers-long, stretch-length}
-use Rattle.checkpoint.specs.Copies.{numbersOf, Bytes}
+use Rattle.checkpoint.specs.Copies.{numbersOf, Bytes, Prefix}
 use Rattle.checkpoint.specs.Restoring.{runs?, runningIn, ringFrom, Telling, progressFrom, partOf, Resumable}
-use Rattle.checkpoint.specs.Workers.{listed, savedAt, Restorable, AllRestorable, AllRestored}
+use Rattle.checkpoint.specs.Workers.{listed, savedAt, Restorable, AllRestorable, AllRestored, Puttable, RunsPut}
 use Rattle.checkpoint.proofs.Numbers.{numbers-back}
 use Rattle.checkpoint.proofs.Parts.{part-lent}
+use Rattle.checkpoint.proofs.Putting.{block-kept}
 
 -- four words are all of a worker's
 four-words : (v : Worker) (n : ℕ)
@@ -184,6 +186,25 @@ module _ {targets : List ℕ} {g : Setup} {w marks work tallies regs : List ℕ}
           each = one;
         }
 
+    -- the words of the runs are there, in stretches of that length
+    kept : {regs′ work′ : List ℕ} → RunsPut stretches regs′ W (g .stretch) work′ → (b : ℕ) → b < W
+        → blockAt regs′ b .used ≤ length (stretchAt (g .stretch) b stretches)
+        → Prefix (stretchAt (g .stretch) b stretches) (blockAt regs′ b .used) (stretchAt (g .stretch) b work′)
+    kept put b h u =
+        put .each b h
+        (omega (arith, u, ap length (stretch-are b h), stretch-length n (worker s b) (runs-room (x .accepted) S b), x .stretch-is))
+
+    -- what is put
+    pub puttable : {regs′ : List ℕ} → length regs′ ≡ length regs → Puttable stretches regs′ work W (g .stretch)
+    puttable e =
+        record {
+          few = few;
+          small = all-restorable .small;
+          stretches-long = all-restorable .stretches-long;
+          regs-long = e ∙ x .regs-long;
+          work-long = x .work-long;
+        }
+
     -- ---- how far it is
 
     pub running-is : runningIn words (g .workers) ≡ sum running? (x .state .workers)
@@ -213,14 +234,14 @@ module _ {targets : List ℕ} {g : Setup} {w marks work tallies regs : List ℕ}
           ap (λ (l : List ℕ). countsOf (progressFrom l (s .tallies) (runningIn words W) ring) (s .tallies)) en
           ∙ added (s .counts) (s .tallies) (runningIn words W) ring (omega (arith, S .tallies-won)) (S .tallies-followed) (S .tallies-handed)
 
-      pub all-held : {marks′ work′ regs′ : List ℕ} {p : Progress} → marks′ ≡ s .marks → work′ ≡ stretches
+      pub all-held : {marks′ work′ regs′ : List ℕ} {p : Progress} → marks′ ≡ s .marks → RunsPut stretches regs′ W (g .stretch) work′
           → AllRestored targets words stretches regs W (g .stretch) regs′
           → {k : ℕ} → k ≡ runningIn words W → {ring : Ring} → ring ≡ ringFrom w → ((y : Telling numbers tallies′ W) → p ≡ progressFrom numbers (y .tallies) k ring)
           → Holds (x .graph) g (x .state) (memory marks′ work′ tallies′ regs′ p)
       unfolding all-restorable telling
-      all-held em ewk r ek er ep =
+      all-held {work′ = work′} {regs′} em put r ek er ep =
           let d = r .done all-restorable in
-          rw (ewk, ep telling, ek, er)
+          rw (ep telling, ek, er)
           (record {
             marks-are = em;
             tallies-are = et;
@@ -228,7 +249,7 @@ module _ {targets : List ℕ} {g : Setup} {w marks work tallies regs : List ℕ}
             running-is = running-is;
             ring-is = ring-told;
             regs-long = r .long ∙ x .regs-long;
-            work-long = all-restorable .stretches-long;
-            each = d .blocks;
+            work-long = put .long;
+            each = λ b h. block-kept (blockAt regs′ b) (kept put b h) (x .graph) (worker s b) (d .blocks b h);
             rests = d .sinces;
           })

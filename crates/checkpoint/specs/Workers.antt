@@ -17,6 +17,7 @@ use Rattle.worker.specs.declared.registers.Block.{Block}
 use Rattle.worker.specs.Registers.{blockAt, block-words, status-poll}
 use Rattle.step.specs.Held.{stretchAt, BlockIs, RestIs}
 use Rattle.saved.specs.Layout.{workerWords, workersWords, runsIn}
+use Rattle.checkpoint.specs.Copies.{Prefix}
 use Rattle.checkpoint.specs.declared.workers.Saved.{Saved}
 use Rattle.checkpoint.specs.declared.workers.Extent.{Extent}
 
@@ -106,3 +107,20 @@ pub record Restored (G : Graph) (ws : List Worker) (ns : List ℕ) (stretches re
 pub record AllRestored (targets words stretches regs : List ℕ) (W L : ℕ) (regs′ : List ℕ) : Type 0 where
   pub long : length regs′ ≡ length regs
   pub done : (x : AllRestorable targets words stretches regs W L) → Restored (x .graph) (x .workers) (x .rested) stretches regs′ L W
+
+-- saved stretches, registers and work memory of W workers
+pub record Puttable (stretches regs work : List ℕ) (W L : ℕ) : Type 0 where
+  pub few : W ≤ most-workers
+  pub small : L ≤ stretchLength most-objects
+  pub stretches-long : length stretches ≡ W * L
+  pub regs-long : length regs ≡ block-words * W
+  pub work-long : length work ≡ W * L
+
+-- of each stretch the words that its block uses stand in the work memory
+abbrev pub RunPut : List ℕ → List ℕ → ℕ → ℕ → List ℕ → Type 0
+RunPut stretches regs L b work =
+    blockAt regs b .used ≤ L → Prefix (stretchAt L b stretches) (blockAt regs b .used) (stretchAt L b work)
+
+pub record RunsPut (stretches regs : List ℕ) (W L : ℕ) (work : List ℕ) : Type 0 where
+  pub long : length work ≡ W * L
+  pub each : (b : ℕ) → b < W → RunPut stretches regs L b work

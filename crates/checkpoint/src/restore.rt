@@ -8,8 +8,8 @@ use step::counts;
 use step::ring::Ring;
 use worker::registers;
 ghost use mathlib.Core.Path.{_≡_};
-ghost use Prim.Native.Nat.{_+_, _-_, _*_, _≤_};
-ghost use lib.ListN.{length, drop};
+ghost use Prim.Native.Nat.{_+_, _*_, _≤_};
+ghost use lib.ListN.{length};
 ghost use Rattle.desk.specs.Limits.{most-workers};
 ghost use Rattle.desk.specs.Lengths.{counts-number, counts-place, ring-place, workers-place, worker-words};
 ghost use Rattle.checkpoint.specs.Restoring.{runs?, runningIn, ringFrom, Telling, progressFrom, partOf, Resumable, Resumes};
@@ -90,15 +90,6 @@ fn marks_from(saved: &[u32], at: usize, marks: &mut [u8])
     words::take_bytes(&saved[at..end], marks);
 }
 
-// The stretches, which stand last.
-fn work_from(saved: &[u32], work: &mut [u32])
-    requires { ⌜ length (now work) ≤ length (now saved) ⌝ }
-    ensures { λ _. ⌜ now (work .exit) ≡ drop (length (now (saved .entry)) - length (now (work .entry))) (now (saved .entry)) ⌝ }
-{
-    let at = saved.len() - work.len();
-    words::copy(&saved[at..], work);
-}
-
 // Takes a saved collection into the lent buffers and the registers.
 pub fn restore(
     targets: &[u32],
@@ -119,9 +110,11 @@ pub fn restore(
     counts_from(saved, &mut numbers);
     tallies_from(saved, tallies_place, tallies);
     marks_from(saved, places::marks(workers), marks);
-    work_from(saved, work);
     let words = &saved[places::WORKERS..tallies_place];
-    workers::take_workers(targets, words, work, workers, setup.stretch, regs);
+    let at = saved.len() - work.len();
+    let stretches = &saved[at..];
+    workers::take_workers(targets, words, stretches, workers, setup.stretch, regs);
+    workers::put_runs(stretches, workers, setup.stretch, regs, work);
     progress(
         &numbers,
         tallies,

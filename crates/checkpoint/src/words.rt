@@ -1,10 +1,10 @@
 // Numbers, marks and words copied between the lent buffers and the saved words.
 ghost use mathlib.Core.Path.{_≡_};
-ghost use Prim.Native.Nat.{_*_};
+ghost use Prim.Native.Nat.{_*_, _≤_};
 ghost use lib.ListN.{length};
 ghost use Rattle.laws.specs.Blocks.{laid};
 ghost use Rattle.saved.specs.Layout.{twoWords};
-ghost use Rattle.checkpoint.specs.Copies.{numbersOf, Bytes};
+ghost use Rattle.checkpoint.specs.Copies.{numbersOf, Bytes, Prefix};
 
 // Each number as two words, the low one first.
 pub fn put_numbers(numbers: &[u64], out: &mut [u32])
@@ -56,6 +56,16 @@ pub fn copy(words: &[u32], out: &mut [u32])
     ensures { λ _. ⌜ now (out .exit) ≡ now (words .entry) ⌝ }
 {
     for i in 0..words.len() {
+        out[i] = words[i];
+    }
+}
+
+// The first so many words; those behind them stay.
+pub fn copy_first(words: &[u32], count: usize, out: &mut [u32])
+    requires { ⌜ (length (now out) ≡ length (now words)) × (count ≤ length (now words)) ⌝ }
+    ensures { λ _. ⌜ Prefix (now (words .entry)) count (now (out .exit)) ⌝ }
+{
+    for i in 0..count {
         out[i] = words[i];
     }
 }

@@ -1,4 +1,5 @@
 // Each worker's words: from its block of the registers to the saved words, and back.
+use crate::words;
 use desk::places;
 use worker::registers;
 use worker::registers::Block;
@@ -10,7 +11,7 @@ ghost use Rattle.desk.specs.Lengths.{worker-words};
 ghost use Rattle.machine.specs.Run.{carried};
 ghost use Rattle.worker.specs.Registers.{status-poll};
 ghost use Rattle.saved.specs.Layout.{runsIn};
-ghost use Rattle.checkpoint.specs.Workers.{wordsOf, Recorded, Records, measures, savedAt, SomeRestorable, Restores, AllRestorable, AllRestored};
+ghost use Rattle.checkpoint.specs.Workers.{wordsOf, Recorded, Records, measures, savedAt, SomeRestorable, Restores, AllRestorable, AllRestored, Puttable, RunsPut};
 
 // Status, cell, since and batch of a worker, as they are saved.
 pub struct Saved {
@@ -156,5 +157,34 @@ pub fn take_workers(
         let from = b as usize * len;
         let r = block_of(targets, &stretches[from..from + len], w);
         registers::store(regs, b, r);
+    }
+}
+
+// So many words, but no more than there are.
+fn within(used: u32, len: usize) -> usize
+    ensures { λ r. ⌜ (r ≤ len) × (used ≤ len → r ≡ used) ⌝ }
+{
+    let words = used as usize;
+    if words < len {
+        return words;
+    }
+    len
+}
+
+// The words of the runs below each worker's first, as its block tells, from the saved stretches into the work memory. What stands
+// behind them there is not written.
+pub fn put_runs(stretches: &[u32], workers: u32, len: usize, regs: &[u32], work: &mut [u32])
+    requires { ⌜ Puttable (now stretches) (now regs) (now work) workers len ⌝ }
+    ensures { λ _. ⌜ RunsPut (now (stretches .entry)) (now (regs .entry)) workers len (now (work .exit)) ⌝ }
+{
+    for b in 0..workers {
+        let r = registers::load(regs, b);
+        let count = within(r.used, len);
+        let from = b as usize * len;
+        words::copy_first(
+            &stretches[from..from + len],
+            count,
+            &mut work[from..from + len],
+        );
     }
 }

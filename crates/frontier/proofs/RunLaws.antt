@@ -14,10 +14,11 @@ use lib.Seq.{getD-drop, ext-getD}
 use Rattle.laws.specs.Choice.{pick}
 use Rattle.laws.specs.Decides.{Decides}
 use Rattle.laws.proofs.Decides.{never, decides-same}
-use Rattle.graph.specs.Graph.{Graph, Leaves, references}
+use Rattle.graph.specs.Graph.{Graph, Leaves, objects, references}
 use Rattle.graph.proofs.OverMarked.{after-limit, offsets-rise}
 use Rattle.machine.specs.Sound.{Marked, Within, Whole}
 use Rattle.theorems.proofs.Room.{leaves-one}
+use Rattle.frontier.specs.Index.{Indexable}
 use Rattle.frontier.specs.Runs.{HasOwner, Owns, Marking, runOf, RunFound, LoadsThere}
 
 -- ---- `object_of`
@@ -72,6 +73,17 @@ zeros-at ws from k e h q =
 -- a graph and its marks, beside saved words
 pub marking-of : {G : Graph} {ms : List ℕ} {W : ℕ} {w : List ℕ} → LoadsThere G ms W w → Marking G ms
 marking-of x = record { formed = x .formed; some = x .some; objects-limit = x .objects-limit; marks-length = x .marks-length }
+
+-- the offsets of a graph have an index
+pub indexable : {G : Graph} {ms : List ℕ} {W : ℕ} {w : List ℕ} → LoadsThere G ms W w → Indexable (G .offsets)
+indexable {G} there =
+    record {
+      some = omega (arith, there .some);
+      few = omega (arith, there .objects-limit, there .some);
+      low = λ v h.
+          let last : v + (objects G - v) ≡ objects G = omega arith in
+          omega (arith, rw last at (offsets-rise G (there .formed) v (objects G - v) (omega arith)), there .formed .to-all, there .references-limit);
+    }
 
 module _ {G : Graph} {ms : List ℕ} {from to : ℕ} (there : Marking G ms) (h : from < to) where
   -- the run's end, and how many references it has

@@ -12,10 +12,10 @@ use Rattle.laws.specs.Decides.{Decides}
 use Rattle.laws.specs.Span.{span}
 use Rattle.laws.specs.Sum.{sum, hit}
 use Rattle.laws.proofs.Decides.{never, decides-same}
-use Rattle.laws.proofs.Passing.{span-after, span-next, span-so-far}
+use Rattle.laws.proofs.Passing.{span-next, span-so-far}
 use Rattle.laws.proofs.Span.{span-hit-in, span-hit-one}
-use Rattle.slices.specs.Bits.{bit, Inserts, word-bits}
-use Rattle.slices.proofs.BitWords.{bit-low, bit-none, hit-shift}
+use Rattle.slices.specs.Bits.{bit, word-bits}
+use Rattle.slices.proofs.BitWords.{bit-low, bit-none}
 use Rattle.graph.specs.Graph.{Graph, objects, references}
 use Rattle.graph.proofs.OverMarked.{offsets-rise}
 use Rattle.machine.specs.Sound.{runsSum}
@@ -23,25 +23,14 @@ use Rattle.theorems.proofs.Runs.{runs-append}
 use Rattle.saved.specs.Layout.{workerWord, stretchIn, runsIn}
 use Rattle.worker.specs.Registers.{status-given}
 use Rattle.marks.specs.Marks.{AllMarked, PartsThere}
+use Rattle.frontier.specs.Rows.{Row}
 use Rattle.frontier.specs.Runs.{HasOwner, Owns, runOf, runsAt, timesWords, LoadsThere}
 use Rattle.frontier.specs.Windows.{Once, Takes, Carried, RunsCarried, AllThere, AllCarried, WindowSound}
+use Rattle.frontier.proofs.RowLaws.{span-shift}
 use Rattle.frontier.proofs.RunLaws.{marking-of, has-owner}
 use Rattle.frontier.proofs.StretchLaws.{runs-one, runs-all}
 
 -- ---- `carry`
-
--- the references of the window from one up to e are in the set, besides those that were
-pub record CarriedAt (base end : ℕ) (bs : List ℕ) (from to e : ℕ) (bs′ : List ℕ) : Type 0 where
-  pub low : max base from ≤ e
-  pub high : e ≤ max (max base from) (min end to)
-  pub long : length bs′ ≡ length bs
-  pub adds : (x : ℕ) → base ≤ x → bit bs′ (x - base) ≡ bit bs (x - base) + span (hit x) (max base from) (e - max base from)
-
-pub carried-start : {base end : ℕ} {bs : List ℕ} {from to e : ℕ} → e ≡ max base from → CarriedAt base end bs from to e bs
-unfolding span
-carried-start {base} {from = from} {e = e} same =
-    let none : e - max base from ≡ 0 = omega arith in
-    record { low = omega arith; high = omega arith; long = refl; adds = λ x h. rw none (omega arith) }
 
 -- a number counted in a part of the window is counted in the whole
 part-counts : (x base end from to : ℕ) → base ≤ x → x < end → span (hit x) (max base from) (min end to - max base from) ≡ span (hit x) from (to - from)
@@ -61,34 +50,54 @@ part-counts x base end from to h q =
     omega (arith, span-hit-one x from (to - from) (omega (arith, i .0)) (omega (arith, i .1))))
     (λ (r : ¬ (0 < span (hit x) (max base from) (min end to - max base from))). omega arith))
 
-module _ {base end : ℕ} {bs : List ℕ} {from to e : ℕ} {bs′ : List ℕ} (x : CarriedAt base end bs from to e bs′) where
-  module _ (h : e < min end to) where
-    pub carried-next : {r : Bool} {bs″ : List ℕ} → length bs″ ≡ length bs′ → Inserts bs′ (e - base) r bs″ → r ≡ true
-        → CarriedAt base end bs from to (e + 1) bs″
-    carried-next l i t =
-        let more : e + 1 - max base from ≡ e - max base from + 1 = omega (arith, x .low) in
-        let here : max base from + (e - max base from) ≡ e = omega (arith, x .low) in
+shifted-size : (b l h : ℕ) → b ≤ l → l < h → h - b - (l - b) ≡ h - l
+shifted-size b l h p q = omega arith
+
+shifted-inside : (b l h j : ℕ) → b ≤ l → l < h → l - b ≤ j → j < l - b + (h - b - (l - b)) → (l ≤ j + b) × (j + b < h)
+shifted-inside b l h j p q r s = (omega arith, omega (arith, shifted-size b l h p q))
+
+-- a reference of the run that may be in the set only once is not in it yet
+carried-once : (base end from to j : ℕ) (bs : List ℕ) → Once base end bs (λ (e : ℕ). span (hit e) from (to - from))
+    → (base ≤ j + base) × (j + base < end) × (from ≤ j + base) × (j + base < from + (to - from)) → bit bs j ≡ 0
+carried-once base end from to j bs once i =
+    let here : j + base - base ≡ j = omega arith in
+    omega (arith, rw here at (once (j + base) (i .0) (i .1)), span-hit-one (j + base) from (to - from) (i .2) (i .3))
+
+module _ (base end from to : ℕ) where
+  -- no reference of the run is in the window
+  pub carried-none : {bs : List ℕ} → min end to ≤ max base from → Carried base end bs from to true bs
+  unfolding span
+  carried-none h =
+      let none : min end to - max base from ≡ 0 = omega arith in
+      record {
+        adds = λ z e p q. omega (arith, rw none at (part-counts e base end from to p q));
+        known = λ q. refl;
+      }
+
+  module _ {low high : ℕ} (is-low : low ≡ max base from) (is-high : high ≡ min end to) (some : low < high) where
+    -- those that are, as bits of the set
+    counted : (e : ℕ) → base ≤ e → e < end → span (hit (e - base)) (low - base) (high - base - (low - base)) ≡ span (hit e) from (to - from)
+    counted e p q =
+        let here : base + (e - base) ≡ e = omega arith in
+        let first : base + (low - base) ≡ low = omega arith in
+        let size = shifted-size base low high (omega arith) some in
+        sym (span-shift base (e - base) (low - base) (high - base - (low - base)))
+        ∙ rw (here, first, size, is-low, is-high) (part-counts e base end from to p q)
+
+    -- one of them lies in the window and in the run
+    inside : (e : ℕ) → low ≤ e → e < high → (base ≤ e) × (e < end) × (from ≤ e) × (e < from + (to - from))
+    inside e p q = (omega arith, omega arith, omega arith, omega arith)
+
+    pub carried-row : {bs : List ℕ} {r : Bool} {bs′ : List ℕ} → Row bs (low - base) (high - base - (low - base)) r bs′ → Carried base end bs from to r bs′
+    carried-row {bs} row =
         record {
-          low = omega (arith, x .low);
-          high = omega arith;
-          long = l ∙ x .long;
-          adds = λ y q.
-              rw (more, span-after (hit y) (max base from) (e - max base from), here)
-              (omega (arith, i .fresh t (y - base), x .adds y q, hit-shift y e base q (omega (arith, x .low))));
+          adds = λ z e p q. omega (arith, row .fresh z (e - base), counted e p q);
+          known = λ once.
+              row .known
+              (λ j a b.
+              let place = shifted-inside base low high j (omega arith) some a b in
+              carried-once base end from to j bs once (inside (j + base) (place .0) (place .1)));
         }
-
-    -- e would be in it twice
-    pub carried-twice : bit bs′ (e - base) ≡ 1 → Once base end bs (λ (y : ℕ). span (hit y) from (to - from)) → ⊥
-    carried-twice one once =
-        by-cases (decLt 0 (span (hit e) (max base from) (e - max base from)))
-        (λ (p : 0 < span (hit e) (max base from) (e - max base from)). omega (arith, span-hit-in e (max base from) (e - max base from) p))
-        (λ (p : ¬ (0 < span (hit e) (max base from) (e - max base from))).
-        omega (arith, once e (omega (arith, x .low)) (omega arith), span-hit-one e from (to - from) (omega (arith, x .low)) (omega (arith, x .low)), x .adds e (omega (arith, x .low)), one))
-
-  pub carried-end : min end to ≤ e → Carried base end bs from to true bs′
-  carried-end h =
-      let same : e - max base from ≡ min end to - max base from = omega (arith, x .high, x .low) in
-      record { adds = λ z y q l. x .adds y q ∙ rw (same, part-counts y base end from to q l); known = λ q. refl }
 
 pub takes-not : {base end : ℕ} {bs : List ℕ} {f : ℕ → ℕ} {bs′ : List ℕ} → (Once base end bs f → ⊥) → Takes base end bs f false bs′
 takes-not n = record { adds = λ z. never z refl; known = λ h. absurd (n h) }
@@ -218,9 +227,20 @@ module _ {G : Graph} {ms : List ℕ} {W : ℕ} {w : List ℕ} (there : LoadsTher
   parts-there {u = u} {v} room a b same =
       let marks = there .marks-length in
       record {
-        targets = record { inside = λ e q. omega (arith, there .formed .inside e q, marks); within = inside; room = room };
+        targets = record {
+          targets = record { inside = λ e q. omega (arith, there .formed .inside e q, marks); within = inside };
+          room = room;
+        };
         long = omega (arith, marks, there .some);
+        rise = λ x k q. offsets-rise G (there .formed) x k (omega (arith, marks));
+        some = by-cases (decLt (v + 1) u)
+            (λ (t : v + 1 < u).
+            let d : v + 1 + (u - (v + 1)) ≡ u = omega arith in
+            absurd (omega (arith, a .from, b .below, rw d at (offsets-rise G (there .formed) (v + 1) (u - (v + 1)) (omega (arith, a .object))))))
+            (λ (t : ¬ (v + 1 < u)). omega arith);
         objects = omega (arith, b .object, marks);
+        begins = a .from;
+        ends = omega (arith, b .below);
         leaves = λ x e l p q r s. (
           by-cases (decLt x u)
               (λ (t : x < u).

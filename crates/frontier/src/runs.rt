@@ -1,4 +1,5 @@
 // The stretches: the runs that the workers carry.
+use crate::index;
 use desk::places;
 use protocol::fields;
 use worker::registers;
@@ -42,6 +43,20 @@ pub fn object_of(offsets: &[u32], e: u32) -> usize
     low
 }
 
+// The same; the index may tell which it is.
+fn object_by(offsets: &[u32], e: u32, index: &[u16]) -> usize
+    requires { ⌜ HasOwner (now offsets) e ⌝ }
+    ensures { λ v. ⌜ Owns (now (offsets .entry)) e v ⌝ }
+{
+    let v = index::guess(offsets, e, index);
+    if offsets[v] <= e {
+        if e < offsets[v + 1] {
+            return v;
+        }
+    }
+    object_of(offsets, e)
+}
+
 // Whether object v has no other references than those from one to another.
 fn is_whole(offsets: &[u32], v: usize, from: u32, to: u32) -> bool
     requires { ⌜ v + 1 < length (now offsets) ⌝ }
@@ -65,14 +80,21 @@ const WRONG: Tested = Tested {
 };
 
 // The run from one reference to another, which is after it.
-fn check_run(offsets: &[u32], targets: &[u32], marks: &[u32], from: u32, to: u32) -> Tested
+fn check_run(
+    offsets: &[u32],
+    targets: &[u32],
+    marks: &[u32],
+    index: &[u16],
+    from: u32,
+    to: u32,
+) -> Tested
     requires { ⌜ Marking (graph (now offsets) (now targets)) (now marks) × (from < to) ⌝ }
     ensures { λ r. ⌜ RunFound (graph (now (offsets .entry)) (now (targets .entry))) (now (marks .entry)) from to r ⌝ }
 {
     if targets.len() < to as usize {
         return WRONG;
     }
-    let v = object_of(offsets, from);
+    let v = object_by(offsets, from, index);
     if offsets[v + 1] < to {
         return WRONG;
     }
@@ -97,7 +119,13 @@ const NO_RUNS: Runs = Runs {
 };
 
 // The pairs of a stretch up to the first that is none. All but the first and the last must be whole.
-fn check_runs(offsets: &[u32], targets: &[u32], marks: &[u32], stretch: &[u32]) -> Runs
+fn check_runs(
+    offsets: &[u32],
+    targets: &[u32],
+    marks: &[u32],
+    index: &[u16],
+    stretch: &[u32],
+) -> Runs
     requires { ⌜ Marking (graph (now offsets) (now targets)) (now marks) × (length (now stretch) ≤ stretchLength most-objects) ⌝ }
     ensures { λ r. ⌜ RunsFound (graph (now (offsets .entry)) (now (targets .entry))) (now (marks .entry)) (now (stretch .entry)) r ⌝ }
 {
@@ -118,7 +146,7 @@ fn check_runs(offsets: &[u32], targets: &[u32], marks: &[u32], stretch: &[u32]) 
         if !whole {
             return NO_RUNS;
         }
-        let run = check_run(offsets, targets, marks, from, to);
+        let run = check_run(offsets, targets, marks, index, from, to);
         let sound = run.sound;
         if !sound {
             return NO_RUNS;
@@ -135,17 +163,18 @@ fn check_runs(offsets: &[u32], targets: &[u32], marks: &[u32], stretch: &[u32]) 
     }
 }
 
-// Whether the words from a place on are zeros.
+// Whether the words from a place on are zeros. Looks at all of them, so that the processor takes several at once.
 fn zeros(words: &[u32], from: usize) -> bool
     requires { ⌜ from ≤ length (now words) ⌝ }
     ensures { λ r. ⌜ Decides r (drop from (now (words .entry)) ≡ replicate (length (now (words .entry)) - from) 0) ⌝ }
 {
+    let mut wrong: u32 = 0;
     for i in from..words.len() {
         if words[i] != 0 {
-            return false;
+            wrong = 1;
         }
     }
-    true
+    wrong == 0
 }
 
 // What a worker carries.
@@ -164,6 +193,7 @@ fn check_stretch(
     offsets: &[u32],
     targets: &[u32],
     marks: &[u32],
+    index: &[u16],
     stretch: &[u32],
     status: u32,
     batch: u32,
@@ -175,7 +205,7 @@ fn check_stretch(
         let sound = zeros(stretch, 0);
         return Load { sound, carried: 0 };
     }
-    let runs = check_runs(offsets, targets, marks, stretch);
+    let runs = check_runs(offsets, targets, marks, index, stretch);
     let sound = runs.sound;
     let pairs = runs.pairs;
     let total = runs.carried;
@@ -213,6 +243,7 @@ pub fn check_stretches(
     offsets: &[u32],
     targets: &[u32],
     marks: &[u32],
+    index: &[u16],
     saved: &[u32],
     workers: u32,
 ) -> Loads
@@ -231,6 +262,7 @@ pub fn check_stretches(
             offsets,
             targets,
             marks,
+            index,
             &saved[from..from + len],
             saved[at + fields::STATUS],
             saved[at + fields::BATCH],

@@ -1,5 +1,6 @@
 // The references, a window of them at a time: none is carried twice, and each reference of a marked object that
 // nobody carries has a marked target.
+use crate::rows;
 use crate::runs;
 use desk::places;
 use marks::Window;
@@ -24,12 +25,10 @@ fn carry(carried: &mut [u32], base: u32, end: u32, from: u32, to: u32) -> bool
 {
     let low = slices::larger(base, from);
     let high = slices::smaller(end, to);
-    for e in low..high {
-        if !bits::insert(carried, e - base) {
-            return false;
-        }
+    if high <= low {
+        return true;
     }
-    true
+    rows::insert(carried, low - base, high - base)
 }
 
 // The same for the runs of a stretch.

@@ -10,6 +10,7 @@ use Rattle.slices.specs.Bits.{bit, word-bits}
 use Rattle.graph.specs.Graph.{graph}
 use Rattle.graph.specs.Chain.{set?}
 use Rattle.graph.specs.Leaving.{leavingUnmarked}
+use Rattle.graph.specs.Limits.{most-objects}
 use Rattle.machine.specs.Machine.{live}
 use Rattle.machine.specs.Sound.{Marked}
 use Rattle.marks.specs.declared.Counted.{Counted}
@@ -19,8 +20,15 @@ use Rattle.marks.specs.declared.Window.{Window}
 
 -- a mark for each object, whose references begin at offsets that do not fall
 pub record MarksThere (os ms : List ℕ) : Type 0 where
+  pub few : length ms ≤ most-objects
   pub long : length os ≡ suc (length ms)
   pub rises : (v : ℕ) → v < length ms → getD os v 0 ≤ getD os (suc v) 0
+
+-- what `unset` says of a mark
+pub record Unset (mark r : ℕ) : Type 0 where
+  pub low : r ≤ 1
+  pub none : mark ≡ 0 → r ≡ 1
+  pub some : (mark ≡ 0 → ⊥) → r ≡ 0
 
 -- what `count_marks` says
 pub record MarksCounted (os ms : List ℕ) (r : Counted) : Type 0 where
@@ -67,11 +75,19 @@ pub record StartsFound (starts ms : List ℕ) (r : Starts) : Type 0 where
 
 -- ---- the targets, of the references in a window; the bits are those of the references from base on
 
--- targets that are objects, with a mark for each object, and a bit for each reference from base up to end
-pub record TargetsThere (ts ms carried : List ℕ) (base end : ℕ) : Type 0 where
+-- targets that are objects, with a mark for each object
+pub record TargetsInside (ts ms : List ℕ) (end : ℕ) : Type 0 where
   pub inside : (e : ℕ) → e < length ts → getD ts e 0 < length ms
   pub within : end ≤ length ts
+
+-- and a bit for each reference from base up to end
+pub record TargetsThere (ts ms carried : List ℕ) (base end : ℕ) : Type 0 where
+  pub targets : TargetsInside ts ms end
   pub room : end ≤ base + word-bits * length carried
+
+-- each of the references from one to another has a marked target
+abbrev pub RowMarked : List ℕ → List ℕ → ℕ → ℕ → Type 0
+RowMarked ts ms from to = (e : ℕ) → from ≤ e → e < to → Marked ms (getD ts e 0)
 
 -- each of the references from one to another that nobody carries has a marked target
 abbrev pub PartMarked : List ℕ → List ℕ → List ℕ → ℕ → ℕ → ℕ → Type 0
@@ -86,5 +102,23 @@ AllMarked os ts ms carried base end =
 pub record PartsThere (os ts ms carried : List ℕ) (w : Window) : Type 0 where
   pub targets : TargetsThere ts ms carried (w .from) (w .to)
   pub long : length os ≡ suc (length ms)
+  pub rise : (v k : ℕ) → v + k ≤ length ms → getD os v 0 ≤ getD os (v + k) 0
+  pub some : w .first ≤ w .last
   pub objects : w .last ≤ length ms
+  pub begins : getD os (w .first) 0 ≤ w .from
+  pub ends : w .to ≤ getD os (w .last) 0
   pub leaves : (v e : ℕ) → v < length ms → getD os v 0 ≤ e → e < getD os (suc v) 0 → w .from ≤ e → e < w .to → (w .first ≤ v) × (v < w .last)
+
+-- the objects from v up to u are marked, and u is not, or is the end
+pub record RowEnd (ms : List ℕ) (v last u : ℕ) : Type 0 where
+  pub from : v ≤ u
+  pub high : u ≤ last
+  pub each : (k : ℕ) → v ≤ k → k < u → Marked ms k
+  pub stops : u < last → getD ms u 0 ≡ 0
+
+-- the objects from v up to u are not marked, and u is, or is the end
+pub record GapEnd (ms : List ℕ) (v last u : ℕ) : Type 0 where
+  pub from : v ≤ u
+  pub high : u ≤ last
+  pub each : (k : ℕ) → v ≤ k → k < u → getD ms k 0 ≡ 0
+  pub stops : u < last → getD ms u 0 ≡ 0 → ⊥

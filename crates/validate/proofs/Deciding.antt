@@ -85,6 +85,7 @@ module _ {G : Graph} {starts : List ℕ} {W : ℕ} {g : Setting} {w : List ℕ} 
     pub marks-there : MarksThere (G .offsets) ms
     marks-there =
         record {
+          few = omega (arith, long, ch .objects-limit);
           long = omega (arith, long, ch .accepted .some-object);
           rises = λ v h. ch .accepted .formed .rises v (omega (arith, long));
         }

@@ -5,25 +5,25 @@ use Rattle.frontier.proofs.check_loads.Statement.{statement}
 use Rattle.frontier.proofs.check_loads.Tie as tie
 
 -- the entry, from where the stretches have been checked
-abbrev entry : tie.After-check-stretches → tie.Start
+abbrev entry : tie.After-check-each → tie.Start
 entry c = c .before .before .before .before .before
 
 returns : tie.Need-returns
 returns c =
     let done = c .before .before in
-    loaded-none (loaded-wrong (entry done .pre) (done .check-stretches .ensures) (not-true _ (c .if1 .taken)))
+    loaded-none (loaded-wrong (entry done .pre) (done .check-each .ensures) (not-true _ (c .if1 .taken)))
 
 returns-2 : tie.Need-returns-2
 returns-2 c =
     let found = c .before in
     let done = found .before .before .before in
-    loaded-none (loaded-unmarked (entry done .pre) (done .check-stretches .ensures) (not-false _ (found .before .if1 .left)) (found .check-references .ensures) (not-true _ (c .if2 .taken)))
+    loaded-none (loaded-unmarked (entry done .pre) (done .check-each .ensures) (not-false _ (found .before .if1 .left)) (found .check-references .ensures) (not-true _ (c .if2 .taken)))
 
 returns-3 : tie.Need-returns-3
 returns-3 c =
     let found = c .before in
     let done = found .before .before .before in
-    loaded (entry done .pre) (done .check-stretches .ensures) (not-false _ (found .before .if1 .left)) (found .check-references .ensures) (not-false _ (c .if2 .left))
+    loaded (entry done .pre) (done .check-each .ensures) (not-false _ (found .before .if1 .left)) (found .check-references .ensures) (not-false _ (c .if2 .left))
 
 pub check-loads-spec : {M : Type 1} → statement M
 check-loads-spec =

@@ -24,7 +24,7 @@ abbrev μ-loop : tie.MeasureT-loop
 shared-slice-read-target : tie.Need-shared-slice-read-target Inv-loop μ-loop
 shared-slice-read-target c =
     let l = c .before .before in
-    omega (arith, l .before .before .before .before .pre .0 .within)
+    omega (arith, l .before .before .before .before .pre .0 .targets .within)
 
 cast-if1 : tie.Need-cast-if1 Inv-loop μ-loop
 cast-if1 c =
@@ -38,7 +38,7 @@ shared-slice-read-if1 : tie.Need-shared-slice-read-if1 Inv-loop μ-loop
 shared-slice-read-if1 c =
     let l = c .before .before .before in
     let there = l .before .before .before .before .pre in
-    there .0 .inside (l .loop .e) (omega (arith, there .0 .within))
+    there .0 .targets .inside (l .loop .e) (omega (arith, there .0 .targets .within))
 
 sub-contains : tie.Need-sub-contains Inv-loop μ-loop
 sub-contains c =

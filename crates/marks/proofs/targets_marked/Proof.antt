@@ -1,95 +1,114 @@
--- `marks::targets_marked` meets its contract: it holds of each object passed, and the window's references leave no others.
+-- `marks::targets_marked` meets its contract: the loop keeps `RowsAt`, that the objects passed hold up to the row of marked ones before it.
 use borrow.Author.Needs.{needs}
 use native.Mathlib.Omega.{arith}
-use Prim.Native.Nat.{ℕ, _+_, _-_, _≤_, _<_, min, max}
+use Prim.Native.Nat.{_-_, _≤_}
 use mathlib.Core.Path.{_≡_}
-use mathlib.Core.Logic.{⊎-elim, by-cases}
-use native.Mathlib.Decide.{decLt}
-use native.Mathlib.Numerals.{add-one}
-use lib.ListN.{getD}
 use borrow.Author.Tests.{not-true, not-false}
-use Rattle.laws.proofs.Decides.{decides-no, decides-yes, refuted}
-use Rattle.machine.specs.Sound.{Marked}
-use Rattle.marks.specs.Marks.{PartMarked}
+use Rattle.laws.proofs.Decides.{decides-no, refuted}
+use Rattle.marks.proofs.MarkLaws.{RowsAt, rows-start, row-known, row-passed, gap-passed, gap-further, rows-end, part-there}
 use Rattle.marks.proofs.targets_marked.Statement.{statement}
 use Rattle.marks.proofs.targets_marked.Tie as tie
 
 abbrev Inv-loop : tie.InvT-loop
-Inv-loop offsets targets marks carried base end first last v₀ v =
-    (u : ℕ) → first ≤ u → u < v → Marked marks u → PartMarked targets marks carried base (max base (getD offsets u 0)) (min end (getD offsets (u + 1) 0))
+Inv-loop offsets targets marks carried base end first last from₀ v₀ from v =
+    (v ≤ last) × RowsAt offsets targets marks carried (record { from = base; to = end; first = first; last = last }) from v
 
 abbrev μ-loop : tie.MeasureT-loop
-μ-loop offsets targets marks carried base end first last v₀ v = last - v
+μ-loop offsets targets marks carried base end first last from₀ v₀ from v = last - v
 
--- the entry, from the loop
+-- the entry, from the loop; the loop, from a row's end; and that end, from where its references are to be looked at
 abbrev entry : tie.At-loop Inv-loop μ-loop → tie.Start Inv-loop μ-loop
 entry c = c .before .before .before .before .before
 
-shared-slice-read-if1 : tie.Need-shared-slice-read-if1 Inv-loop μ-loop
-shared-slice-read-if1 c = let t = c .before in omega (arith, entry (t .before) .pre .objects)
+abbrev at-loop : tie.After-row-end Inv-loop μ-loop → tie.At-loop Inv-loop μ-loop
+at-loop c = c .before .before
 
-shared-slice-read-larger : tie.Need-shared-slice-read-larger Inv-loop μ-loop
-shared-slice-read-larger c =
-    let p = entry (c .before .before .before .before) .pre in
-    omega (arith, p .objects, p .long)
+abbrev row : tie.After-smaller Inv-loop μ-loop → tie.After-row-end Inv-loop μ-loop
+row c = c .before .before
 
-add-smaller : tie.Need-add-smaller Inv-loop μ-loop
-add-smaller c = omega (arith, entry (c .before .before .before .before .before) .pre .objects)
+-- from behind the gap back to the row
+abbrev looked : tie.After-gap-end Inv-loop μ-loop → tie.After-rows-marked Inv-loop μ-loop
+looked c = c .before .before
+
+loop-holds : tie.Need-loop-holds Inv-loop μ-loop
+loop-holds c = let p = c .before .before .before .before .pre in (p .some, rows-start p)
+
+row-end-requires : tie.Need-row-end-requires Inv-loop μ-loop
+row-end-requires c κs = let l = c .before in (l .loop .inv .0, entry l .pre .objects)
 
 mul-smaller : tie.Need-mul-smaller Inv-loop μ-loop
-mul-smaller c =
-    let start = entry (c .before .before .before .before .before) in
-    omega (arith, start .pre .objects, start .pre .long, start .good)
+mul-smaller c = let start = entry (at-loop c) in omega (arith, c .row-end .ensures .high, start .pre .objects, start .pre .long, start .good)
 
 shared-slice-read-smaller : tie.Need-shared-slice-read-smaller Inv-loop μ-loop
 shared-slice-read-smaller c =
-    let p = entry (c .before .before .before .before .before .before) .pre in
-    omega (arith, p .objects, p .long)
+    let r = c .before in
+    let p = entry (at-loop r) .pre in
+    omega (arith, r .row-end .ensures .high, p .objects, p .long)
 
-part-marked-requires : tie.Need-part-marked-requires Inv-loop μ-loop
-part-marked-requires c κs =
-    let there = entry (c .before .before .before .before .before .before .before) .pre .targets in (
-      record {
-        inside = there .inside;
-        within = omega (arith, c .smaller .ensures, there .within);
-        room = omega (arith, c .smaller .ensures, there .room);
-      },
-      omega (arith, c .before .before .larger .ensures),
-    )
+-- the row's end is reached
+reached : (c : tie.After-row-end Inv-loop μ-loop) → let a = entry (at-loop c) .args in
+    RowsAt (a .offsets .now) (a .targets .now) (a .marks .now) (a .carried .now) (a .window) (at-loop c .loop .from) (c .row-end .result)
+reached c = let p = entry (at-loop c) .pre in row-passed p (at-loop c .loop .inv .1) (p .objects) (c .row-end .ensures)
+
+rows-marked-requires : tie.Need-rows-marked-requires Inv-loop μ-loop
+rows-marked-requires c κs =
+    let l = at-loop (row c) in
+    (part-there (entry l .pre .targets) (omega (arith, c .smaller .ensures)), l .loop .inv .1 .low)
 
 returns : tie.Need-returns Inv-loop μ-loop
 returns c =
-    let part = c .before .before in
-    let marked = part .before .before .before .before in
-    let tested = marked .before .before in
-    let l = tested .before in
-    let v = l .loop .v in
-    decides-no (λ h. refuted (c .before .part-marked .ensures) (not-true _ (c .if2 .taken))
-    (rw (part .before .before .larger .ensures, part .smaller .ensures, add-one)
-    (h v (omega (arith, entry l .pre .objects)) (omega (arith, marked .if1 .taken)))))
+    let s = c .before .before in
+    let p = entry (at-loop (row s)) .pre in
+    decides-no (λ all. refuted (c .before .rows-marked .ensures) (not-true _ (c .if1 .taken))
+    (row-known p (reached (row s)) (omega (arith, row s .row-end .ensures .high, p .objects)) (omega (arith, s .smaller .ensures)) (omega (arith, s .smaller .ensures)) all))
+
+gap-end-requires : tie.Need-gap-end-requires Inv-loop μ-loop
+gap-end-requires c κs =
+    let r = row (c .before .before) in
+    (r .row-end .ensures .high, entry (at-loop r) .pre .objects)
+
+mul-larger : tie.Need-mul-larger Inv-loop μ-loop
+mul-larger c =
+    let start = entry (at-loop (row (looked c .before))) in
+    omega (arith, c .gap-end .ensures .high, start .pre .objects, start .pre .long, start .good)
+
+shared-slice-read-larger : tie.Need-shared-slice-read-larger Inv-loop μ-loop
+shared-slice-read-larger c =
+    let g = c .before in
+    let p = entry (at-loop (row (looked g .before))) .pre in
+    omega (arith, g .gap-end .ensures .high, p .objects, p .long)
+
+loop-less : tie.Need-loop-less Inv-loop μ-loop
+loop-less c =
+    let g = c .before .before in
+    let r = row (looked g .before) in
+    let l = at-loop r in
+    omega (arith, gap-further (r .row-end .ensures) (g .gap-end .ensures) (r .before .loop-test .taken), g .gap-end .ensures .high)
 
 loop-again : tie.Need-loop-again Inv-loop μ-loop
 loop-again c =
-    let l = c .before .before .before .loop in
-    λ u h q m. by-cases (decLt u (l .v)) (λ (p : u < l .v). l .inv u h p m) (λ (p : ¬ (u < l .v)).
-    let here : u ≡ l .v = omega arith in
-    rw here
-    (⊎-elim
-    (λ t. rw (← t .2 .ensures, ← t .4 .ensures) (t .5 .ensures .right (not-false _ (t .6 .left))))
-    (λ t. absurd (omega (arith, rw here at m, t .left)))
-    (c .if1 .came)))
+    let g = c .before .before in
+    let m = looked g in
+    let s = m .before in
+    let p = entry (at-loop (row s)) .pre in (
+      g .gap-end .ensures .high,
+      gap-passed p (reached (row s)) (p .objects) (g .gap-end .ensures) (s .smaller .ensures) (c .larger .ensures)
+          (m .rows-marked .ensures .right (not-false _ (g .before .if1 .left))),
+    )
+
+rows-marked-requires-2 : tie.Need-rows-marked-requires-2 Inv-loop μ-loop
+rows-marked-requires-2 c κs =
+    let l = c .before in
+    (entry l .pre .targets, l .loop .inv .1 .low)
 
 returns-2 : tie.Need-returns-2 Inv-loop μ-loop
 returns-2 c =
-    let l = c .before in
-    let there = entry l .pre in
-    decides-yes (λ u h m e a b.
-    let o = there .leaves u e h (omega arith) (omega arith) (omega arith) (omega arith) in
-    l .loop .inv u (o .0) (omega (arith, o .1)) m e a (rw add-one b))
+    let l = c .before .before in
+    let all : l .loop .v ≡ entry l .args .window .last = omega (arith, l .loop .inv .0, c .before .loop-test .left) in
+    rows-end (entry l .pre) (rw all at (l .loop .inv .1)) (c .rows-marked2 .ensures)
 
 pub targets-marked-spec : {M : Type 1} → statement M
 targets-marked-spec =
     tie.close
-    (tie.spec Inv-loop μ-loop (λ c u h q. absurd (omega arith)) (λ c. search needs) shared-slice-read-if1 (λ c. search needs)
-    shared-slice-read-larger (λ c κs. search needs) add-smaller mul-smaller shared-slice-read-smaller (λ c κs. search needs)
-    part-marked-requires returns (λ c. search needs) (λ c. search needs) loop-again returns-2)
+    (tie.spec Inv-loop μ-loop loop-holds row-end-requires mul-smaller shared-slice-read-smaller (λ c κs. search needs) rows-marked-requires returns
+    gap-end-requires mul-larger shared-slice-read-larger (λ c κs. search needs) loop-less loop-again rows-marked-requires-2 returns-2)

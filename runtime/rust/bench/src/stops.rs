@@ -15,8 +15,10 @@ pub const TAKING_UP: Table = Table {
     columns: &[
         ("a call's checks, µs", Microseconds),
         ("taking up, µs", Microseconds),
+        ("tuned, µs", Microseconds),
         ("Rust, µs", Microseconds),
         (": checks", Span),
+        (": tuned", Span),
         (": Rust", Ratio),
     ],
     measure: |graphs, repetitions| rows(graphs, |graph, settings| taking_up(graph, settings, repetitions)),
@@ -62,12 +64,22 @@ fn saving(graph: &Graph, settings: Settings) -> (Saving, Vec<u8>) {
     ((buffers, vec![1; kullneyra::lengths::saved(graph.n(), workers)]), turns)
 }
 
-/// Taking up what half of the turns left, without a turn, beside a call without a turn, which checks and starts; and in plain Rust.
+/// A collection taken up by the tuned call, without a turn.
+fn run_tuned(graph: &Graph, settings: Settings, (Buffers { marks, work, tallies, .. }, saved): &mut Saving) -> Words {
+    tuned::resume(call(graph, settings, &[]), marks, work, tallies, saved).expect("a call").words()
+}
+
+/// Taking up what half of the turns left, without a turn, beside a call without a turn, which checks and starts; tuned, and in plain Rust.
 fn taking_up(graph: &Graph, settings: Settings, repetitions: usize) -> Vec<f64> {
     let (mut saving, turns) = saving(graph, settings);
     run_part(graph, settings, &turns[..turns.len() / 4 * 2], true, &mut saving);
+    let half = (run_part(graph, settings, &[], false, &mut saving), saving.1.clone());
+    assert_eq!((run_tuned(graph, settings, &mut saving), &saving.1), (half.0, &half.1));
     let taken = |saving: &mut Saving| {
         black_box(run_part(graph, settings, &[], false, saving));
+    };
+    let tuned = |saving: &mut Saving| {
+        black_box(run_tuned(graph, settings, saving));
     };
     let plain = |(Buffers { marks, work, tallies, .. }, saved): &mut Saving| {
         black_box(reference::resume(call(graph, settings, &[]), marks, work, tallies, saved)).expect("a call");
@@ -75,9 +87,9 @@ fn taking_up(graph: &Graph, settings: Settings, repetitions: usize) -> Vec<f64> 
     let checked = |saving: &mut Saving| {
         black_box(run_proved(graph, settings, &[], &mut saving.0));
     };
-    let medians = medians(&mut saving, repetitions, [&taken, &plain, &checked]);
-    let [taken, plain, checked] = medians.times.map(|time| time / 1_000.0);
-    vec![checked, taken, plain, medians.over[2], medians.over[1]]
+    let medians = medians(&mut saving, repetitions, [&taken, &plain, &checked, &tuned]);
+    let [taken, plain, checked, tuned] = medians.times.map(|time| time / 1_000.0);
+    vec![checked, taken, tuned, plain, medians.over[2], medians.over[3], medians.over[1]]
 }
 
 /// All turns in 100 calls that save, beside one call that does not.

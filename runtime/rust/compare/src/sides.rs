@@ -3,7 +3,7 @@
 use crate::case::Mark;
 use crate::plain::{header_words, number, seeded, store_words, told};
 use kullneyra::Refusal;
-use reference::Outcome;
+use reference::{Outcome, Stopped};
 
 pub use crate::calls::{Proved, Side, Typed, Untouched};
 pub use reference::Renewed as Renewal;
@@ -71,6 +71,11 @@ impl Side for Tuned {
         result: &mut [u64],
     ) -> u32 {
         told(result, || tuned::mark_all(call.call(), marks, work, tallies).map(Outcome::words))
+    }
+
+    fn resume(&self, call: &Mark, lent: &mut Buffers<'_>) -> u32 {
+        let Buffers { marks, work, tallies, saved, result } = lent;
+        told(result, || tuned::resume(call.call(), marks, work, tallies, saved).map(Stopped::words))
     }
 
     fn sweep(&self, marks: &[u8], sizes: &[u64], list: &mut [u32], result: &mut [u64]) -> u32 {

@@ -57,15 +57,16 @@ pub fn renewed(lent: &Renewed<'_>, n: usize, targets: usize) -> bool {
     offsets.len() == n + 1 && places.len() == targets && marks.len() == n && work.len() == n
 }
 
-/// The number of the first fault of a call with so many marks, work words and words of tallies.
-pub fn call(call: Call<'_>, marks: usize, work: usize, tallies: usize) -> Result<(), u8> {
+/// The number of the first fault of a call with so many marks, work words and words of tallies, and saved words that fit or
+/// do not.
+pub fn call(call: Call<'_>, marks: usize, work: usize, tallies: usize, saved: bool) -> Result<(), u8> {
     let Call { offsets, targets, starts, workers, batch, cutoff, schedule } = call;
     if !(1..=16).contains(&workers) || !(1..=65_535).contains(&batch) || !(1..=65_535).contains(&cutoff) {
         return Err(8);
     }
     counts(offsets, targets)?;
     let n = offsets.len() - 1;
-    if marks != n || work != workers as usize * (2 * n + 4) || tallies != workers as usize * Tally::WORDS {
+    if marks != n || work != workers as usize * (2 * n + 4) || tallies != workers as usize * Tally::WORDS || !saved {
         return Err(7);
     }
     store(offsets, targets, starts)?;

@@ -17,6 +17,7 @@ mod floor;
 mod hops;
 mod market;
 mod read;
+mod saved;
 mod scan;
 mod sweep;
 mod updates;
@@ -26,6 +27,7 @@ pub use floor::depth_first;
 pub use hops::hops;
 pub use market::{export, import};
 pub use read::read;
+pub use saved::resume;
 pub use scan::{scan, scan_length};
 pub use sweep::sweep;
 pub use updates::{add, remove};
@@ -36,12 +38,12 @@ use std::hint::black_box;
 /// How many words below the top of the work memory the run stands whose references are touched.
 const AHEAD: usize = 8;
 
-/// What a worker is, and what its next turn does if it is busy. The busy ones are the last three.
+/// What a worker is, and what its next turn does if it is busy, by the codes of SPECIFICATION 8.1. The busy ones are the last three.
 const IDLE: u32 = 0;
 const ASKING: u32 = 1;
 const DENIED: u32 = 2;
-const GIVEN: u32 = 3;
-const ENDED: u32 = 4;
+const ENDED: u32 = 3;
+const GIVEN: u32 = 4;
 const POLL: u32 = 5;
 const LOOK: u32 = 6;
 const CLAIM: u32 = 7;
@@ -509,7 +511,7 @@ impl<'a> Begun<'a> {
     }
 
     /// What it comes to after so many turns that changed something.
-    fn answer(mut self, moved: u64, tallies: &mut [u64]) -> Outcome {
+    fn answer(&mut self, moved: u64, tallies: &mut [u64]) -> Outcome {
         let Tally { followed, won, handed, .. } = self.machine.settle(self.stretch, tallies);
         let Counts { refused, carrying, awake } = self.machine.counts;
         let (live, carrying) = (self.distinct + won, u64::from(carrying));
@@ -519,7 +521,7 @@ impl<'a> Begun<'a> {
 
 /// The marker's call: the counts, or the number of the refusal.
 pub fn mark(call: Call<'_>, marks: &mut [u8], work: &mut [u32], tallies: &mut [u64]) -> Result<Outcome, u8> {
-    check::call(call, marks.len(), work.len(), tallies.len())?;
+    check::call(call, marks.len(), work.len(), tallies.len(), true)?;
     let mut begun = Begun::start(call, marks, work);
     let moved = begun.machine.turns(call.schedule);
     Ok(begun.answer(moved, tallies))
@@ -528,7 +530,7 @@ pub fn mark(call: Call<'_>, marks: &mut [u8], work: &mut [u32], tallies: &mut [u
 /// A whole collection: rounds of several workers, or one worker's turns in rows.
 pub fn mark_all(call: Call<'_>, marks: &mut [u8], work: &mut [u32], tallies: &mut [u64]) -> Result<Outcome, u8> {
     let call = Call { schedule: &[], ..call };
-    check::call(call, marks.len(), work.len(), tallies.len())?;
+    check::call(call, marks.len(), work.len(), tallies.len(), true)?;
     let mut begun = Begun::start(call, marks, work);
     let moved = if call.workers == 1 { begun.machine.rows() } else { begun.machine.rounds() };
     Ok(begun.answer(moved, tallies))

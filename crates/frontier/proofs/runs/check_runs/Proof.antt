@@ -11,18 +11,18 @@ use Rattle.frontier.proofs.runs.check_runs.Statement.{statement}
 use Rattle.frontier.proofs.runs.check_runs.Tie as tie
 
 abbrev Inv-loop : tie.InvT-loop
-Inv-loop offsets targets marks stretch total₀ whole₀ pairs i₀ total whole i =
+Inv-loop offsets targets marks index stretch total₀ whole₀ pairs i₀ total whole i =
     RunsAt (graph offsets targets) marks stretch total whole i
 
 abbrev μ-loop : tie.MeasureT-loop
-μ-loop offsets targets marks stretch total₀ whole₀ pairs i₀ total whole i = pairs - i
+μ-loop offsets targets marks index stretch total₀ whole₀ pairs i₀ total whole i = pairs - i
 
 -- the loop, from where a pair has been found, and the entry
 abbrev at-loop : tie.Else1 Inv-loop μ-loop → tie.At-loop Inv-loop μ-loop
 at-loop c = c .before .before .before .before
 
 abbrev entry : tie.At-loop Inv-loop μ-loop → tie.Start Inv-loop μ-loop
-entry c = c .before .before .before .before .before
+entry c = c .before .before .before .before .before .before
 
 mul-from : tie.Need-mul-from Inv-loop μ-loop
 mul-from c = omega (arith, entry (c .before) .pre .1)
@@ -65,13 +65,13 @@ cast-total : tie.Need-cast-total Inv-loop μ-loop
 cast-total c =
     let pair = c .before .before .before .before in
     let l = at-loop pair .loop in
-    omega (arith, pair .before .shared-slice-known6 .given (2 * l .i + 1))
+    omega (arith, pair .before .shared-slice-known7 .given (2 * l .i + 1))
 
 add-total : tie.Need-add-total Inv-loop μ-loop
 add-total c =
     let pair = c .before .before .before .before in
     let l = at-loop pair in
-    omega (arith, pair .before .shared-slice-known6 .given (2 * l .loop .i + 1), l .loop .inv .low, l .loop .inv .high, entry l .pre .1)
+    omega (arith, pair .before .shared-slice-known7 .given (2 * l .loop .i + 1), l .loop .inv .low, l .loop .inv .high, entry l .pre .1)
 
 loop-again : tie.Need-loop-again Inv-loop μ-loop
 loop-again c =
@@ -87,7 +87,7 @@ loop-again c =
     (λ t. rw (t .1) (flag-more (l .inv) (omega arith) pair found (omega (arith, t .0 .taken)) w s))
     (λ t. rw (t .1) (flag-one (l .inv) (omega arith) pair (omega (arith, t .0 .left)) w))
     (c .if4 .came))
-    (whole .before .before .shared-slice-known6 .given (2 * l .i + 1) .fits)
+    (whole .before .before .shared-slice-known7 .given (2 * l .i + 1) .fits)
 
 returns-4 : tie.Need-returns-4 Inv-loop μ-loop
 returns-4 c =

@@ -7,7 +7,7 @@ use Rattle.frontier.proofs.runs.check_stretch.Tie as tie
 
 -- the entry, and where the runs have been checked
 abbrev entry : tie.Else1 → tie.Start
-entry c = c .before .before .before .before .before
+entry c = c .before .before .before .before .before .before
 
 abbrev checked : tie.Else4 → tie.After-check-runs
 checked c = c .before .before .before
@@ -15,7 +15,7 @@ checked c = c .before .before .before
 returns : tie.Need-returns
 returns c =
     let t = c .before in
-    stretch-idle (t .if1 .taken) (t .before .before .before .before .before .pre .2 (t .if1 .taken)) (c .zeros .ensures)
+    stretch-idle (t .if1 .taken) (t .before .before .before .before .before .before .pre .2 (t .if1 .taken)) (c .zeros .ensures)
 
 check-runs-requires : tie.Need-check-runs-requires
 check-runs-requires c κs = let p = entry c .pre in (p .0, p .1)

@@ -14,15 +14,15 @@ use Rattle.frontier.proofs.runs.check_stretches.Statement.{statement}
 use Rattle.frontier.proofs.runs.check_stretches.Tie as tie
 
 abbrev Inv-loop : tie.InvT-loop
-Inv-loop offsets targets marks saved workers carrying₀ total₀ n len stretches b₀ carrying total b =
+Inv-loop offsets targets marks index saved workers carrying₀ total₀ n len stretches b₀ carrying total b =
     LoadsAt (graph offsets targets) marks workers saved carrying total b
 
 abbrev μ-loop : tie.MeasureT-loop
-μ-loop offsets targets marks saved workers carrying₀ total₀ n len stretches b₀ carrying total b = workers - b
+μ-loop offsets targets marks index saved workers carrying₀ total₀ n len stretches b₀ carrying total b = workers - b
 
 -- the entry and the length of a stretch, from the loop, and the loop, from a worker's words
 abbrev entry : tie.At-loop Inv-loop μ-loop → tie.Start Inv-loop μ-loop
-entry c = c .before .before .before .before .before .before .before
+entry c = c .before .before .before .before .before .before .before .before
 
 abbrev long : (c : tie.At-loop Inv-loop μ-loop) → c .before .before .stretch .result ≡ stretchLength (length (entry c .args .offsets .now) - 1)
 long c = c .before .before .stretch .ensures
@@ -44,17 +44,17 @@ fits c =
     (c .loop-test .taken)
 
 sub-n : tie.Need-sub-n Inv-loop μ-loop
-sub-n c = omega (arith, c .before .before .before .before .pre .some)
+sub-n c = omega (arith, c .before .before .before .before .before .pre .some)
 
 stretch-requires : tie.Need-stretch-requires Inv-loop μ-loop
-stretch-requires c κs = c .before .before .before .before .pre .objects-limit
+stretch-requires c κs = c .before .before .before .before .before .pre .objects-limit
 
 marks-requires : tie.Need-marks-requires Inv-loop μ-loop
-marks-requires c κs = c .before .before .before .before .before .pre .workers-limit
+marks-requires c κs = c .before .before .before .before .before .before .pre .workers-limit
 
 add-stretches : tie.Need-add-stretches Inv-loop μ-loop
 add-stretches c =
-    let there = c .before .before .before .before .before .before .pre in
+    let there = c .before .before .before .before .before .before .before .pre in
     omega (arith, there .objects-limit, there .workers-limit, c .marks .ensures)
 
 mul-at : tie.Need-mul-at Inv-loop μ-loop
