@@ -31,7 +31,7 @@ EDITED = re.compile(r"^file: (\S+)$", re.MULTILINE)
 WRITTEN = re.compile(r"^new:(.*)$", re.MULTILINE)
 
 # Code: what is no code in it, the clauses of its contracts, and what it brings in.
-NO_CODE = re.compile(r"""//[^\n]*|b?'(?:\\.|[^\\'])'|b?"(?:\\.|[^\\"])*\"""")
+NO_CODE = re.compile(r"""//[^\n]*|b?'(?:\\.|[^\\'])'|b?"(?:\\[\s\S]|[^\\"])*\"""")
 CLAUSE = re.compile(r"\b(?:requires|ensures)\s*\{")
 GHOST = re.compile(r"^ghost (use [^;]*);", re.MULTILINE)
 BROUGHT = re.compile(r"^use ([\w:]+?)(?: as (\w+))?;", re.MULTILINE)
@@ -222,7 +222,7 @@ def clauses(code: str) -> Iterator[str]:
 
 
 def read_code(path: Path, source: str, edited: Names) -> File:
-    code = NO_CODE.sub(" ", source)  # no comment or literal of ours has a line break
+    code = NO_CODE.sub(lambda part: " " + "\n" * part[0].count("\n"), source)
     written = Names()
     for clause in clauses(code):
         written.add(tokens(clause))

@@ -1,9 +1,3 @@
-pub mod Ascending
-pub mod Circle
+pub mod Copying
 pub mod Dealing
-pub mod Deck
-pub mod Lengths
-pub mod Orders
-pub mod Printing
-pub mod Rows
-pub mod Stretches
+pub mod Seating

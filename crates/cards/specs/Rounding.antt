@@ -5,9 +5,10 @@ use mathlib.Core.List.{List, [], _∷_, _++_}
 use Prim.Native.Nat.{ℕ, _+_, _*_, _≤_, _<_}
 use lib.ListN.{length}
 use Rattle.slices.specs.Put.{Put}
-use Rattle.cards.specs.Deck.{card-workers, deck-size, deck}
+use Rattle.hands.specs.Deck.{card-workers, deck-size}
 use Rattle.graph.specs.Graph.{allBelow}
-use Rattle.cards.specs.Hand.{dealt, circle, roundOf, bytesOf}
+use Rattle.tables.specs.Table.{front-bytes, fronts, backs}
+use Rattle.hands.specs.Hand.{dealt, circle, roundOf, bytesOf}
 
 -- a round begins at `at`, and its next entry at `next`; there is room for it where it is needed
 pub record Seats (long at next W b : ℕ) : Type 0 where
@@ -21,22 +22,33 @@ pub record Seated (W b at : ℕ) (mid : List ℕ) (next : ℕ) (after : List ℕ
   pub more : (before xs : List ℕ) → Put before at (circle (dealt W xs)) mid next
       → Put before at (circle (dealt W (xs ++ (b ∷ [])))) after end
 
--- card c is in the deck, which is lent, and its round has room at `at`
-pub record Roomy (cards : List ℕ) (W c at long : ℕ) : Type 0 where
-  pub all : cards ≡ deck
+-- card c is in the deck, and its round has room at `at`
+pub record Roomy (W c at long : ℕ) : Type 0 where
   pub some : 1 ≤ W
   pub few : W ≤ card-workers
   pub known : c < deck-size
   pub room : at + 2 * W ≤ long
+
+-- a part of each round, of so many bytes, for all cards one behind the other; that of card c has room at `at`
+pub record Copies (parts c size at long : ℕ) : Type 0 where
+  pub small : size ≤ 2 * card-workers
+  pub known : c < deck-size
+  pub whole : parts ≡ deck-size * size
+  pub room : at + size ≤ long
+
+-- the rounds of all cards, for workers enough that a round has two parts
+pub record Tables (front back : List ℕ) (W : ℕ) : Type 0 where
+  pub front-is : front ≡ fronts W
+  pub back-is : back ≡ backs W
+  pub many : front-bytes ≤ 2 * W
 
 -- the round of card c stands at `at`
 pub record Rounded (W c at : ℕ) (before after : List ℕ) (end : ℕ) : Type 0 where
   pub put : Put before at (roundOf W c) after end
   pub ends : end ≡ at + 2 * W
 
--- a hand of cards that are in the deck, which is lent, and a schedule of its length
-pub record Dealing (all cards : List ℕ) (W long : ℕ) : Type 0 where
-  pub whole : all ≡ deck
+-- a hand of cards that are in the deck, and a schedule of its length
+pub record Dealing (cards : List ℕ) (W long : ℕ) : Type 0 where
   pub some : 1 ≤ W
   pub few : W ≤ card-workers
   pub known : allBelow deck-size cards ≡ true

@@ -5,7 +5,7 @@ use seed::Seed;
 ghost use mathlib.Core.Path.{_≡_};
 ghost use lib.ListN.{length};
 ghost use Rattle.desk.specs.Kept.{unlessRefused};
-ghost use Rattle.cards.specs.Hand.{fault, turnsOf, lengthOf as scheduleLength, Rounds};
+ghost use Rattle.hands.specs.Hand.{fault, turnsOf, lengthOf as scheduleLength, Rounds};
 ghost use Rattle.kullneyra.specs.Calls.{LengthIn, seedOf, DrawsIn, DealsIn};
 ghost use Rattle.kullneyra.specs.Promise.{DealPromise};
 

@@ -1,5 +1,5 @@
 -- Draws one after another: the hand and the seed grow at the end, every card is in the deck, and no draw is refused.
-use mathlib.Core.Path.{_≡_, refl, ap, sym, _∙_}
+use mathlib.Core.Path.{_≡_, refl, ap, sym, subst, _∙_}
 use mathlib.Core.Bool.{true}
 use mathlib.Core.List.{List, [], _∷_, _++_}
 use mathlib.Core.Logic.{_≢_}
@@ -15,14 +15,16 @@ use Rattle.laws.specs.Blocks.{laid}
 use Rattle.graph.specs.Graph.{allBelow}
 use Rattle.slices.specs.Put.{Put}
 use Rattle.slices.proofs.Written.{nothing, then, same-long}
-use Rattle.cards.specs.Deck.{deck-size}
-use Rattle.cards.specs.Hand.{roundOf, turnsOf}
+use Rattle.hands.specs.Deck.{deck-size}
+use Rattle.hands.specs.Hand.{roundOf, turnsOf}
+use Rattle.slices.specs.Slices.{cleared}
 use Rattle.cards.specs.Rounding.{Roomy, Rounded}
-use Rattle.cards.proofs.Rows.{laid-snoc}
+use Rattle.cards.proofs.Copying.{zeros}
+use Rattle.hands.proofs.Rows.{laid-snoc}
 use Rattle.seed.specs.declared.Seed.{Seed}
 use Rattle.seed.specs.declared.Drawn.the-variants.{Card}
 use Rattle.seed.specs.Draw.{next, cardOf, wrap, drawn}
-use Rattle.seed.specs.Deal.{afterDraws, handOf, Drawing}
+use Rattle.seed.specs.Deal.{afterDraws, handOf, Drawing, Drew}
 use Rattle.seed.proofs.Words.{next-moves, drawn-card, xorshift-low, xorshift-zero}
 
 -- ---- one draw more
@@ -81,11 +83,10 @@ module _ {s : Seed} {k W : ℕ} {before : List ℕ} where
   unfolding afterDraws handOf turnsOf laid
   at-start = record { low = omega arith; moved = refl; place = sym (zero-mul (2 * W)); put = nothing (omega arith) }
 
-  module _ {all : List ℕ} (d : Drawing all k W (length before)) {left : Seed} {schedule : List ℕ} {at i : ℕ} (a : At s k W before left schedule at i) where
-    pub at-ready : i < k → (t : Seed) → {c : ℕ} → c ≡ cardOf t → Roomy all W c at (length schedule)
+  module _ (d : Drawing k W (length before)) {left : Seed} {schedule : List ℕ} {at i : ℕ} (a : At s k W before left schedule at i) where
+    pub at-ready : i < k → (t : Seed) → {c : ℕ} → c ≡ cardOf t → Roomy W c at (length schedule)
     at-ready h t e =
         record {
-          all = d .whole;
           some = d .some;
           few = d .few;
           known = rw e (card-known t);
@@ -106,10 +107,40 @@ module _ {s : Seed} {k W : ℕ} {before : List ℕ} where
           put = rw (hand-snoc i s, laid-snoc (roundOf W) (handOf i s) (cardOf (next (afterDraws i s))), ← card) (then (a .put) (r .put));
         })
 
-    pub at-end : k ≤ i → (left ≡ afterDraws k s) × (schedule ≡ turnsOf W (handOf k s))
+    pub at-end : k ≤ i → Drew s k W left schedule
     at-end h =
         let n : i ≡ k = omega (arith, a .low) in
-        let e : at ≡ length before = omega (arith, a .place, d .exact, ap (λ (j : ℕ). j * (2 * W)) n) in (
-          a .moved ∙ rw n,
-          a .put .holds ∙ rw (e, n, drop-length) (append-nil (turnsOf W (handOf k s))),
-        )
+        let e : at ≡ length before = omega (arith, a .place, d .exact, ap (λ (j : ℕ). j * (2 * W)) n) in
+        record {
+          seed-is = a .moved ∙ rw n;
+          schedule-is = a .put .holds ∙ rw (e, n, drop-length) (append-nil (turnsOf W (handOf k s)));
+        }
+
+-- ---- the loop without a schedule
+
+pub after-next : (i : ℕ) (s : Seed) {left t : Seed} → left ≡ afterDraws i s → t ≡ next left → t ≡ afterDraws (i + 1) s
+after-next i s m e = rw add-one (e ∙ ap next m ∙ sym (after-snoc i s))
+
+-- ---- one worker, and a number of workers that is known
+
+pub drawing-for : {k W j long : ℕ} → W ≡ j → Drawing k W long → Drawing k j long
+drawing-for {k} {long = long} e d = subst (λ (w : ℕ). Drawing k w long) e d
+
+pub drew-for : {s left : Seed} {k W j : ℕ} {schedule : List ℕ} → W ≡ j → Drew s k j left schedule → Drew s k W left schedule
+drew-for {s} {left} {k} {schedule = schedule} e d = subst (λ (w : ℕ). Drew s k w left schedule) (sym e) d
+
+pub drew-zeros : {s left : Seed} {k W : ℕ} {schedule : List ℕ} (before : List ℕ) → W ≡ 1 → Drawing k W (length before)
+    → left ≡ afterDraws k s → schedule ≡ cleared before 0 (length before) → Drew s k W left schedule
+drew-zeros {s} {k = k} before one d m e =
+    record {
+      seed-is = m;
+      schedule-is =
+          zeros before one
+          (record {
+            some = d .some;
+            few = d .few;
+            known = hand-known k s;
+            exact = rw (hand-long k s) (d .exact);
+          })
+          e;
+    }

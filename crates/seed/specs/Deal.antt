@@ -8,8 +8,8 @@ use Rattle.refusal.specs.Number.{number}
 use Rattle.refusal.specs.Order.{raise, first}
 use Rattle.desk.specs.Checks.{workersFault}
 use Rattle.desk.specs.Kept.{unlessRefused}
-use Rattle.cards.specs.Deck.{card-workers, deck}
-use Rattle.cards.specs.Hand.{turnsOf, bytesOf, widthFault, scheduleFault, Rounds}
+use Rattle.hands.specs.Deck.{card-workers}
+use Rattle.hands.specs.Hand.{turnsOf, bytesOf, widthFault, scheduleFault, Rounds}
 use Rattle.seed.specs.declared.Seed.{Seed}
 use Rattle.seed.specs.declared.Drawn.the-variants.{Card}
 use Rattle.seed.specs.declared.Dealt.{Dealt}
@@ -59,9 +59,13 @@ pub record Deals (s : Seed) (k W : ℕ) (before : List ℕ) (r : Dealt) (after :
   -- each draw is a stretch, so enough rounds finish, whatever the seed
   pub brings : fault s k W (length before) ≡ 0 → Rounds W k after
 
--- what the loop over the draws asks: the deck, which is lent, and a schedule of exactly their length
-pub record Drawing (all : List ℕ) (k W long : ℕ) : Type 0 where
-  pub whole : all ≡ deck
+-- what a loop over the draws asks: a schedule of exactly their length
+pub record Drawing (k W long : ℕ) : Type 0 where
   pub some : 1 ≤ W
   pub few : W ≤ card-workers
   pub exact : long ≡ bytesOf W k
+
+-- what it leaves: the seed after the draws, and their schedule
+pub record Drew (s : Seed) (k W : ℕ) (left : Seed) (schedule : List ℕ) : Type 0 where
+  pub seed-is : left ≡ afterDraws k s
+  pub schedule-is : schedule ≡ turnsOf W (handOf k s)

@@ -10,7 +10,7 @@ use Rattle.desk.specs.Limits.{most-workers}
 use Rattle.desk.specs.Checks.{outside}
 use Rattle.desk.proofs.Checks.{so, inside}
 use Rattle.refusal.specs.declared.Refusal.the-variants.{Setting, Cards, Buffer, Seed as NoSeed}
-use Rattle.cards.specs.Hand.{bytesOf}
+use Rattle.hands.specs.Hand.{bytesOf}
 use Rattle.seed.proofs.Checks.{finds-8, finds-16, finds-15, finds-7, finds-none, refused, dealt-all}
 use Rattle.seed.proofs.Draws.{Drawable}
 use Rattle.seed.proofs.deal_seed.Statement.{statement}
@@ -47,12 +47,11 @@ exact : (c : tie.Else4) → let a = start (c .before .before .before .before) .a
     eqb (length (a .schedule .now)) (bytesOf (a .workers) (a .rounds)) ≡ true
 exact c = so (c .before .is-schedule-of .ensures) (not-false _ (c .if4 .left))
 
-put-draws-requires : tie.Need-put-draws-requires
-put-draws-requires c κs =
-    let e = c .before .before .before in
+put-seed-requires : tie.Need-put-seed-requires
+put-seed-requires c κs =
+    let e = c .before in
     let w = e .before .before in
     record {
-      whole = c .before .before .all .ensures;
       some = inside most-workers _ (within (w .before .before)) .0;
       few = w .if3 .left;
       exact = eqb-true _ _ (exact e);
@@ -64,14 +63,14 @@ drawable w = record { some = w .before .if2 .left; low = omega arith }
 returns-5 : tie.Need-returns-5
 returns-5 c =
     let r = c .before .before in
-    let e = r .before .before .before .before in
+    let e = r .before .before in
     let w = e .before .before in
     let z = w .before in
     dealt-all _ _ _ _ (finds-none _ _ _ _ (within (z .before)) (z .if2 .left) (w .if3 .left) (exact e)) (drawable w)
-    (inside most-workers _ (within (z .before)) .0) (w .if3 .left) (r .put-draws .ensures .0) (r .put-draws .ensures .1)
+    (inside most-workers _ (within (z .before)) .0) (w .if3 .left) (r .put-seed .ensures .seed-is) (r .put-seed .ensures .schedule-is)
 
 pub deal-seed-spec : {M : Type 1} → statement M
 deal-seed-spec =
     tie.close
-    (tie.spec (λ c κs. search needs) returns returns-2 returns-3 is-schedule-of-requires returns-4 (λ c κs. search needs) put-draws-requires
+    (tie.spec (λ c κs. search needs) returns returns-2 returns-3 is-schedule-of-requires returns-4 put-seed-requires
     (λ c. search needs) returns-5)

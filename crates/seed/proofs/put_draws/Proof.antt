@@ -19,17 +19,18 @@ put-round-requires : tie.Need-put-round-requires Inv-loop μ-loop
 put-round-requires c κs =
     let d = c .before in
     let t = d .before .before in
-    at-ready (start (t .before) .pre) (t .before .loop .inv) (t .loop-test .taken) (d .before .step .result) (d .card .ensures)
+    let s = start (t .before) in
+    (s .pre .0, at-ready (s .pre .1) (t .before .loop .inv) (t .loop-test .taken) (d .before .step .result) (d .card .ensures))
 
 loop-again : tie.Need-loop-again Inv-loop μ-loop
 loop-again c =
     let r = c .before .before in
     let d = r .before .before in
     let t = d .before .before in
-    at-next (start (t .before) .pre) (t .before .loop .inv) (t .loop-test .taken) (d .before .step .ensures) (d .card .ensures) (r .put-round .ensures)
+    at-next (start (t .before) .pre .1) (t .before .loop .inv) (t .loop-test .taken) (d .before .step .ensures) (d .card .ensures) (r .put-round .ensures)
 
 returns : tie.Need-returns Inv-loop μ-loop
-returns c = at-end (start (c .before) .pre) (c .before .loop .inv) (c .loop-test .left)
+returns c = at-end (start (c .before) .pre .1) (c .before .loop .inv) (c .loop-test .left)
 
 pub put-draws-spec : {M : Type 1} → statement M
 put-draws-spec =

@@ -3,7 +3,7 @@
 use mathlib.Core.Path.{refl, sym}
 use native.Mathlib.Omega.{arith}
 use borrow.Author.Needs.{needs}
-use Rattle.cards.proofs.Lengths.{other-rounds, rounds-fit}
+use Rattle.hands.proofs.Lengths.{other-rounds, rounds-fit}
 use Rattle.cards.proofs.hand.is_schedule_of.Statement.{statement}
 use Rattle.cards.proofs.hand.is_schedule_of.Tie as tie
 

@@ -19,16 +19,17 @@ start l = l .before .before .before
 put-round-requires : tie.Need-put-round-requires Inv-loop μ-loop
 put-round-requires c κs =
     let t = c .before .before in
-    at-ready (start (t .before) .pre) (t .before .loop .inv) (t .loop-test .taken)
+    let s = start (t .before) in
+    (s .pre .0, at-ready (s .pre .1) (t .before .loop .inv) (t .loop-test .taken))
 
 loop-again : tie.Need-loop-again Inv-loop μ-loop
 loop-again c =
     let r = c .before .before in
     let t = r .before .before .before in
-    at-next (start (t .before) .pre) (t .before .loop .inv) (t .loop-test .taken) (r .put-round .ensures)
+    at-next (start (t .before) .pre .1) (t .before .loop .inv) (t .loop-test .taken) (r .put-round .ensures)
 
 returns : tie.Need-returns Inv-loop μ-loop
-returns c = at-end (start (c .before) .pre) (c .before .loop .inv) (c .loop-test .left)
+returns c = at-end (start (c .before) .pre .1) (c .before .loop .inv) (c .loop-test .left)
 
 pub put-rounds-spec : {M : Type 1} → statement M
 put-rounds-spec =

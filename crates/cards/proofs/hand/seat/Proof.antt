@@ -4,8 +4,9 @@ use native.Mathlib.Omega.{arith}
 use lib.ListN.{length, length-set}
 use Prim.Native.Nat.{_+_, _≤_}
 use borrow.Author.Needs.{needs}
-use Rattle.cards.specs.Hand.{dealt}
-use Rattle.cards.proofs.Circle.{kept, skipped, first-seated, more-seated}
+use Rattle.hands.specs.Hand.{dealt}
+use Rattle.hands.proofs.Circle.{kept, skipped}
+use Rattle.cards.proofs.Seating.{first-seated, more-seated}
 use Rattle.cards.proofs.hand.seat.Statement.{statement}
 use Rattle.cards.proofs.hand.seat.Tie as tie
 
