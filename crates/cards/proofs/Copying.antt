@@ -14,7 +14,8 @@ use Rattle.hands.proofs.Lengths.{round-long}
 use Rattle.hands.proofs.Single.{turns-one}
 use Rattle.tables.specs.Table.{front-bytes}
 use Rattle.tables.proofs.Parts.{fronts-long, backs-long, front-part, back-part}
-use Rattle.cards.specs.Rounding.{Roomy, Rounded, Dealing, Copies, Tables}
+use Rattle.seats.specs.Rounding.{Roomy, Rounded, Dealing}
+use Rattle.cards.specs.Copying.{Copies, Tables}
 
 -- where a part ends among those of all cards
 module _ {parts c size at long : ℕ} (k : Copies parts c size at long) where

@@ -1,3 +1,1 @@
 pub mod Copying
-pub mod Dealing
-pub mod Seating

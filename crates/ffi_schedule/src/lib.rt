@@ -71,7 +71,7 @@ pub extern "C" fn kullneyra_deal_seed(
         first: seed[0],
         second: seed[1],
     };
-    match seed::deal_seed(words, rounds, workers, schedule) {
+    match seed_deal::deal_seed(words, rounds, workers, schedule) {
         Dealt::Moved(moved) => {
             kullneyra::put_seed(moved, seed);
             0

@@ -3,7 +3,7 @@ use Prim.Native.Nat.{_-_}
 use lib.ListN.{length}
 use borrow.Author.Needs.{needs}
 use Rattle.slices.proofs.Written.{same-long}
-use Rattle.cards.proofs.Dealing.{At, at-start, at-ready, at-next, at-end}
+use Rattle.seats.proofs.Dealing.{At, at-start, at-ready, at-next, at-end}
 use Rattle.cards.proofs.hand.copy_rounds.Statement.{statement}
 use Rattle.cards.proofs.hand.copy_rounds.Tie as tie
 

@@ -13,7 +13,7 @@ use Rattle.slices.proofs.Written.{nothing, same-long}
 use Rattle.hands.specs.Hand.{roundOf, turnsOf}
 use Rattle.hands.proofs.Lengths.{known-at}
 use Rattle.hands.proofs.Rows.{laid-next}
-use Rattle.cards.specs.Rounding.{Roomy, Rounded, Dealing}
+use Rattle.seats.specs.Rounding.{Roomy, Rounded, Dealing}
 
 -- the first i cards' turns stand at the beginning
 pub record At (W : ℕ) (cards before schedule : List ℕ) (at i : ℕ) : Type 0 where

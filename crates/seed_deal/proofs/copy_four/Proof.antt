@@ -1,10 +1,10 @@
--- `seed::copy_four` meets its contract: of four workers' rounds nothing is left behind the first eight bytes.
+-- `seed_deal::copy_four` meets its contract: of four workers' rounds nothing is left behind the first eight bytes.
 use mathlib.Core.Path.{sym}
 use native.Mathlib.Omega.{arith}
 use borrow.Author.Needs.{needs}
 use Rattle.tables.proofs.Parts.{no-backs}
-use Rattle.seed.proofs.copy_four.Statement.{statement}
-use Rattle.seed.proofs.copy_four.Tie as tie
+use Rattle.seed_deal.proofs.copy_four.Statement.{statement}
+use Rattle.seed_deal.proofs.copy_four.Tie as tie
 
 copy-draws-requires : tie.Need-copy-draws-requires
 copy-draws-requires c κs =

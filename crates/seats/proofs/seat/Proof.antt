@@ -1,4 +1,4 @@
--- `cards::hand::seat` meets its contract: a worker that is skipped leaves the round, the first of a round asks itself, and a
+-- `seats::seat` meets its contract: a worker that is skipped leaves the round, the first of a round asks itself, and a
 -- further one stands between the last and the first.
 use native.Mathlib.Omega.{arith}
 use lib.ListN.{length, length-set}
@@ -6,9 +6,9 @@ use Prim.Native.Nat.{_+_, _≤_}
 use borrow.Author.Needs.{needs}
 use Rattle.hands.specs.Hand.{dealt}
 use Rattle.hands.proofs.Circle.{kept, skipped}
-use Rattle.cards.proofs.Seating.{first-seated, more-seated}
-use Rattle.cards.proofs.hand.seat.Statement.{statement}
-use Rattle.cards.proofs.hand.seat.Tie as tie
+use Rattle.seats.proofs.Seating.{first-seated, more-seated}
+use Rattle.seats.proofs.seat.Statement.{statement}
+use Rattle.seats.proofs.seat.Tie as tie
 
 -- room for an entry, where the worker takes part
 room : (e : tie.Else1) → e .before .args .next + 2 ≤ length (e .before .args .schedule .now)

@@ -1,12 +1,12 @@
--- `seed::after` meets its contract: before turn n of the loop the seed is that after n draws.
+-- `seed_deal::after` meets its contract: before turn n of the loop the seed is that after n draws.
 use mathlib.Core.Path.{_≡_, refl, _∙_}
 use Prim.Native.Nat.{_≤_, _-_}
 use native.Mathlib.Omega.{arith}
 use borrow.Author.Needs.{needs}
 use Rattle.seed.specs.Deal.{afterDraws}
-use Rattle.seed.proofs.Draws.{after-next}
-use Rattle.seed.proofs.after.Statement.{statement}
-use Rattle.seed.proofs.after.Tie as tie
+use Rattle.seed_deal.proofs.Drawing.{after-next}
+use Rattle.seed_deal.proofs.after.Statement.{statement}
+use Rattle.seed_deal.proofs.after.Tie as tie
 
 abbrev Inv-loop : tie.InvT-loop
 Inv-loop rounds left₀ n₀ left n = (n ≤ rounds) × (left ≡ afterDraws n left₀)

@@ -1,10 +1,10 @@
--- `seed::put_draws` meets its contract: before turn i of the loop the rounds of the first i draws stand there.
+-- `seed_deal::put_draws` meets its contract: before turn i of the loop the rounds of the first i draws stand there.
 use Prim.Native.Nat.{_-_}
 use borrow.Author.Needs.{needs}
 use Rattle.slices.proofs.Written.{same-long}
-use Rattle.seed.proofs.Draws.{At, at-start, at-ready, at-next, at-end}
-use Rattle.seed.proofs.put_draws.Statement.{statement}
-use Rattle.seed.proofs.put_draws.Tie as tie
+use Rattle.seed_deal.proofs.Drawing.{At, at-start, at-ready, at-next, at-end}
+use Rattle.seed_deal.proofs.put_draws.Statement.{statement}
+use Rattle.seed_deal.proofs.put_draws.Tie as tie
 
 abbrev Inv-loop : tie.InvT-loop
 Inv-loop deck rounds workers schedule₀ left₀ at₀ i₀ schedule left at i = At left₀ rounds workers schedule₀ left schedule at i

@@ -1,10 +1,10 @@
--- `seed::copy_draws` meets its contract: before turn k of the loop the rounds of the first k draws stand there.
+-- `seed_deal::copy_draws` meets its contract: before turn k of the loop the rounds of the first k draws stand there.
 use Prim.Native.Nat.{_-_}
 use borrow.Author.Needs.{needs}
 use Rattle.slices.proofs.Written.{same-long}
-use Rattle.seed.proofs.Draws.{At, at-start, at-ready, at-next, at-end}
-use Rattle.seed.proofs.copy_draws.Statement.{statement}
-use Rattle.seed.proofs.copy_draws.Tie as tie
+use Rattle.seed_deal.proofs.Drawing.{At, at-start, at-ready, at-next, at-end}
+use Rattle.seed_deal.proofs.copy_draws.Statement.{statement}
+use Rattle.seed_deal.proofs.copy_draws.Tie as tie
 
 abbrev Inv-loop : tie.InvT-loop
 Inv-loop front back rounds workers schedule₀ left₀ at₀ k₀ schedule left at k = At left₀ rounds workers schedule₀ left schedule at k

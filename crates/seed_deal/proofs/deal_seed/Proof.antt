@@ -1,4 +1,4 @@
--- `seed::deal_seed` meets its contract: at each exit the checks before it found nothing, and this one what it says.
+-- `seed_deal::deal_seed` meets its contract: at each exit the checks before it found nothing, and this one what it says.
 use mathlib.Core.Path.{_≡_, refl}
 use mathlib.Core.Bool.{true, false}
 use native.Mathlib.Omega.{arith}
@@ -11,10 +11,10 @@ use Rattle.desk.specs.Checks.{outside}
 use Rattle.desk.proofs.Checks.{so, inside}
 use Rattle.refusal.specs.declared.Refusal.the-variants.{Setting, Cards, Buffer, Seed as NoSeed}
 use Rattle.hands.specs.Hand.{bytesOf}
 use Rattle.seed.proofs.Checks.{finds-8, finds-16, finds-15, finds-7, finds-none, refused, dealt-all}
 use Rattle.seed.proofs.Draws.{Drawable}
-use Rattle.seed.proofs.deal_seed.Statement.{statement}
-use Rattle.seed.proofs.deal_seed.Tie as tie
+use Rattle.seed_deal.proofs.deal_seed.Statement.{statement}
+use Rattle.seed_deal.proofs.deal_seed.Tie as tie
 
 abbrev start : tie.Else1 → tie.Start
 start e = e .before .before .before

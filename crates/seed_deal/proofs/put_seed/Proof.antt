@@ -1,8 +1,8 @@
--- `seed::put_seed` meets its contract: each way leaves the same seed and turns, the copies for the number of workers that was tested.
+-- `seed_deal::put_seed` meets its contract: each way leaves the same seed and turns, the copies for the number of workers that was tested.
 use borrow.Author.Needs.{needs}
-use Rattle.seed.proofs.Draws.{drawing-for, drew-for, drew-zeros}
-use Rattle.seed.proofs.put_seed.Statement.{statement}
-use Rattle.seed.proofs.put_seed.Tie as tie
+use Rattle.seed_deal.proofs.Drawing.{drawing-for, drew-for, drew-zeros}
+use Rattle.seed_deal.proofs.put_seed.Statement.{statement}
+use Rattle.seed_deal.proofs.put_seed.Tie as tie
 
 abbrev start : tie.Then2 → tie.Start
 start t = t .before .before .before

@@ -1,11 +1,11 @@
--- `cards::hand::put_rounds` meets its contract: before turn i of the loop the turns of the first i cards stand there.
+-- `seats::put_rounds` meets its contract: before turn i of the loop the turns of the first i cards stand there.
 use Prim.Native.Nat.{_-_}
 use lib.ListN.{length}
 use borrow.Author.Needs.{needs}
 use Rattle.slices.proofs.Written.{same-long}
-use Rattle.cards.proofs.Dealing.{At, at-start, at-ready, at-next, at-end}
-use Rattle.cards.proofs.hand.put_rounds.Statement.{statement}
-use Rattle.cards.proofs.hand.put_rounds.Tie as tie
+use Rattle.seats.proofs.Dealing.{At, at-start, at-ready, at-next, at-end}
+use Rattle.seats.proofs.put_rounds.Statement.{statement}
+use Rattle.seats.proofs.put_rounds.Tie as tie
 
 abbrev Inv-loop : tie.InvT-loop
 Inv-loop deck cards workers schedule₀ at₀ i₀ i-end schedule at i = At workers cards schedule₀ schedule at i

@@ -15,7 +15,7 @@ use Rattle.hands.specs.Hand.{dealt, asking, circle}
 use Rattle.hands.proofs.Circle.{dealt-append, order-long, circle-long}
 use Rattle.hands.proofs.Deck.{low-at}
 use Rattle.hands.proofs.Rows.{stored}
-use Rattle.cards.specs.Rounding.{Seats, Seated}
+use Rattle.seats.specs.Rounding.{Seats, Seated}
 
 -- ---- a round that grows
 

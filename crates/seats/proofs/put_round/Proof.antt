@@ -1,4 +1,4 @@
--- `cards::hand::put_round` meets its contract: before turn k of the loop the round of the first k digits stands there.
+-- `seats::put_round` meets its contract: before turn k of the loop the round of the first k digits stands there.
 use mathlib.Core.Path.{_≡_, ap, _∙_}
 use mathlib.Core.List.{List}
 use Prim.Native.Nat.{ℕ, _-_}
@@ -8,10 +8,10 @@ use borrow.Author.Needs.{needs}
 use Rattle.slices.proofs.Written.{same-long}
 use Rattle.hands.specs.Deck.{card-workers, card, digits, Order}
 use Rattle.hands.specs.Hand.{roundOf}
-use Rattle.cards.proofs.Seating.{Sitting, sit-start, sit-ready, sit-next, sit-end}
+use Rattle.seats.proofs.Seating.{Sitting, sit-start, sit-ready, sit-next, sit-end}
 use Rattle.hands.proofs.Deck.{card-right}
-use Rattle.cards.proofs.hand.put_round.Statement.{statement}
-use Rattle.cards.proofs.hand.put_round.Tie as tie
+use Rattle.seats.proofs.put_round.Statement.{statement}
+use Rattle.seats.proofs.put_round.Tie as tie
 
 abbrev Inv-loop : tie.InvT-loop
 Inv-loop deck card workers schedule₀ at order next₀ k₀ schedule next k = Sitting workers order schedule₀ at schedule next k

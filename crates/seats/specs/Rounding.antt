@@ -7,7 +7,6 @@ use lib.ListN.{length}
 use Rattle.slices.specs.Put.{Put}
 use Rattle.hands.specs.Deck.{card-workers, deck-size}
 use Rattle.graph.specs.Graph.{allBelow}
-use Rattle.tables.specs.Table.{front-bytes, fronts, backs}
 use Rattle.hands.specs.Hand.{dealt, circle, roundOf, bytesOf}
 
 -- a round begins at `at`, and its next entry at `next`; there is room for it where it is needed
@@ -28,19 +27,6 @@ pub record Roomy (W c at long : ℕ) : Type 0 where
   pub few : W ≤ card-workers
   pub known : c < deck-size
   pub room : at + 2 * W ≤ long
-
--- a part of each round, of so many bytes, for all cards one behind the other; that of card c has room at `at`
-pub record Copies (parts c size at long : ℕ) : Type 0 where
-  pub small : size ≤ 2 * card-workers
-  pub known : c < deck-size
-  pub whole : parts ≡ deck-size * size
-  pub room : at + size ≤ long
-
--- the rounds of all cards, for workers enough that a round has two parts
-pub record Tables (front back : List ℕ) (W : ℕ) : Type 0 where
-  pub front-is : front ≡ fronts W
-  pub back-is : back ≡ backs W
-  pub many : front-bytes ≤ 2 * W
 
 -- the round of card c stands at `at`
 pub record Rounded (W c at : ℕ) (before after : List ℕ) (end : ℕ) : Type 0 where
