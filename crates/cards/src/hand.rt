@@ -11,14 +11,19 @@ ghost use Rattle.hands.specs.Hand.{turnsOf, bytesOf};
 ghost use Rattle.seats.specs.Rounding.{Roomy, Rounded, Dealing};
 ghost use Rattle.cards.specs.Copying.{Copies, Tables};
 
+// As many cards have no schedule whose length wraps, for any number of workers.
+const FEW_CARDS: usize = 1537228672809129301;
+
 // Check 7: whether so many bytes are the schedule of so many cards.
 pub fn is_schedule_of(bytes: usize, cards: usize, workers: u32) -> bool
     requires { ⌜ (1 ≤ workers) × (workers ≤ card-workers) ⌝ }
     ensures { λ r. ⌜ r ≡ eqb bytes (bytesOf workers cards) ⌝ }
 {
     let round = 2 * workers as usize;
-    if bytes / round != cards {
-        return false;
+    if FEW_CARDS < cards {
+        if bytes / round != cards {
+            return false;
+        }
     }
     bytes == cards * round
 }
@@ -83,7 +88,7 @@ fn copy_six(cards: &[u32], schedule: &mut [u8])
 
 // A shorter hand is dealt by its cards' digits: the rounds of all cards would take longer to put
 // into the frame.
-pub const LONG_HAND: usize = 32;
+pub const LONG_HAND: usize = 20;
 
 // Fills the schedule of a hand.
 pub fn put_hand(cards: &[u32], workers: u32, schedule: &mut [u8])
