@@ -34,7 +34,7 @@ DEFINITIONS: dict[str, Optional[tuple[str, ...]]] = {
     "sweep/specs/Collection.antt": ("Collection",),
     "saved/specs/Sound.antt": ("SavedRun",),
     "saved/specs/Calls.antt": ("Afresh", "Joined"),
-    "cards/specs/Hand.antt": ("Rounds",),
+    "hands/specs/Hand.antt": ("Rounds",),
     "seed/specs/Draw.antt": ("DrawRow", "drawRow"),
     "layers/specs/Hops.antt": ("HopsOf", "LinksLeft"),
     "changes/specs/Marking.antt": ("ListLeft",),
@@ -45,7 +45,7 @@ DEFINITIONS: dict[str, Optional[tuple[str, ...]]] = {
     "graph/specs/Limits.antt": None,
     "desk/specs/Limits.antt": None,
     "program/specs/Limits.antt": None,
-    "cards/specs/Deck.antt": ("card-workers", "deck-size"),
+    "hands/specs/Deck.antt": ("card-workers", "deck-size"),
     "refusal/specs/Number.antt": ("number",),
 }
 

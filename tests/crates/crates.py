@@ -32,7 +32,7 @@ EDITED = re.compile(r"^file: (\S+)$", re.MULTILINE)
 WRITTEN = re.compile(r"^new:(.*)$", re.MULTILINE)
 
 # Code: what is no code in it, the clauses of its contracts, and what it brings in.
-NO_CODE = re.compile(r"""//[^\n]*|b?'(?:\\.|[^\\'])'|b?"(?:\\.|[^\\"])*\"""")
+NO_CODE = re.compile(r"""//[^\n]*|b?'(?:\\.|[^\\'])'|b?"(?:\\[\s\S]|[^\\"])*\"""")
 CLAUSE = re.compile(r"\b(?:requires|ensures)\s*\{")
 GHOST = re.compile(r"^ghost (use [^;]*);", re.MULTILINE)
 BROUGHT = re.compile(r"^use ([\w:]+?)(?: as (\w+))?;", re.MULTILINE)
@@ -226,8 +226,13 @@ def clauses(code: str) -> Iterator[str]:
         yield code[found.end() : at - 1]
 
 
+def without_literals(source: str) -> str:
+    """Code without comments and literals, each line at its number."""
+    return NO_CODE.sub(lambda part: " " + "\n" * part[0].count("\n"), source)
+
+
 def read_code(path: Path, source: str, edited: Names) -> File:
-    code = NO_CODE.sub(" ", source)  # no comment or literal of ours has a line break
+    code = without_literals(source)
     written = Names()
     for clause in clauses(code):
         written.add(tokens(clause))
@@ -375,7 +380,7 @@ def wide(top: Path) -> Iterator[str]:
     """Functions with many parameters, where there are more of them than there may be."""
     found = []
     for path in sorted(top.glob("crates/*/src/*.rt")):
-        code = NO_CODE.sub("", path.read_text(encoding="utf-8"))
+        code = without_literals(path.read_text(encoding="utf-8"))
         for function in FUNCTION.finditer(code):
             if function[2].count(":") >= WIDE:
                 line = code.count("\n", 0, function.start()) + 1

@@ -28,7 +28,7 @@ WITHOUT_EDITS = {
     "collect": "the program around `report`, which has the edits of its text",
     "deck": "a program that prints the cards of `cards`",
     "ffi_mark": "passes on to `marker`, `mark_all`, `begin`, `resume` and `sweep`",
-    "ffi_schedule": "passes on to `cards` and `seed`",
+    "ffi_schedule": "passes on to `cards`, `seed` and `seed_deal`",
     "ffi_store": "passes on to `catalogue`, `graph` and `market`",
     "ffi_update": "passes on to `hops` and `updates`",
     "laws": "has no word of the product",

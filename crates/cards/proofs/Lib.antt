@@ -1,9 +1,1 @@
-pub mod Ascending
-pub mod Circle
-pub mod Dealing
-pub mod Deck
-pub mod Lengths
-pub mod Orders
-pub mod Printing
-pub mod Rows
-pub mod Stretches
+pub mod Copying

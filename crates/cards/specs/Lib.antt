@@ -1,5 +1,1 @@
-pub mod Deck
-pub mod Drawings
-pub mod Hand
-pub mod Rounding
-pub mod Text
+pub mod Copying

@@ -1,12 +1,18 @@
-// The schedule of a hand: each card is a round in which every worker below W has a turn, in the
-// card's order, and asks the one after it, the last the first.
+// The schedule of a hand: its length, and its rounds, copied out of those of all cards or made worker
+// by worker.
+use crate::table;
 ghost use mathlib.Core.Path.{_≡_};
-ghost use Prim.Native.Nat.{_≤_};
-ghost use lib.ListN.{length};
+ghost use Prim.Native.Nat.{_*_, _≤_};
+ghost use lib.ListN.{length, take, drop};
 ghost use lib.Dec.{eqb};
-ghost use Rattle.cards.specs.Deck.{card-workers, digits};
-ghost use Rattle.cards.specs.Hand.{turnsOf, bytesOf};
-ghost use Rattle.cards.specs.Rounding.{Seats, Seated, Roomy, Rounded, Dealing};
+ghost use Rattle.slices.specs.Put.{Put};
+ghost use Rattle.hands.specs.Deck.{card-workers};
+ghost use Rattle.hands.specs.Hand.{turnsOf, bytesOf};
+ghost use Rattle.seats.specs.Rounding.{Roomy, Rounded, Dealing};
+ghost use Rattle.cards.specs.Copying.{Copies, Tables};
+
+// As many cards have no schedule whose length wraps, for any number of workers.
+const FEW_CARDS: usize = 1537228672809129301;
 
 // Check 7: whether so many bytes are the schedule of so many cards.
 pub fn is_schedule_of(bytes: usize, cards: usize, workers: u32) -> bool
@@ -14,73 +20,96 @@ pub fn is_schedule_of(bytes: usize, cards: usize, workers: u32) -> bool
     ensures { λ r. ⌜ r ≡ eqb bytes (bytesOf workers cards) ⌝ }
 {
     let round = 2 * workers as usize;
-    if bytes / round != cards {
-        return false;
+    if FEW_CARDS < cards {
+        if bytes / round != cards {
+            return false;
+        }
     }
     bytes == cards * round
 }
 
-// Adds worker b to the round that begins at `at` and so far ends at `next`, if it takes part, and
-// answers where the round then ends: the one before asks b, and b asks the first.
-fn seat(schedule: &mut [u8], at: usize, next: usize, workers: u32, b: u32) -> usize
-    requires { ⌜ Seats (length (now schedule)) at next workers b ⌝ }
-    ensures { λ r. ⌜ Seated workers b at (now (schedule .entry)) next (now (schedule .exit)) r ⌝ }
+// Copies a part of a card's round out of those of all cards, and answers where it ends.
+fn copy_part(parts: &[u8], card: u32, size: usize, schedule: &mut [u8], at: usize) -> usize
+    requires { ⌜ Copies (length (now parts)) card size at (length (now schedule)) ⌝ }
+    ensures { λ r. ⌜ Put (now (schedule .entry)) at (take size (drop (card * size) (now (parts .entry)))) (now (schedule .exit)) r ⌝ }
 {
-    if workers <= b {
-        return next;
-    }
-    if next == at {
-        schedule[next] = b as u8;
-        schedule[next + 1] = b as u8;
-        return next + 2;
-    }
-    let first = schedule[at];
-    schedule[next - 1] = b as u8;
-    schedule[next] = b as u8;
-    schedule[next + 1] = first;
-    next + 2
+    let from = card as usize * size;
+    let to = from + size;
+    text::put(schedule, at, &parts[from..to])
 }
 
-// The six digits of a card, the first worker first.
-fn digits_of(n: u32) -> [u32; 6]
-    ensures { λ r. ⌜ r ≡ digits n ⌝ }
-{
-    [
-        n / 100000,
-        n / 10000 % 10,
-        n / 1000 % 10,
-        n / 100 % 10,
-        n / 10 % 10,
-        n % 10,
-    ]
-}
-
-// Writes the round of a card, and answers where it ends.
-pub fn put_round(
-    deck: &[u32; 720],
+// Copies the round of a card in two parts, each of which is one load and one store where its size is
+// known to the compiler.
+pub fn copy_round(
+    front: &[u8],
+    back: &[u8],
     card: u32,
     workers: u32,
     schedule: &mut [u8],
     at: usize,
 ) -> usize
-    requires { ⌜ Roomy (now deck) workers card at (length (now schedule)) ⌝ }
+    requires { ⌜ Tables (now front) (now back) workers ⌝ }
+    requires { ⌜ Roomy workers card at (length (now schedule)) ⌝ }
     ensures { λ r. ⌜ Rounded workers card at (now (schedule .entry)) (now (schedule .exit)) r ⌝ }
 {
-    let order = digits_of(deck[card as usize]);
-    let mut next = at;
-    for k in 0..6 {
-        next = seat(schedule, at, next, workers, order[k]);
-    }
-    next
+    let next = copy_part(front, card, 8, schedule, at);
+    copy_part(back, card, 2 * workers as usize - 8, schedule, next)
 }
 
-// Writes the rounds of a hand, one behind the other.
-pub fn put_rounds(deck: &[u32; 720], cards: &[u32], workers: u32, schedule: &mut [u8])
-    requires { ⌜ Dealing (now deck) (now cards) workers (length (now schedule)) ⌝ }
+fn copy_rounds(front: &[u8], back: &[u8], cards: &[u32], workers: u32, schedule: &mut [u8])
+    requires { ⌜ Tables (now front) (now back) workers ⌝ }
+    requires { ⌜ Dealing (now cards) workers (length (now schedule)) ⌝ }
     ensures { λ _. ⌜ now (schedule .exit) ≡ turnsOf workers (now (cards .entry)) ⌝ }
 {
     let mut at: usize = 0;
     for i in 0..cards.len() {
-        at = put_round(deck, cards[i], workers, schedule, at);
+        at = copy_round(front, back, cards[i], workers, schedule, at);
     }
+}
+
+// The number of workers is a constant in these calls, so that the compiler knows how long a round is.
+fn copy_four(cards: &[u32], schedule: &mut [u8])
+    requires { ⌜ Dealing (now cards) 4 (length (now schedule)) ⌝ }
+    ensures { λ _. ⌜ now (schedule .exit) ≡ turnsOf 4 (now (cards .entry)) ⌝ }
+{
+    let front = tables::four();
+    let back = [0u8; 0];
+    copy_rounds(&front, &back, cards, 4, schedule);
+}
+
+fn copy_six(cards: &[u32], schedule: &mut [u8])
+    requires { ⌜ Dealing (now cards) 6 (length (now schedule)) ⌝ }
+    ensures { λ _. ⌜ now (schedule .exit) ≡ turnsOf 6 (now (cards .entry)) ⌝ }
+{
+    let front = tables::six_front();
+    let back = tables::six_back();
+    copy_rounds(&front, &back, cards, 6, schedule);
+}
+
+// A shorter hand is dealt by its cards' digits: the rounds of all cards would take longer to put
+// into the frame.
+pub const LONG_HAND: usize = 20;
+
+// Fills the schedule of a hand.
+pub fn put_hand(cards: &[u32], workers: u32, schedule: &mut [u8])
+    requires { ⌜ Dealing (now cards) workers (length (now schedule)) ⌝ }
+    ensures { λ _. ⌜ now (schedule .exit) ≡ turnsOf workers (now (cards .entry)) ⌝ }
+{
+    if workers == 1 {
+        let end = schedule.len();
+        slices::clear_bytes(schedule, 0, end);
+        return;
+    }
+    if LONG_HAND <= cards.len() {
+        if workers == 4 {
+            copy_four(cards, schedule);
+            return;
+        }
+        if workers == 6 {
+            copy_six(cards, schedule);
+            return;
+        }
+    }
+    let deck = table::all();
+    seats::put_rounds(&deck, cards, workers, schedule);
 }

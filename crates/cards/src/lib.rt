@@ -1,6 +1,5 @@
-// Cards: the constant deck, its text, and the schedule of a hand.
+// Cards: the constant deck, and the schedule of a hand.
 pub mod hand;
-pub mod print;
 pub mod table;
 
 use desk::Length;
@@ -10,7 +9,7 @@ use table::CARD_WORKERS;
 use table::DECK_SIZE;
 ghost use mathlib.Core.Path.{_≡_};
 ghost use Rattle.desk.specs.Length.{lengthRow};
-ghost use Rattle.cards.specs.Hand.{lengthOf, Deals};
+ghost use Rattle.hands.specs.Hand.{lengthOf, Deals};
 
 // How many bytes the schedule of so many cards has.
 pub fn schedule_length(cards: usize, workers: u32) -> Length
@@ -45,7 +44,6 @@ pub fn deal(cards: &[u32], workers: u32, schedule: &mut [u8]) -> Verdict
     if !hand::is_schedule_of(schedule.len(), cards.len(), workers) {
         return Verdict::Faulty(Refusal::Buffer);
     }
-    let deck = table::all();
-    hand::put_rounds(&deck, cards, workers, schedule);
+    hand::put_hand(cards, workers, schedule);
     Verdict::Fine
 }

@@ -1,6 +1,6 @@
 // The deck: every order of six workers as a number of six decimal digits, ascending.
 ghost use mathlib.Core.Path.{_≡_};
-ghost use Rattle.cards.specs.Deck.{deck};
+ghost use Rattle.hands.specs.Deck.{deck};
 
 // How many workers a card orders.
 pub const CARD_WORKERS: u32 = 6;

@@ -5,7 +5,7 @@ use seed::Seed;
 ghost use mathlib.Core.Path.{_≡_};
 ghost use lib.ListN.{length};
 ghost use Rattle.desk.specs.Kept.{unlessRefused};
-ghost use Rattle.cards.specs.Hand.{fault, turnsOf, lengthOf as scheduleLength, Rounds};
+ghost use Rattle.hands.specs.Hand.{fault, turnsOf, lengthOf as scheduleLength, Rounds};
 ghost use Rattle.kullneyra.specs.Calls.{LengthIn, seedOf, DrawsIn, DealsIn};
 ghost use Rattle.kullneyra.specs.Promise.{DealPromise};
 
@@ -71,7 +71,7 @@ pub extern "C" fn kullneyra_deal_seed(
         first: seed[0],
         second: seed[1],
     };
-    match seed::deal_seed(words, rounds, workers, schedule) {
+    match seed_deal::deal_seed(words, rounds, workers, schedule) {
         Dealt::Moved(moved) => {
             kullneyra::put_seed(moved, seed);
             0

@@ -12,7 +12,7 @@ use Rattle.desk.specs.declared.Settings.{Settings}
 use Rattle.desk.specs.Lengths.{counts-number}
 use Rattle.desk.specs.Kept.{unlessRefused}
 use Rattle.desk.specs.Length.{LengthRow}
-use Rattle.cards.specs.Hand.{turnsOf}
+use Rattle.hands.specs.Hand.{turnsOf}
 use Rattle.catalogue.specs.Answer.{Row, ReadRow, headerRow, taken, readRow, offsetsAfter, targetsAfter, sizesAfter, startsAfter}
 use Rattle.records.specs.Reading.{Reading, refused}
 use Rattle.machine.specs.declared.Counts.{Counts}

@@ -25,7 +25,7 @@ use Rattle.saved.specs.Layout.{savedWords}
 use Rattle.saved.specs.Sound.{SavedRun}
 use Rattle.saved.specs.Test.{saved?}
 use Rattle.saved.specs.Calls.{beginFault, resumed, resumedBy, Afresh, Joined}
-use Rattle.cards.specs.Hand.{Rounds}
+use Rattle.hands.specs.Hand.{Rounds}
 use Rattle.seed.specs.declared.Seed.{Seed}
 use Rattle.seed.specs.declared.Drawn.the-variants.{Card}
 use Rattle.seed.specs.Draw.{drawn}

@@ -12,9 +12,9 @@ use Rattle.refusal.specs.declared.Refusal.{Refusal}
 use Rattle.refusal.specs.Number.{number}
 use Rattle.desk.specs.Limits.{most-workers}
 use Rattle.desk.specs.Checks.{outside}
-use Rattle.cards.specs.Deck.{card-workers}
-use Rattle.cards.specs.Hand.{turnsOf, bytesOf}
-use Rattle.cards.proofs.Stretches.{rounds-of}
+use Rattle.hands.specs.Deck.{card-workers}
+use Rattle.hands.specs.Hand.{turnsOf, bytesOf}
+use Rattle.hands.proofs.Stretches.{rounds-of}
 use Rattle.seed.specs.declared.Seed.{Seed}
 use Rattle.seed.specs.declared.Dealt.the-variants.{Moved, Refused}
 use Rattle.seed.specs.Deal.{afterDraws, handOf, fault, Deals}

@@ -1,28 +1,19 @@
 -- Draws one after another: the hand and the seed grow at the end, every card is in the deck, and no draw is refused.
-use mathlib.Core.Path.{_≡_, refl, ap, sym, _∙_}
+use mathlib.Core.Path.{_≡_, refl, ap}
 use mathlib.Core.Bool.{true}
 use mathlib.Core.List.{List, [], _∷_, _++_}
 use mathlib.Core.Logic.{_≢_}
-use Prim.Native.Nat.{ℕ, zero, suc, _+_, _*_, _^_, _≤_, _<_}
-use native.Mathlib.Nat.{mod-lt, suc-mul, zero-mul, mul-le-mul-right}
-use native.Mathlib.Numerals.{add-one}
+use Prim.Native.Nat.{ℕ, zero, suc, _+_, _^_, _<_}
+use native.Mathlib.Nat.{mod-lt}
 use native.Mathlib.Omega.{arith}
 use lib.ListN.{length, getD}
-use lib.Seq.{drop-length}
-use mathlib.Core.List.{append-nil}
 use borrow.Author.Tests.{lt-ltb}
-use Rattle.laws.specs.Blocks.{laid}
 use Rattle.graph.specs.Graph.{allBelow}
-use Rattle.slices.specs.Put.{Put}
-use Rattle.slices.proofs.Written.{nothing, then, same-long}
-use Rattle.cards.specs.Deck.{deck-size}
-use Rattle.cards.specs.Hand.{roundOf, turnsOf}
-use Rattle.cards.specs.Rounding.{Roomy, Rounded}
-use Rattle.cards.proofs.Rows.{laid-snoc}
+use Rattle.hands.specs.Deck.{deck-size}
 use Rattle.seed.specs.declared.Seed.{Seed}
 use Rattle.seed.specs.declared.Drawn.the-variants.{Card}
 use Rattle.seed.specs.Draw.{next, cardOf, wrap, drawn}
-use Rattle.seed.specs.Deal.{afterDraws, handOf, Drawing}
+use Rattle.seed.specs.Deal.{afterDraws, handOf}
 use Rattle.seed.proofs.Words.{next-moves, drawn-card, xorshift-low, xorshift-zero}
 
 -- ---- one draw more
@@ -67,49 +58,3 @@ unfolding afterDraws handOf
 draws-answer zero s d i h = absurd (omega arith)
 draws-answer (suc k) s d zero h = drawn-card (s .first) (next s) (d .some)
 draws-answer (suc k) s d (suc i) h = draws-answer k (next s) (drawable-next s d) i (omega arith)
-
--- ---- the loop: before turn i the rounds of the first i draws stand at the beginning
-
-pub record At (s : Seed) (k W : ℕ) (before : List ℕ) (left : Seed) (schedule : List ℕ) (at i : ℕ) : Type 0 where
-  pub low : i ≤ k
-  pub moved : left ≡ afterDraws i s
-  pub place : at ≡ i * (2 * W)
-  pub put : Put before 0 (turnsOf W (handOf i s)) schedule at
-
-module _ {s : Seed} {k W : ℕ} {before : List ℕ} where
-  pub at-start : At s k W before s before 0 0
-  unfolding afterDraws handOf turnsOf laid
-  at-start = record { low = omega arith; moved = refl; place = sym (zero-mul (2 * W)); put = nothing (omega arith) }
-
-  module _ {all : List ℕ} (d : Drawing all k W (length before)) {left : Seed} {schedule : List ℕ} {at i : ℕ} (a : At s k W before left schedule at i) where
-    pub at-ready : i < k → (t : Seed) → {c : ℕ} → c ≡ cardOf t → Roomy all W c at (length schedule)
-    at-ready h t e =
-        record {
-          all = d .whole;
-          some = d .some;
-          few = d .few;
-          known = rw e (card-known t);
-          room = omega (arith, a .place, suc-mul i (2 * W), d .exact, same-long (a .put), mul-le-mul-right (2 * W) h);
-        }
-
-    pub at-next : i < k → {t : Seed} {c : ℕ} → t ≡ next left → c ≡ cardOf t → {after : List ℕ} {end : ℕ} → Rounded W c at schedule after end
-        → At s k W before t after end (i + 1)
-    unfolding turnsOf
-    at-next h {t} {c} e f r =
-        let now : t ≡ next (afterDraws i s) = e ∙ ap next (a .moved) in
-        let card : c ≡ cardOf (next (afterDraws i s)) = f ∙ ap cardOf now in
-        rw add-one
-        (record {
-          low = omega arith;
-          moved = now ∙ sym (after-snoc i s);
-          place = omega (arith, a .place, r .ends, suc-mul i (2 * W));
-          put = rw (hand-snoc i s, laid-snoc (roundOf W) (handOf i s) (cardOf (next (afterDraws i s))), ← card) (then (a .put) (r .put));
-        })
-
-    pub at-end : k ≤ i → (left ≡ afterDraws k s) × (schedule ≡ turnsOf W (handOf k s))
-    at-end h =
-        let n : i ≡ k = omega (arith, a .low) in
-        let e : at ≡ length before = omega (arith, a .place, d .exact, ap (λ (j : ℕ). j * (2 * W)) n) in (
-          a .moved ∙ rw n,
-          a .put .holds ∙ rw (e, n, drop-length) (append-nil (turnsOf W (handOf k s))),
-        )

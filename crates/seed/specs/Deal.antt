@@ -1,15 +1,14 @@
 -- SPECIFICATION 10: the schedule of so many draws, its checks (8, 16, 15, 7), and the seed that is left.
 use mathlib.Core.Path.{_≡_}
 use mathlib.Core.List.{List, [], _∷_}
-use Prim.Native.Nat.{ℕ, zero, suc, _≤_, _<_}
+use Prim.Native.Nat.{ℕ, zero, suc, _<_}
 use lib.ListN.{length, getD}
 use lib.Dec.{eqb}
 use Rattle.refusal.specs.Number.{number}
 use Rattle.refusal.specs.Order.{raise, first}
 use Rattle.desk.specs.Checks.{workersFault}
 use Rattle.desk.specs.Kept.{unlessRefused}
-use Rattle.cards.specs.Deck.{card-workers, deck}
-use Rattle.cards.specs.Hand.{turnsOf, bytesOf, widthFault, scheduleFault, Rounds}
+use Rattle.hands.specs.Hand.{turnsOf, widthFault, scheduleFault, Rounds}
 use Rattle.seed.specs.declared.Seed.{Seed}
 use Rattle.seed.specs.declared.Drawn.the-variants.{Card}
 use Rattle.seed.specs.declared.Dealt.{Dealt}
@@ -58,10 +57,3 @@ pub record Deals (s : Seed) (k W : ℕ) (before : List ℕ) (r : Dealt) (after :
   pub draws : fault s k W (length before) ≡ 0 → (i : ℕ) → i < k → drawn (afterDraws i s) ≡ Card (getD (handOf k s) i 0)
   -- each draw is a stretch, so enough rounds finish, whatever the seed
   pub brings : fault s k W (length before) ≡ 0 → Rounds W k after
-
--- what the loop over the draws asks: the deck, which is lent, and a schedule of exactly their length
-pub record Drawing (all : List ℕ) (k W long : ℕ) : Type 0 where
-  pub whole : all ≡ deck
-  pub some : 1 ≤ W
-  pub few : W ≤ card-workers
-  pub exact : long ≡ bytesOf W k

@@ -3,7 +3,7 @@ use Prim.Native.Nat.{ℕ, zero, suc, _+_, _*_, _/_, _%_, _^_}
 use lib.Bits.{bitXor}
 use Rattle.refusal.specs.declared.Refusal.the-variants.{Seed as NoSeed}
 use Rattle.refusal.specs.Number.{number}
-use Rattle.cards.specs.Deck.{deck-size}
+use Rattle.hands.specs.Deck.{deck-size}
 use Rattle.seed.specs.declared.Seed.{Seed}
 use Rattle.seed.specs.declared.Drawn.{Drawn}
 use Rattle.seed.specs.declared.Drawn.the-variants.{Card, Refused}

@@ -1,14 +1,8 @@
-// Turns from a seed: two words of 32 bits, moved on at each draw, the card that they give, and the
-// schedule of so many draws.
-use cards::hand;
-use cards::table;
-use cards::table::CARD_WORKERS;
+// Turns from a seed: two words of 32 bits, moved on at each draw, and the card that they give. The
+// schedule of so many draws is defined here; `seed_deal` has its call.
 use refusal::Refusal;
 ghost use mathlib.Core.Path.{_≡_};
-ghost use lib.ListN.{length};
-ghost use Rattle.cards.specs.Hand.{turnsOf};
 ghost use Rattle.seed.specs.Draw.{xorshifted, next, cardOf, drawnBy, drawn};
-ghost use Rattle.seed.specs.Deal.{afterDraws, handOf, Drawing, Deals};
 
 // The two words. They are where the caller keeps them.
 pub struct Seed {
@@ -39,7 +33,7 @@ fn xorshift(x: u32) -> u32
 }
 
 // The seed after a draw. One whose first word is 0 stays as it is.
-fn step(seed: Seed) -> Seed
+pub fn step(seed: Seed) -> Seed
     ensures { λ r. ⌜ r ≡ next seed ⌝ }
 {
     let first = seed.first;
@@ -54,7 +48,7 @@ fn step(seed: Seed) -> Seed
 }
 
 // The card that moved words give: the remainder of their sum.
-fn card(seed: Seed) -> u32
+pub fn card(seed: Seed) -> u32
     ensures { λ r. ⌜ r ≡ cardOf seed ⌝ }
 {
     let first = seed.first;
@@ -101,46 +95,4 @@ pub fn draw_from(seed: Seed) -> DrawLeft
     let mut words = seed;
     let answer = draw(&mut words);
     leave(words, answer)
-}
-
-// Draws so many cards and writes their rounds one behind the other; answers the seed that is left.
-fn put_draws(
-    deck: &[u32; 720],
-    seed: Seed,
-    rounds: usize,
-    workers: u32,
-    schedule: &mut [u8],
-) -> Seed
-    requires { ⌜ Drawing (now deck) rounds workers (length (now schedule)) ⌝ }
-    ensures { λ r. ⌜ r ≡ afterDraws rounds seed ⌝ }
-    ensures { λ r. ⌜ now (schedule .exit) ≡ turnsOf workers (handOf rounds seed) ⌝ }
-{
-    let mut left = seed;
-    let mut at: usize = 0;
-    for i in 0..rounds {
-        left = step(left);
-        at = hand::put_round(deck, card(left), workers, schedule, at);
-    }
-    left
-}
-
-// The schedule of so many draws for W workers, in a lent schedule of exactly its length.
-pub fn deal_seed(seed: Seed, rounds: usize, workers: u32, schedule: &mut [u8]) -> Dealt
-    ensures { λ r. ⌜ Deals seed rounds workers (now (schedule .entry)) r (now (schedule .exit)) ⌝ }
-{
-    let first = seed.first;
-    if checks::workers_outside(workers) {
-        return Dealt::Refused(Refusal::Setting);
-    }
-    if first == 0 {
-        return Dealt::Refused(Refusal::Seed);
-    }
-    if CARD_WORKERS < workers {
-        return Dealt::Refused(Refusal::Cards);
-    }
-    if !hand::is_schedule_of(schedule.len(), rounds, workers) {
-        return Dealt::Refused(Refusal::Buffer);
-    }
-    let deck = table::all();
-    Dealt::Moved(put_draws(&deck, seed, rounds, workers, schedule))
 }

@@ -9,9 +9,9 @@ use Rattle.graph.specs.Graph.{allBelow}
 use Rattle.desk.specs.Limits.{most-workers}
 use Rattle.desk.specs.Checks.{outside}
 use Rattle.desk.proofs.Checks.{so, inside}
-use Rattle.cards.specs.Deck.{deck-size}
-use Rattle.cards.specs.Hand.{bytesOf}
-use Rattle.cards.proofs.Dealing.{finds-8, finds-width, finds-card, finds-7, finds-none, refused, dealt-all}
+use Rattle.hands.specs.Deck.{deck-size}
+use Rattle.hands.specs.Hand.{bytesOf}
+use Rattle.hands.proofs.Checks.{finds-8, finds-width, finds-card, finds-7, finds-none, refused, dealt-all}
 use Rattle.cards.proofs.deal.Statement.{statement}
 use Rattle.cards.proofs.deal.Tie as tie
 
@@ -48,13 +48,12 @@ exact : (c : tie.Else4) → let a = start (c .before .before .before .before .be
     eqb (length (a .schedule .now)) (bytesOf (a .workers) (length (a .cards .now))) ≡ true
 exact c = so (c .before .is-schedule-of .ensures) (not-false _ (c .if4 .left))
 
-put-rounds-requires : tie.Need-put-rounds-requires
-put-rounds-requires c κs =
-    let e = c .before .before .before in
+put-hand-requires : tie.Need-put-hand-requires
+put-hand-requires c κs =
+    let e = c .before in
     let k = e .before .before in
     let t = k .before .before in
     record {
-      whole = c .before .before .all .ensures;
       some = inside most-workers _ (within (t .before)) .0;
       few = t .if2 .left;
       known = known k;
@@ -64,14 +63,14 @@ put-rounds-requires c κs =
 returns-5 : tie.Need-returns-5
 returns-5 c =
     let r = c .before .before in
-    let e = r .before .before .before .before in
+    let e = r .before .before in
     let k = e .before .before in
     let t = k .before .before in
     dealt-all _ _ _ refl (finds-none _ _ _ (within (t .before)) (t .if2 .left) (known k) (exact e)) (inside most-workers _ (within (t .before)) .0) (t .if2 .left)
-    (known k) (r .put-rounds .ensures)
+    (known k) (r .put-hand .ensures)
 
 pub deal-spec : {M : Type 1} → statement M
 deal-spec =
     tie.close
     (tie.spec (λ c κs. search needs) returns returns-2 (λ c κs. search needs) returns-3 is-schedule-of-requires returns-4
-    (λ c κs. search needs) put-rounds-requires (λ c. search needs) returns-5)
+    put-hand-requires (λ c. search needs) returns-5)

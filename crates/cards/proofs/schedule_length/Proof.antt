@@ -8,9 +8,9 @@ use borrow.Author.Needs.{needs}
 use Rattle.desk.specs.Limits.{most-workers}
 use Rattle.desk.specs.Checks.{outside}
 use Rattle.desk.proofs.Checks.{so, inside}
-use Rattle.cards.specs.Hand.{bytesOf}
-use Rattle.cards.proofs.Dealing.{length-8, length-15, length-7, length-is}
-use Rattle.cards.proofs.Lengths.{rounds-many, rounds-few}
+use Rattle.hands.specs.Hand.{bytesOf}
+use Rattle.hands.proofs.Checks.{length-8, length-15, length-7, length-is}
+use Rattle.hands.proofs.Lengths.{rounds-many, rounds-few}
 use Rattle.cards.proofs.schedule_length.Statement.{statement}
 use Rattle.cards.proofs.schedule_length.Tie as tie
 

@@ -293,7 +293,7 @@ fn seed(rng: &mut Rng) -> Vec<u32> {
 
 fn deal_seed(rng: &mut Rng) -> Call {
     let workers = card_workers(rng);
-    let most = rng.pick(&[1, 3, 40]);
+    let most = rng.pick(&[1, 3, 40, 100]);
     let rounds = rng.below(most + 1);
     let schedule = damage::length_once_in(rng, 6, 2 * (workers as usize).min(40) * rounds);
     // More rounds than any buffer holds, too.
@@ -308,7 +308,7 @@ fn cards(rng: &mut Rng, count: usize) -> Vec<u32> {
 
 fn deal(rng: &mut Rng) -> Call {
     let workers = card_workers(rng);
-    let most = rng.pick(&[1, 3, 40]);
+    let most = rng.pick(&[1, 3, 40, 100]);
     let count = rng.below(most + 1);
     let mut cards = cards(rng, count);
     if rng.once_in(6) && !cards.is_empty() {

@@ -42,20 +42,29 @@ const fn round(card: usize, workers: usize) -> [u8; 2 * WORKERS] {
     turns
 }
 
-/// All rounds, by the number of workers less one and by the card.
-static ROUNDS: [[[u8; 2 * WORKERS]; CARDS]; WORKERS] = {
-    let mut rounds = [[[0; 2 * WORKERS]; CARDS]; WORKERS];
-    let mut workers = 1;
-    while workers <= WORKERS {
-        let mut card = 0;
-        while card < CARDS {
-            rounds[workers - 1][card] = round(card, workers);
-            card += 1;
+/// Of the rounds of all cards with so many workers, the SIZE bytes from a place on.
+const fn parts<const SIZE: usize>(workers: usize, from: usize) -> [[u8; SIZE]; CARDS] {
+    let mut parts = [[0; SIZE]; CARDS];
+    let mut card = 0;
+    while card < CARDS {
+        let round = round(card, workers);
+        let mut i = 0;
+        while i < SIZE {
+            parts[card][i] = round[from + i];
+            i += 1;
         }
-        workers += 1;
+        card += 1;
     }
-    rounds
-};
+    parts
+}
+
+static TWO: [[u8; 4]; CARDS] = parts(2, 0);
+static THREE: [[u8; 6]; CARDS] = parts(3, 0);
+static FOUR: [[u8; 8]; CARDS] = parts(4, 0);
+static FIVE: [[u8; 10]; CARDS] = parts(5, 0);
+/// The rounds of six workers in two parts: each is copied by one load and one store.
+static SIX_FRONT: [[u8; 8]; CARDS] = parts(6, 0);
+static SIX_BACK: [[u8; 4]; CARDS] = parts(6, 8);
 
 fn check_workers(workers: u32) -> Result<(), u8> {
     match workers {
@@ -65,22 +74,37 @@ fn check_workers(workers: u32) -> Result<(), u8> {
     }
 }
 
+/// A card's place in a table. The cards were checked; the bound is there for the compiler, and takes no jump.
+fn place(card: u32) -> usize {
+    (card as usize).min(CARDS - 1)
+}
+
 /// The rounds of these cards, one behind the other; a round has SIZE bytes.
-fn copy<const SIZE: usize>(cards: impl Iterator<Item = u32>, schedule: &mut [u8]) {
-    let rounds = &ROUNDS[SIZE / 2 - 1];
+fn copy<const SIZE: usize>(rounds: &[[u8; SIZE]; CARDS], cards: impl Iterator<Item = u32>, schedule: &mut [u8]) {
     for (bytes, card) in schedule.chunks_exact_mut(SIZE).zip(cards) {
-        bytes.copy_from_slice(&rounds[card as usize][..SIZE]);
+        bytes.copy_from_slice(&rounds[place(card)]);
     }
 }
 
+fn copy_six(cards: impl Iterator<Item = u32>, schedule: &mut [u8]) {
+    for (bytes, card) in schedule.chunks_exact_mut(2 * WORKERS).zip(cards) {
+        bytes[..8].copy_from_slice(&SIX_FRONT[place(card)]);
+        bytes[8..].copy_from_slice(&SIX_BACK[place(card)]);
+    }
+}
+
+/// One worker asks itself at each turn, whatever the card.
 fn copy_for(workers: u32, cards: impl Iterator<Item = u32>, schedule: &mut [u8]) {
     match workers {
-        1 => copy::<2>(cards, schedule),
-        2 => copy::<4>(cards, schedule),
-        3 => copy::<6>(cards, schedule),
-        4 => copy::<8>(cards, schedule),
-        5 => copy::<10>(cards, schedule),
-        _ => copy::<12>(cards, schedule),
+        1 => {
+            schedule.fill(0);
+            cards.for_each(drop);
+        }
+        2 => copy(&TWO, cards, schedule),
+        3 => copy(&THREE, cards, schedule),
+        4 => copy(&FOUR, cards, schedule),
+        5 => copy(&FIVE, cards, schedule),
+        _ => copy_six(cards, schedule),
     }
 }
 

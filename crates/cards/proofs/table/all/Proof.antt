@@ -1,6 +1,6 @@
 -- `cards::table::all` meets its contract: the constant is the deck, as antt computes it.
 use mathlib.Core.Path.{refl}
-use Rattle.cards.specs.Deck.{deck}
+use Rattle.hands.specs.Deck.{deck}
 use Rattle.cards.proofs.table.all.Statement.{statement}
 use Rattle.cards.proofs.table.all.Tie as tie
 

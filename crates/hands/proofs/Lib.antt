@@ -1,0 +1,9 @@
+pub mod Ascending
+pub mod Checks
+pub mod Circle
+pub mod Deck
+pub mod Lengths
+pub mod Orders
+pub mod Rows
+pub mod Single
+pub mod Stretches

@@ -1,0 +1,3 @@
+pub mod Deck
+pub mod Drawings
+pub mod Hand
