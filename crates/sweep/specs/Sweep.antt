@@ -3,8 +3,8 @@
 use mathlib.Core.Path.{_≡_}
 use mathlib.Core.Bool.{Bool, true, not, _||_}
 use mathlib.Core.List.{List, [], _∷_, _++_}
-use Prim.Native.Nat.{ℕ, zero, suc, _-_, _≤_}
-use lib.ListN.{length, getD, take, replicate}
+use Prim.Native.Nat.{ℕ, zero, suc, _+_, _-_, _*_, _≤_, _<_}
+use lib.ListN.{length, getD, take, drop, replicate}
 use lib.Dec.{leb, eqb}
 use Rattle.laws.specs.Choice.{both}
 use Rattle.laws.specs.Sum.{sum}
@@ -95,3 +95,18 @@ pub record Listed (marks sizes before after : List ℕ) (count freed : ℕ) : Ty
   pub counted : count ≡ length (dead marks)
   pub room : count ≤ length after
   pub summed : freed ≡ sizesOf sizes (dead marks)
+
+-- so many objects from this one on are marked
+abbrev pub LiveFor : List ℕ → ℕ → ℕ → Type 0
+LiveFor marks from k = (j : ℕ) → j < k → getD marks (from + j) 0 ≡ 0 → ⊥
+
+-- where the pass stands at object i: the dead ones found so far stand in front of the list, and those behind are still
+-- to come
+pub record At (marks sizes before list : List ℕ) (count freed i : ℕ) : Type 0 where
+  pub ready : Listable marks sizes before
+  pub low : i ≤ length marks
+  pub few : count ≤ i
+  pub long : length list ≡ length before
+  pub front : take count list ++ deadFrom i (drop i marks) ≡ dead marks
+  pub summed : freed + sizesOf sizes (deadFrom i (drop i marks)) ≡ sizesOf sizes (dead marks)
+  pub small : freed ≤ largest-size * i

@@ -14,19 +14,19 @@ Inv-loop sizes i₀ i-end i = (i ≤ length sizes) × (allFit (drop i sizes) ≡
 abbrev μ-loop : tie.MeasureT-loop
 μ-loop sizes i₀ i-end i = length sizes - i
 
-returns : tie.Need-returns Inv-loop μ-loop
-returns c =
+returns-2 : tie.Need-returns-2 Inv-loop μ-loop
+returns-2 c =
     let turn = c .before .before in
-    sym (fit-stop _ _ (turn .loop-test .taken) (c .if1 .taken)) ∙ turn .before .loop .inv .1
+    sym (fit-stop _ _ (turn .loop-test .taken) (c .if2 .taken)) ∙ turn .before .loop .inv .1
 
 loop-again : tie.Need-loop-again Inv-loop μ-loop
 loop-again c =
     let turn = c .before .before in
-    (search needs, fit-step _ _ (turn .loop-test .taken) (c .if1 .left) ∙ turn .before .loop .inv .1)
+    (search needs, fit-step _ _ (turn .loop-test .taken) (c .if2 .left) ∙ turn .before .loop .inv .1)
 
 pub sizes-fit-spec : {M : Type 1} → statement M
 sizes-fit-spec =
     tie.close
-    (tie.spec Inv-loop μ-loop (λ c. search needs) (λ c. search needs) (λ c. search needs) returns
+    (tie.spec Inv-loop μ-loop (λ c κs. search needs) (λ c. sym (c .before .sizes-below .ensures (c .if1 .taken))) (λ c. search needs) (λ c. search needs) (λ c. search needs) returns-2
     (λ c. search needs) (λ c. search needs) loop-again
     (λ c. sym (fit-end _ _ (c .loop-test .left)) ∙ c .before .loop .inv .1))
