@@ -181,7 +181,7 @@ module _ (G : Graph) (X : Exportable G) where
     F : Formed G
     F = X .formed
 
-    its-part : referencesOf G v ≡ take (after G v - first G v) (drop (first G v) (G .targets))
+    pub its-part : referencesOf G v ≡ take (after G v - first G v) (drop (first G v) (G .targets))
     its-part = view-part G v h (F .rises v h) (after-limit G F v h)
 
     pub part-length : length (referencesOf G v) ≡ after G v - first G v

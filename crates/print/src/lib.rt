@@ -48,7 +48,41 @@ fn width(v: u64) -> usize
     7
 }
 
-// Writes a number of four digits and the byte behind it. Most numbers have as many, or five: they take no loop.
+// Writes a number of one digit and the byte behind it. Short numbers take no loop.
+fn put_one(out: &mut [u8], at: usize, v: u64, stop: u8) -> usize
+    requires { ⌜ (length (decimal v) ≡ 1) × (at + 2 ≤ length (now out)) ⌝ }
+    ensures { λ r. ⌜ Put (now (out .entry)) at (stopped (decimal v) stop) (now (out .exit)) r ⌝ }
+{
+    out[at + 1] = stop;
+    out[at] = (ZERO + v % 10) as u8;
+    at + 2
+}
+
+// The same of two digits, of three, of four and of five.
+fn put_two(out: &mut [u8], at: usize, v: u64, stop: u8) -> usize
+    requires { ⌜ (length (decimal v) ≡ 2) × (at + 3 ≤ length (now out)) ⌝ }
+    ensures { λ r. ⌜ Put (now (out .entry)) at (stopped (decimal v) stop) (now (out .exit)) r ⌝ }
+{
+    let tens = v / 10;
+    out[at + 2] = stop;
+    out[at + 1] = (ZERO + v % 10) as u8;
+    out[at] = (ZERO + tens % 10) as u8;
+    at + 3
+}
+
+fn put_three(out: &mut [u8], at: usize, v: u64, stop: u8) -> usize
+    requires { ⌜ (length (decimal v) ≡ 3) × (at + 4 ≤ length (now out)) ⌝ }
+    ensures { λ r. ⌜ Put (now (out .entry)) at (stopped (decimal v) stop) (now (out .exit)) r ⌝ }
+{
+    let tens = v / 10;
+    let hundreds = tens / 10;
+    out[at + 3] = stop;
+    out[at + 2] = (ZERO + v % 10) as u8;
+    out[at + 1] = (ZERO + tens % 10) as u8;
+    out[at] = (ZERO + hundreds % 10) as u8;
+    at + 4
+}
+
 fn put_four(out: &mut [u8], at: usize, v: u64, stop: u8) -> usize
     requires { ⌜ (length (decimal v) ≡ 4) × (at + 5 ≤ length (now out)) ⌝ }
     ensures { λ r. ⌜ Put (now (out .entry)) at (stopped (decimal v) stop) (now (out .exit)) r ⌝ }
@@ -64,7 +98,6 @@ fn put_four(out: &mut [u8], at: usize, v: u64, stop: u8) -> usize
     at + 5
 }
 
-// The same of five digits.
 fn put_five(out: &mut [u8], at: usize, v: u64, stop: u8) -> usize
     requires { ⌜ (length (decimal v) ≡ 5) × (at + 6 ≤ length (now out)) ⌝ }
     ensures { λ r. ⌜ Put (now (out .entry)) at (stopped (decimal v) stop) (now (out .exit)) r ⌝ }
@@ -104,16 +137,22 @@ fn put_field(out: &mut [u8], at: usize, v: u64, stop: u8) -> usize
     requires { ⌜ (v < short) × (at + suc (length (decimal v)) ≤ length (now out)) ⌝ }
     ensures { λ r. ⌜ Put (now (out .entry)) at (stopped (decimal v) stop) (now (out .exit)) r ⌝ }
 {
-    if v < 1000 {
+    if 100000 <= v {
         return put_digits(out, at, v, stop);
     }
-    if v < 10000 {
-        return put_four(out, at, v, stop);
-    }
-    if v < 100000 {
+    if 10000 <= v {
         return put_five(out, at, v, stop);
     }
-    put_digits(out, at, v, stop)
+    if 1000 <= v {
+        return put_four(out, at, v, stop);
+    }
+    if 100 <= v {
+        return put_three(out, at, v, stop);
+    }
+    if 10 <= v {
+        return put_two(out, at, v, stop);
+    }
+    put_one(out, at, v, stop)
 }
 
 // Writes the line of a pair.
@@ -156,8 +195,9 @@ pub fn put_text(out: &mut [u8], offsets: &[u32], targets: &[u32])
     let n = offsets.len() - 1;
     let mut end = put_head(out, n as u64, targets.len() as u64);
     for v in 0..n {
-        let part = graph::references(offsets, targets, v as u32);
-        end = put_object(out, end, v as u32, part);
+        let first = offsets[v] as usize;
+        let after = offsets[v + 1] as usize;
+        end = put_object(out, end, v as u32, &targets[first..after]);
     }
 }
 

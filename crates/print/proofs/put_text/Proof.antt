@@ -1,11 +1,14 @@
 -- `print::put_text` meets its contract: behind the head the loop keeps `Body`: the lines of the objects so far are written.
-use mathlib.Core.Path.{_∙_}
-use Prim.Native.Nat.{_-_}
+use mathlib.Core.Path.{_≡_, sym, _∙_}
+use Prim.Native.Nat.{ℕ, _+_, _-_, _≤_}
+use native.Mathlib.Numerals.{add-one}
+use lib.ListN.{length, getD, take, drop}
 use native.Mathlib.Omega.{arith}
 use borrow.Author.Needs.{needs}
-use Rattle.graph.specs.Graph.{graph}
+use Rattle.graph.specs.Graph.{Graph, graph, referencesOf}
+use Rattle.graph.proofs.OverMarked.{after-limit}
 use Rattle.slices.proofs.Written.{same-long}
-use Rattle.matrix.proofs.Texts.{counts-short, text-length, Body, body-start, body-printable, body-on, body-end}
+use Rattle.matrix.proofs.Texts.{its-part, counts-short, text-length, Body, body-start, body-printable, body-on, body-end}
 use Rattle.print.proofs.put_text.Statement.{statement}
 use Rattle.print.proofs.put_text.Tie as tie
 
@@ -33,26 +36,37 @@ loop-holds c =
     let s = start p in
     body-start _ (s .pre .0) (s .pre .1) (p .put-head .ensures)
 
-cast-references : tie.Need-cast-references Inv-loop μ-loop
-cast-references c = let s = start (c .before .before .before .before) in omega (arith, s .pre .0 .few)
+-- back from within the loop to the entry
+abbrev entry : tie.In-loop Inv-loop μ-loop → tie.Start Inv-loop μ-loop
+entry c = start (c .before .before .before .before)
 
-cast-put-object : tie.Need-cast-put-object Inv-loop μ-loop
-cast-put-object c = let s = start (c .before .before .before .before .before .before) in omega (arith, s .pre .0 .few)
+-- the part of the targets that is lent is the object's
+module _ (i : tie.In-loop Inv-loop μ-loop) where
+  abbrev G : Graph
+  G = graph (entry i .args .offsets .now) (entry i .args .targets .now)
+
+  abbrev v : ℕ
+  v = i .before .loop .v
+
+  part-is : take (getD (G .offsets) (v + 1) 0 - getD (G .offsets) v 0) (drop (getD (G .offsets) v 0) (G .targets)) ≡ referencesOf G v
+  part-is = rw (add-one v) (sym (its-part G (entry i .pre .0) v (i .loop-test .taken)))
+
+  rises : getD (G .offsets) v 0 ≤ getD (G .offsets) (v + 1) 0
+  rises = rw (add-one v) (entry i .pre .0 .formed .rises v (i .loop-test .taken))
+
+  within : getD (G .offsets) (v + 1) 0 ≤ length (G .targets)
+  within = rw (add-one v) (after-limit G (entry i .pre .0 .formed) v (i .loop-test .taken))
 
 put-object-requires : tie.Need-put-object-requires Inv-loop μ-loop
 put-object-requires c κs =
-    let r = c .before in
-    let i = r .before in
-    let s = start (i .before .before .before .before) in
-    body-printable _ (s .pre .0) (i .before .loop .inv) (i .loop-test .taken) (r .references .ensures)
+    let i = c .before .before .before .before in
+    body-printable _ (entry i .pre .0) (i .before .loop .inv) (i .loop-test .taken) (part-is i)
 
 loop-again : tie.Need-loop-again Inv-loop μ-loop
 loop-again c =
     let p = c .before .before in
-    let r = p .before .before in
-    let i = r .before in
-    let s = start (i .before .before .before .before) in
-    body-on _ (s .pre .0) (i .before .loop .inv) (i .loop-test .taken) (r .references .ensures) (p .put-object .ensures)
+    let i = p .before .before .before .before .before in
+    body-on _ (entry i .pre .0) (i .before .loop .inv) (i .loop-test .taken) (part-is i) (p .put-object .ensures)
 
 same-length : tie.Need-same-length Inv-loop μ-loop
 same-length c =
@@ -68,5 +82,11 @@ returns c =
 pub put-text-spec : {M : Type 1} → statement M
 put-text-spec =
     tie.close
-    (tie.spec Inv-loop μ-loop sub-n put-head-requires loop-holds cast-references (λ c κs. search needs) cast-put-object put-object-requires (λ c. search needs)
-    (λ c. search needs) loop-again same-length returns)
+    (tie.spec Inv-loop μ-loop sub-n put-head-requires loop-holds (λ c. search needs) (λ c. omega (arith, c .before .loop-test .taken))
+    (λ c. omega (arith, rises (c .before), within (c .before), entry (c .before) .pre .0 .few-references)) (λ c. search needs) (λ c. search needs)
+    (λ c. omega (arith, c .before .before .loop-test .taken))
+    (λ c. omega (arith, within (c .before .before), entry (c .before .before) .pre .0 .few-references))
+    (λ c. omega (arith, entry (c .before .before .before) .pre .0 .few))
+    (λ c. let i = c .before .before .before in omega (arith, rises i, within i, entry i .pre .0 .few-references)) (λ c. omega (arith, rises (c .before .before .before)))
+    (λ c. omega (arith, rises (c .before .before .before), within (c .before .before .before))) (λ c. omega (arith, within (c .before .before .before)))
+    put-object-requires (λ c. search needs) (λ c. search needs) loop-again same-length returns)
