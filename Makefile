@@ -1,6 +1,6 @@
 # The lines that begin with `#:` are what `make help` prints.
 #: make run               proves what the program needs, builds it, and runs it on the sample store; STORE=FOLDER for another
-#: make test              the gate: proves every crate, tries every must-fail edit, and runs every test; some 25 minutes
+#: make test              the gate: proves every crate, tries every must-fail edit, and runs every test; some 20 minutes
 #: make library           proves and builds target/staticlib/libkullneyra.a, for C, C++, Rust and Go
 #: make shared            builds target/sharedlib/libkullneyra.so of it, for programs that link it at run time, and for Python
 #: make oci               builds target/bin/kullneyra-oci, the command over OCI image layouts and the folders of registries
