@@ -8,7 +8,7 @@ import unittest
 from pathlib import Path
 
 TOP = Path(__file__).resolve().parents[2]
-TOOLS = ("need", "need-packages", "prove", "library", "install")
+TOOLS = ("need", "need-packages", "prove", "library", "install", "in-memory", "rt-in-memory")
 
 # What rt prints and leaves, for crates whose files hold no `bad`: by stamps, as rt does.
 RT = r"""#!/bin/bash

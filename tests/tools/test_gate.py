@@ -16,7 +16,7 @@ class Gate(unittest.TestCase):
     def setUp(self):
         self.top = Path(tempfile.mkdtemp())
         (self.top / "tools").mkdir()
-        for name in ("gate", "need-packages"):
+        for name in ("gate", "need-packages", "in-memory", "rt-in-memory"):
             shutil.copy(TOP / "tools" / name, self.top / "tools" / name)
         self.script("bin/rt", f"echo '{GREEN}'")
         self.script("bin/make", "shift; echo made $*")
