@@ -38,7 +38,7 @@ abbrev made : tie.After-start → tie.After-setup-of
 made c = c .before .before .before .before .before
 
 abbrev entry : tie.After-check → tie.Start
-entry c = let lent = c .before in lent .before .before .before .before .before .before .before .before .before
+entry c = let lent = c .before .before .before .before .before in lent .before .before .before .before .before
 
 -- what the checks found of the call and of the lengths of its buffers
 abbrev call : tie.Start → Call

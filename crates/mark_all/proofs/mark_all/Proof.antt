@@ -21,8 +21,8 @@ use Rattle.mark_all.proofs.mark_all.Tie as tie
 abbrev settled : tie.After-answer → tie.After-settle
 settled c = c .before .before .before .before .before
 
-abbrev turned : tie.After-settle → tie.After-take-all
-turned c = let tallied = c .before .before .before .before .before in tallied .before .before .before .before .before .before
+abbrev turned : tie.After-regs3 → tie.After-take-all
+turned c = let tallied = c .before .before .before .before in tallied .before .before .before .before .before .before
 
 abbrev cleared : tie.After-take-all-arg4 → tie.After-clear-u64s
 cleared c = c .before .before .before .before .before .before
@@ -69,16 +69,16 @@ take-all-requires c κs =
 
 settle-requires : tie.Need-settle-requires
 settle-requires c κs =
-    let t = c .before .before .before .before .before .before .before .before .before .before in
+    let t = turned c in
     let z = cleared (t .before) in
     let s = started z in
     let m = made s in
     whole-settle (call (at (m .before))) (run (m .before)) (m .setup-of .ensures) (s .start .ensures) (z .clear-u64s .ensures) (t .take-all .ensures)
 
-runs : (c : tie.After-settle) → let t = turned c in Runs (wholeOf (call (at (made (started (cleared (t .before))) .before))))
+runs : (c : tie.After-settle) → let t = turned (c .before) in Runs (wholeOf (call (at (made (started (cleared (t .before))) .before))))
     (memory (t .take-all .last .1 .1 .0) (c .settle .last .1 .0) (t .take-all .last .1 .1 .1 .1 .0) (t .take-all .last .1 .1 .1 .1 .1 .0) (t .take-all .result))
 runs c =
-    let t = turned c in
+    let t = turned (c .before) in
     let z = cleared (t .before) in
     let s = started z in
     let m = made s in
@@ -88,7 +88,7 @@ runs c =
 returns-2 : tie.Need-returns-2
 returns-2 c =
     let q = settled c in
-    let m = made (started (cleared (turned q .before))) in
+    let m = made (started (cleared (turned (q .before) .before))) in
     all-fine (call (at (m .before))) (m .before .before .before .check .ensures) (m .before .enum-told .given .1) (runs q) (c .answer .result) (c .answer .ensures)
 
 pub mark-all-spec : {M : Type 1} → statement M
@@ -98,5 +98,5 @@ mark-all-spec =
     (λ c κs. ok c .objects-limit) (λ c. search needs) (λ c. search needs) (λ c. omega (arith, workers-few (ok (c .before))))
     (λ c. sym (registers-long (ok (c .before .before)))) start-requires (λ c κs. search needs) take-all-requires settle-requires
     (λ c κs. runs (c .before .before .before .before) .countable)
-    (λ c. let t = turned (settled c) in t .take-all .kept .1 .1 .0 ∙ started (cleared (t .before)) .start .kept .1 .1 .1 .1 .0)
+    (λ c. let t = turned (settled c .before) in t .take-all .kept .1 .1 .0 ∙ started (cleared (t .before)) .start .kept .1 .1 .1 .1 .0)
     (λ c. search needs) (λ c. search needs) returns-2)

@@ -16,8 +16,8 @@ use Rattle.marker.proofs.mark.Statement.{statement}
 use Rattle.marker.proofs.mark.Tie as tie
 
 -- back from the stretches to the turns, from there to the tallies, to the start, to the setup, and from the checks to the entry
-abbrev turned : tie.After-settle → tie.After-take-turns
-turned c = let tallied = c .before .before .before .before .before in tallied .before .before .before .before .before .before
+abbrev turned : tie.After-regs3 → tie.After-take-turns
+turned c = let tallied = c .before .before .before .before in tallied .before .before .before .before .before .before
 
 abbrev cleared : tie.After-take-turns-arg4 → tie.After-clear-u64s
 cleared c = c .before .before .before .before .before .before
@@ -63,15 +63,15 @@ take-turns-requires c κs =
 
 settle-requires : tie.Need-settle-requires
 settle-requires c κs =
-    let t = c .before .before .before .before .before .before .before .before .before .before in
+    let t = turned c in
     let r = take-turns-requires (t .before) (t .take-turns .lifetimes) in
     settle-ready r (t .take-turns .ensures r)
 
-runs : (c : tie.After-settle) → let t = turned c in let m = made (started (cleared (t .before))) in Runs (call (at (m .before)))
+runs : (c : tie.After-settle) → let t = turned (c .before) in let m = made (started (cleared (t .before))) in Runs (call (at (m .before)))
     (memory (t .take-turns .last .1 .1 .1 .1 .0) (c .settle .last .1 .0) (t .take-turns .last .1 .1 .1 .1 .1 .1 .0) (t .take-turns .last .1 .1 .1 .1 .1 .1 .1 .0) (t .take-turns .result))
 unfolding turns-ready take-turns-requires
 runs c =
-    let t = turned c in
+    let t = turned (c .before) in
     let m = made (started (cleared (t .before))) in
     let r = take-turns-requires (t .before) (t .take-turns .lifetimes) in
     run-leaves (run (m .before)) (m .setup-of .ensures) (leaves r (t .take-turns .ensures r) (c .settle .ensures))
@@ -83,7 +83,7 @@ settled c = c .before .before .before .before .before
 returns-2 : tie.Need-returns-2
 returns-2 c =
     let q = settled c in
-    let m = made (started (cleared (turned q .before))) in
+    let m = made (started (cleared (turned (q .before) .before))) in
     answered-fine (m .before .before .before .check .ensures) (m .before .enum-told .given .1) (runs q) (c .answer .result) (c .answer .ensures)
 
 pub mark-spec : {M : Type 1} → statement M
@@ -92,7 +92,7 @@ mark-spec =
     (tie.spec (λ c κs. search needs) (λ c. search needs) returns (λ c. search needs) (λ c. omega (arith, ok c .offsets-some)) (λ c κs. ok c .objects-limit)
     (λ c. search needs) (λ c. search needs) (λ c. omega (arith, workers-few (ok (c .before)))) (λ c. sym (registers-long (ok (c .before .before))))
     start-requires (λ c κs. search needs) take-turns-requires settle-requires (λ c κs. runs (c .before .before .before .before) .countable)
-    (λ c. let t = turned (settled c) in t .take-turns .kept .1 .1 .1 .1 .0 ∙ started (cleared (t .before)) .start .kept .1 .1 .1 .1 .0)
-    (λ c. let q = settled c in let t = turned q in
+    (λ c. let t = turned (settled c .before) in t .take-turns .kept .1 .1 .1 .1 .0 ∙ started (cleared (t .before)) .start .kept .1 .1 .1 .1 .0)
+    (λ c. let q = settled c in let t = turned (q .before) in
     q .settle .kept .1 .0 ∙ t .take-turns .kept .1 .1 .1 .1 .1 .0 ∙ started (cleared (t .before)) .start .kept .1 .1 .1 .1 .1 .0)
     (λ c. search needs) returns-2)
