@@ -1,4 +1,6 @@
 // One worker alone: its turns made in rows, look and claim together. Nobody asks it, so nothing is handed over.
+#![tactic(auto)]
+
 ghost use Rattle.std.specs.Prelude.{◌≡◌, List, ◌++◌, ℕ, ◌+◌, ◌-◌, ◌≤◌, ◌<◌, ◌^◌, length};
 ghost use Rattle.machine.specs.Run.{Run, run_from};
 ghost use Rattle.worker.specs.Stretch.{Holds, Told};
@@ -15,7 +17,7 @@ use worker::registers::Block;
 use worker::stretch::Top;
 
 // A part of a run, within the batch, and how many words the runs below it take.
-#[derive(Drop)]
+#[derive(Clone, Copy)]
 pub struct Part {
     pub first: u32,
     pub size: u32,
@@ -23,7 +25,7 @@ pub struct Part {
 }
 
 // What following it brings: the words that the runs below take, the claims won, and the references that opened.
-#[derive(Drop)]
+#[derive(Clone, Copy)]
 pub struct Found {
     pub used: u32,
     pub won: u32,
@@ -31,7 +33,7 @@ pub struct Found {
 }
 
 // What is left of the batch, what is carried beyond it, and how many polls there were.
-#[derive(Drop)]
+#[derive(Clone, Copy)]
 pub struct Load {
     pub batch: u32,
     pub carried: u32,

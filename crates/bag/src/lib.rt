@@ -1,6 +1,8 @@
 // A bag of objects: at most one pennant in each of 17 slots, and behind them how many objects there
 // are, all of it in lent words. Adding an object goes like adding one to a binary number, and joining
 // two bags like adding two.
+#![tactic(auto)]
+
 ghost use Rattle.std.specs.Prelude.{◌≡◌};
 ghost use Rattle.bag.specs.Bag.{HasLinks, united, Addable, Adds, Joinable, Joins};
 ghost use Rattle.bag.specs.Adder.{Unitable, Sums};
@@ -37,7 +39,7 @@ pub fn add(links: &mut [u32], bag: &mut [u32; 18], x: u32)
 }
 
 // What three slots add up to: what stays in the slot, and what goes to the next.
-#[derive(Drop)]
+#[derive(Clone, Copy)]
 struct Sum {
     here: u32,
     carry: u32,

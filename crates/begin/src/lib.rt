@@ -1,4 +1,6 @@
 // A collection that can be stopped: how many words it is saved in, and the call that begins one.
+#![tactic(auto)]
+
 ghost use Rattle.std.specs.Prelude.{◌≡◌};
 ghost use Rattle.desk.specs.Length.{length_row};
 ghost use Rattle.marker.specs.Answer.{call_of};

@@ -1,4 +1,6 @@
 // Cards: the constant deck, and the schedule of a hand.
+#![tactic(auto)]
+
 pub mod hand;
 pub mod table;
 

@@ -1,4 +1,6 @@
 // The catalogue of SPECIFICATION 1: the calls `header` and `read`.
+#![tactic(auto)]
+
 mod check;
 
 ghost use Rattle.std.specs.Prelude.{◌≡◌, ◌≤◌};
@@ -13,14 +15,14 @@ use refusal::{Refusal, Verdict};
 pub const STARTS: usize = graph::MOST_STARTS;
 
 // What `header` answers: n, m and the index, or why it refuses.
-#[derive(Drop)]
+#[derive(Clone, Copy)]
 pub enum Answer {
     Read { n: u32, m: u32, index: u32 },
     Refused(Refusal),
 }
 
 // What `read` answers: the same, and how many starts there are.
-#[derive(Drop)]
+#[derive(Clone, Copy)]
 pub enum Found {
     Read {
         n: u32,

@@ -13,7 +13,7 @@ use worker::registers;
 use worker::registers::Block;
 
 // Status, cell, since and batch of a worker, as they are saved.
-#[derive(Drop)]
+#[derive(Clone, Copy)]
 pub struct Saved {
     pub status: u32,
     pub cell: u32,
@@ -60,7 +60,7 @@ pub fn put_workers(regs: &[u32], workers: u32, out: &mut [u32])
 }
 
 // How many words the runs of a stretch take, and how many references they hold.
-#[derive(Drop)]
+#[derive(Clone, Copy)]
 pub struct Extent {
     pub words: u32,
     pub carried: u32,

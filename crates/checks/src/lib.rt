@@ -1,4 +1,6 @@
 // The checks that several calls make (SPECIFICATION 2), each by its definition in `desk`.
+#![tactic(auto)]
+
 ghost use Rattle.std.specs.Prelude.{◌≡◌, true, ◌+◌, ◌-◌, ◌*◌, ◌/◌, ◌≤◌, length};
 ghost use Rattle.graph.specs.Graph.{all_below};
 ghost use Rattle.graph.specs.Limits.{most_objects};

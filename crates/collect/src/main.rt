@@ -1,5 +1,7 @@
 // The program: reads `store.cat` and `order.run` in the current folder and prints what the
 // collection did. What it prints is made by `report::answer`; here are only files.
+#![tactic(auto)]
+
 ghost use Rattle.std.specs.Prelude.{◌≤◌, length};
 
 use libc::STDOUT_FILENO;
@@ -7,7 +9,7 @@ use program::Loaded;
 use program::limits::{MOST_ORDER_BYTES, MOST_STORE_BYTES, TEXT_ROOM};
 
 // A file: how it was got, and how many bytes of it stand in the buffer.
-#[derive(Drop)]
+#[derive(Clone, Copy)]
 struct Got {
     file: Loaded,
     len: usize,

@@ -1,4 +1,6 @@
 // The program that prints the deck, one card of six digits to a line.
+#![tactic(auto)]
+
 mod print;
 
 use libc::STDOUT_FILENO;

@@ -1,5 +1,7 @@
 // What calls have in common (SPECIFICATION 2): their settings, the lengths of their buffers, the answer of a call for a
 // length; and, in specs/, the checks that several of them make. The crate `checks` makes them.
+#![tactic(auto)]
+
 pub mod places;
 
 use refusal::Refusal;
@@ -10,7 +12,7 @@ pub const MOST_WORKERS: u32 = 16;
 pub const MOST_SETTING: u32 = 65535;
 
 // The settings of a collection: W, D and K.
-#[derive(Drop)]
+#[derive(Clone, Copy)]
 pub struct Settings {
     pub workers: u32,
     pub batch: u32,
@@ -18,14 +20,14 @@ pub struct Settings {
 }
 
 // How many saved words are lent, where they are.
-#[derive(Drop)]
+#[derive(Clone, Copy)]
 pub enum SavedWords {
     Absent,
     Lent(usize),
 }
 
 // How long the buffers are that a collection is lent.
-#[derive(Drop)]
+#[derive(Clone, Copy)]
 pub struct Lengths {
     pub marks: usize,
     pub work: usize,
@@ -34,7 +36,7 @@ pub struct Lengths {
 }
 
 // What a call for a length answers.
-#[derive(Drop)]
+#[derive(Clone, Copy)]
 pub enum Length {
     Is(u64),
     Refused(Refusal),

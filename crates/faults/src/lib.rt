@@ -1,4 +1,6 @@
 // The fault of one record: the checks 1 to 6 and 13 of SPECIFICATION 2.
+#![tactic(auto)]
+
 ghost use Rattle.std.specs.Prelude.{◌≡◌, ◌≤◌, length};
 ghost use Rattle.records.specs.Reading.{kind_of, header_kind, object_kind, reference_kind, lease_kind, length_field, Heads};
 ghost use Rattle.records.specs.Reading.{misplaced, overfull, miscounted, misnamed, oversized, contents_fault, record_fault};
@@ -13,7 +15,7 @@ use refusal::{Refusal, Verdict};
 use slices::{word2, word4, word8};
 
 // What a header says.
-#[derive(Drop)]
+#[derive(Clone, Copy)]
 pub struct Header {
     pub n: u32,
     pub m: u32,

@@ -1,4 +1,6 @@
 // The collection as C functions: marking, stopping and taking up, sweeping.
+#![tactic(auto)]
+
 ghost use Rattle.std.specs.Prelude.{◌≡◌, [], length};
 ghost use Rattle.desk.specs.Kept.{unless_refused};
 ghost use Rattle.marker.specs.Answer.{call_of};

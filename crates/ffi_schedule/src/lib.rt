@@ -1,4 +1,6 @@
 // Schedules as C functions: cards, and turns from a seed.
+#![tactic(auto)]
+
 ghost use Rattle.std.specs.Prelude.{◌≡◌, length};
 ghost use Rattle.desk.specs.Kept.{unless_refused};
 ghost use Rattle.hands.specs.Hand.{fault, turns_of, length_of as scheduleLength, Rounds};

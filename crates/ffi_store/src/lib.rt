@@ -1,4 +1,6 @@
 // Stores and graphs as C functions: the catalogue, an object's references, Matrix Market texts, names in texts.
+#![tactic(auto)]
+
 ghost use Rattle.std.specs.Prelude.{◌≡◌, length};
 ghost use Rattle.desk.specs.Kept.{unless_refused};
 ghost use Rattle.catalogue.specs.Answer.{header_row};

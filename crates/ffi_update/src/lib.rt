@@ -1,4 +1,6 @@
 // What is worked out of a graph as C functions: hops, and references that are added and taken out.
+#![tactic(auto)]
+
 ghost use Rattle.kullneyra.specs.Calls.{LengthIn, HopsIn, AddsIn, RemovesIn};
 ghost use Rattle.hops.specs.Call.{length_for as hopLength};
 ghost use Rattle.updates.specs.Call.{length_for as updateLength};

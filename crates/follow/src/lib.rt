@@ -1,4 +1,6 @@
 // The turns of a worker that looks or claims, and following; and taking a hand-over up.
+#![tactic(auto)]
+
 ghost use Rattle.std.specs.Prelude.{◌≡◌, ◌≢◌, List, ℕ, ◌+◌, ◌-◌, ◌<◌, length, get_or};
 ghost use Rattle.desk.specs.Limits.{most_workers};
 ghost use Rattle.machine.specs.Machine.{claim_mark};
@@ -14,7 +16,7 @@ use worker::registers;
 use worker::registers::Block;
 
 // What opens at a target: a run, from `first` to `end`.
-#[derive(Drop)]
+#[derive(Clone, Copy)]
 pub struct Opened {
     pub first: u32,
     pub end: u32,
@@ -28,7 +30,7 @@ fn nothing() -> Opened
 }
 
 // What a claim tells: won or lost, and the owner, whose mark stands there afterwards.
-#[derive(Drop)]
+#[derive(Clone, Copy)]
 pub enum Ownership {
     Won(u8),
     Lost(u8),

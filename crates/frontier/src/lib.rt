@@ -1,6 +1,8 @@
 // Whether the runs of saved words are a frontier: the references that the workers carry are those of marked
 // objects, none twice, and behind them every target is marked (SPECIFICATION 8.2). Nothing lent is written:
 // the references that are carried are one bit each in local words, a window of them at a time.
+#![tactic(auto)]
+
 mod index;
 mod rows;
 mod runs;

@@ -67,7 +67,7 @@ fn is_whole(offsets: &[u32], v: usize, from: u32, to: u32) -> bool
 }
 
 // What a run is: whether its references are those of one marked object, and whether they are all of them.
-#[derive(Drop)]
+#[derive(Clone, Copy)]
 pub struct Tested {
     pub sound: bool,
     pub whole: bool,
@@ -105,7 +105,7 @@ fn check_run(
 }
 
 // What the runs of a stretch come to: how many pairs, and how many references.
-#[derive(Drop)]
+#[derive(Clone, Copy)]
 pub struct Runs {
     pub sound: bool,
     pub pairs: usize,
@@ -178,7 +178,7 @@ fn zeros(words: &[u32], from: usize) -> bool
 }
 
 // What a worker carries.
-#[derive(Drop)]
+#[derive(Clone, Copy)]
 pub struct Load {
     pub sound: bool,
     pub carried: u64,
@@ -227,7 +227,7 @@ fn check_stretch(
 }
 
 // What all workers carry, and how many of them carry something.
-#[derive(Drop)]
+#[derive(Clone, Copy)]
 pub struct Loads {
     pub sound: bool,
     pub carrying: u64,

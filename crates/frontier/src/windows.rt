@@ -76,7 +76,7 @@ fn carry_all(
 }
 
 // The references from one to another.
-#[derive(Drop)]
+#[derive(Clone, Copy)]
 struct Span {
     from: u32,
     to: u32,

@@ -1,5 +1,7 @@
 // The store as a graph: offsets and targets (SPECIFICATION 3). Check 10 of them, and the view of
 // one object's references. Any offsets and any targets may come in.
+#![tactic(auto)]
+
 ghost use Rattle.std.specs.Prelude.{◌≡◌, List, ℕ, ◌+◌, length};
 ghost use Rattle.graph.specs.Graph.{rising, all_below, well_formed, references_of, IsPart, graph};
 
@@ -79,7 +81,7 @@ pub fn well_formed(offsets: &[u32], targets: &[u32]) -> bool
 }
 
 // A part of the targets: from `start` up to `end`.
-#[derive(Drop)]
+#[derive(Clone, Copy)]
 pub struct Part {
     pub start: usize,
     pub end: usize,

@@ -1,5 +1,7 @@
 // Hops: for each object the least number of references from a start. The call checks its inputs as
 // the marker does its own.
+#![tactic(auto)]
+
 ghost use Rattle.std.specs.Prelude.{◌≡◌, not, ◌||◌, ◌≤◌, eqb};
 ghost use Rattle.graph.specs.Limits.{most_objects};
 ghost use Rattle.desk.specs.Length.{length_row};

@@ -1,4 +1,6 @@
 // The turn of an idle worker.
+#![tactic(auto)]
+
 ghost use Rattle.std.specs.Prelude.{List, ℕ};
 ghost use Rattle.step.specs.Held.{memory};
 ghost use Rattle.step.specs.Outcome.{progress_of, ToldOver};

@@ -1,5 +1,7 @@
 // What users link, said of numbers and slices in specs/. The code is what the exported functions share: how an
 // answer is given as a number and result words. The functions stand in the crates ffi_*.
+#![tactic(auto)]
+
 ghost use Rattle.std.specs.Prelude.{◌≡◌, [], ◌∷◌, ◌≤◌, length};
 ghost use Rattle.std.proofs.lemmas.List.Edits.{sets};
 ghost use Rattle.desk.specs.Length.{length_row};

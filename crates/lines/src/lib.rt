@@ -1,5 +1,7 @@
 // The lines that the program prints. Each function writes behind the first `at` bytes and returns
 // how many bytes there are then.
+#![tactic(auto)]
+
 ghost use Rattle.std.specs.Prelude.{◌+◌, ◌*◌, ◌/◌, ◌≤◌, ◌<◌, ◌++◌, length};
 ghost use Rattle.slices.specs.Put.{PutIn};
 ghost use Rattle.lines.specs.Rooms.{counts_room, tally_room, dead_room};

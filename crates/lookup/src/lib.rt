@@ -1,5 +1,7 @@
 // Names looked up (SPECIFICATION 14): digits, the order of two names, the search among ascending
 // names, and the places of a text that may hold one. Nothing but the index is written.
+#![tactic(auto)]
+
 ghost use Rattle.std.specs.Prelude.{◌≡◌, ◌+◌, ◌*◌, ◌<◌, ◌≤◌, length, replicate};
 ghost use Rattle.laws.specs.Test.{same, all};
 ghost use Rattle.names.specs.Names.{is_digit, window, order};
@@ -30,7 +32,7 @@ const UP: u32 = 1;
 const DOWN: u32 = 2;
 
 // Where sliding along a text ended, and whether a name may stand there.
-#[derive(Drop)]
+#[derive(Clone, Copy)]
 pub struct Stop {
     pub at: usize,
     pub hit: bool,

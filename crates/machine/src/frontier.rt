@@ -3,7 +3,7 @@
 // range `r2`, followed in this order; its edges are our references, and its ranges our runs.
 
 // Which of the three held, before a hand-over, the last reference that the giver keeps.
-#[derive(Drop)]
+#[derive(Clone, Copy)]
 pub enum Held {
     // The run to be followed first: the paper's `r1`.
     Front,

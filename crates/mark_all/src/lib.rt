@@ -1,4 +1,6 @@
 // The call `mark_all` (SPECIFICATION 15): a collection that is sure to finish, without a schedule.
+#![tactic(auto)]
+
 ghost use Rattle.std.specs.Prelude.{[]};
 ghost use Rattle.step.specs.Held.{memory};
 ghost use Rattle.step.specs.Turned.{Ready};

@@ -1,4 +1,6 @@
 // The marker's call: its checks in their order, the start, the turns of the schedule, and the answer.
+#![tactic(auto)]
+
 pub mod start;
 
 ghost use Rattle.std.specs.Prelude.{◌≡◌, ◌≤◌};
@@ -17,7 +19,7 @@ use worker::registers::Block;
 use worker::stretch::Top;
 use worker::{registers, stretch};
 
-#[derive(Drop)]
+#[derive(Clone, Copy)]
 pub enum Marked {
     // All workers have ended.
     Finished(Counts),

@@ -9,7 +9,7 @@ use worker::{registers, stretch};
 // What the starts so far come to: the marks set, the references of their runs, and where the runs
 // stand, from `at` to the end of the stretch. Each new one stands before the others, so that the
 // run to be followed last comes first.
-#[derive(Drop)]
+#[derive(Clone, Copy)]
 pub struct Gathered {
     pub live: u32,
     pub carried: u32,

@@ -1,5 +1,7 @@
 // Matrix Market (SPECIFICATION 13): a graph read from the text of a coordinate pattern file and
 // written as one. Any text, offsets, targets and buffers may come in.
+#![tactic(auto)]
+
 mod fill;
 
 ghost use Rattle.std.specs.Prelude.{◌≡◌, ◌≤◌, length};

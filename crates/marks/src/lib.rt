@@ -1,6 +1,8 @@
 // Whether saved marks are those of a collection (SPECIFICATION 8.2): what they come to, the starts, and the
 // targets of references that nobody carries. Nothing lent is written: the objects that are starts are one
 // bit each in local words. The references are looked at in windows.
+#![tactic(auto)]
+
 ghost use Rattle.std.specs.Prelude.{true, ◌≡◌, ◌≤◌, length};
 ghost use Rattle.laws.specs.Decides.{Decides};
 ghost use Rattle.graph.specs.Limits.{most_objects};
@@ -12,7 +14,7 @@ use slices::bits;
 const OBJECT_WORDS: usize = graph::MOST_OBJECTS / bits::WORD as usize;
 
 // What marks come to: how many are set, and how many references leave unmarked objects.
-#[derive(Drop)]
+#[derive(Clone, Copy)]
 pub struct Counted {
     pub live: u64,
     pub leaving: u64,
@@ -50,7 +52,7 @@ fn count_marks(offsets: &[u32], marks: &[u32]) -> Counted
 }
 
 // The same, where they are sound.
-#[derive(Drop)]
+#[derive(Clone, Copy)]
 pub struct Marks {
     pub sound: bool,
     pub live: u64,
@@ -78,7 +80,7 @@ pub fn check_marks(offsets: &[u32], marks: &[u32], workers: u32) -> Marks
 }
 
 // What the starts come to: how many objects they are.
-#[derive(Drop)]
+#[derive(Clone, Copy)]
 pub struct Starts {
     pub sound: bool,
     pub distinct: u64,
@@ -122,7 +124,7 @@ pub fn check_starts(starts: &[u32], marks: &[u32]) -> Starts
 }
 
 // A window: the references from one up to another, and the objects that they leave, from one up to another.
-#[derive(Drop)]
+#[derive(Clone, Copy)]
 pub struct Window {
     pub from: u32,
     pub to: u32,

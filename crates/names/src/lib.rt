@@ -1,7 +1,8 @@
 // Names and texts (SPECIFICATION 14): definitions and laws. The code is in `lookup` and `scan`.
+#![tactic(auto)]
 
 // How two names stand to each other, by the first byte in which they differ.
-#[derive(Drop)]
+#[derive(Clone, Copy)]
 pub enum Order {
     Below,
     Same,

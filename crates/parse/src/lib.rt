@@ -1,5 +1,7 @@
 // The text of a Matrix Market file (SPECIFICATION 13) read from the front: its first line, the counts, the
 // lines of pairs. Nothing is written.
+#![tactic(auto)]
+
 ghost use Rattle.std.specs.Prelude.{◌≡◌, true, false, ◌+◌, ◌≤◌, ◌<◌, length, drop};
 ghost use Rattle.matrix.specs.Layout.{banner};
 ghost use Rattle.matrix.specs.Reading.{begins, skip};
@@ -23,7 +25,7 @@ const NINE: u8 = 57;
 const MOST_DIGITS: usize = 10;
 
 // A number with the wanted byte behind it, and the place behind that byte; or not good.
-#[derive(Drop)]
+#[derive(Clone, Copy)]
 pub struct Field {
     pub good: bool,
     pub value: u64,
@@ -37,7 +39,7 @@ const NO_FIELD: Field = Field {
 };
 
 // A line of a pair, as it is written, and the place behind it; or not good.
-#[derive(Drop)]
+#[derive(Clone, Copy)]
 pub struct Line {
     pub good: bool,
     pub from: u64,
@@ -53,7 +55,7 @@ const NO_LINE: Line = Line {
 };
 
 // The counts, and the place of the first pair; or not good.
-#[derive(Drop)]
+#[derive(Clone, Copy)]
 pub struct Head {
     pub good: bool,
     pub rows: u64,
@@ -69,7 +71,7 @@ const NO_HEAD: Head = Head {
 };
 
 // Whether all lines are lines of pairs, and whether each number is 1 to n.
-#[derive(Drop)]
+#[derive(Clone, Copy)]
 pub struct Body {
     pub good: bool,
     pub fits: bool,

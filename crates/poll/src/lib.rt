@@ -1,4 +1,6 @@
 // The turn of a worker that polls: it answers the asker in its cell, and a batch begins.
+#![tactic(auto)]
+
 ghost use Rattle.std.specs.Prelude.{◌≡◌, true, false, List, ℕ, min, ◌-◌, ◌≤◌};
 ghost use Rattle.machine.specs.declared.frontier.Held.TheVariants.{Front, Back, Middle};
 ghost use Rattle.machine.specs.Machine.{shares as sharing};
@@ -18,7 +20,7 @@ use worker::{registers, stretch};
 
 // What a hand-over leaves: which part held the last reference kept, and the runs of the worker that
 // shares and of the asker.
-#[derive(Drop)]
+#[derive(Clone, Copy)]
 struct Parts {
     pub held: Held,
     pub kept: Top,

@@ -1,4 +1,6 @@
 // The text of a graph (SPECIFICATION 13): its length, and the text in a buffer of exactly that length.
+#![tactic(auto)]
+
 ghost use Rattle.std.specs.Prelude.{◌≡◌, ◌++◌, ℕ, suc, ◌+◌, ◌*◌, ◌≤◌, ◌<◌, length};
 ghost use Rattle.laws.specs.Blocks.{laid};
 ghost use Rattle.laws.specs.Every.{Every};

@@ -11,7 +11,7 @@ use desk::places;
 use worker::registers;
 
 // What the workers' words come to: how many have ended, and the sum of their sinces.
-#[derive(Drop)]
+#[derive(Clone, Copy)]
 pub struct Heads {
     pub sound: bool,
     pub ended: u64,

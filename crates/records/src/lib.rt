@@ -1,6 +1,7 @@
 // The catalogue's records (SPECIFICATION 1): their layout, what is read from them, and the store that
 // they are. The definitions stand in specs/, and what is proved of them in proofs/; here are the kinds'
 // numbers and the lengths. Crates `faults` and `fill` have the code on records, `catalogue` the calls.
+#![tactic(auto)]
 
 // What is due at a place: one of the kinds, or nothing more.
 pub const NOTHING: u16 = 0;

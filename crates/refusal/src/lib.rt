@@ -1,9 +1,11 @@
 // Refusals by cause and by number (SPECIFICATION 2), and what a check finds.
+#![tactic(auto)]
+
 ghost use Rattle.std.specs.Prelude.{◌≡◌};
 ghost use Rattle.refusal.specs.Number.{number, number_of};
 
 // Why a call is refused.
-#[derive(Drop)]
+#[derive(Clone, Copy)]
 pub enum Refusal {
     // 1: too few bytes left for a record, or promised records missing.
     Short,
@@ -46,7 +48,7 @@ pub enum Refusal {
 }
 
 // What a check finds.
-#[derive(Drop)]
+#[derive(Clone, Copy)]
 pub enum Verdict {
     Fine,
     Faulty(Refusal),

@@ -1,4 +1,6 @@
 // Taking references out (SPECIFICATION 12): what remains of the store, and the marks afresh on it.
+#![tactic(auto)]
+
 ghost use Rattle.std.specs.Prelude.{◌≡◌, true, map, ◌+◌, ◌*◌, ◌≤◌, ◌<◌, length, replicate};
 ghost use Rattle.slices.specs.Bits.{word_bits, many_words};
 ghost use Rattle.graph.specs.Graph.{graph, all_below};
@@ -117,7 +119,7 @@ fn keep_part(
 
 // How far what remains is written: the references below one number, the offsets of the objects below one, and where
 // the next target goes.
-#[derive(Drop)]
+#[derive(Clone, Copy)]
 pub struct Progress {
     pub reference: usize,
     pub object: usize,

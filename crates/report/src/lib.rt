@@ -1,5 +1,7 @@
 // From the bytes of the two files to the bytes of the answer: all of the program but opening,
 // reading and writing.
+#![tactic(auto)]
+
 mod collection;
 mod dead;
 mod files;

@@ -1,4 +1,6 @@
 // A collection that was stopped, taken up again.
+#![tactic(auto)]
+
 ghost use Rattle.std.specs.Prelude.{◌≤◌};
 ghost use Rattle.laws.specs.Decides.{Decides};
 ghost use Rattle.graph.specs.Limits.{most_references};
@@ -13,7 +15,7 @@ use refusal::{Refusal, Verdict};
 use worker::registers;
 
 // What a collection that was taken up comes to, and whether the words that are saved are sound.
-#[derive(Drop)]
+#[derive(Clone, Copy)]
 pub struct Resumed {
     pub marked: Marked,
     pub sound: bool,

@@ -1,4 +1,6 @@
 // Rounds of all workers, each naming the next one (SPECIFICATION 15).
+#![tactic(auto)]
+
 ghost use Rattle.std.specs.Prelude.{◌≡◌, ◌*◌, ◌≤◌, ◌<◌, length};
 ghost use Rattle.desk.specs.Limits.{most_workers};
 ghost use Rattle.rounds.specs.Whole.{next_of, round_from};
@@ -9,7 +11,7 @@ use step::{Progress, Setup};
 pub const MOST: usize = 32;
 
 // A collection that has begun.
-#[derive(Drop)]
+#[derive(Clone, Copy)]
 pub struct Begun {
     pub setup: Setup,
     pub progress: Progress,

@@ -1,1 +1,2 @@
 // What is proved of the words of a stopped collection, in proofs/.
+#![tactic(auto)]

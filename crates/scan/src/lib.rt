@@ -1,5 +1,7 @@
 // The calls `scan_length` and `scan` (SPECIFICATION 14): the mentions of names in texts. Any names,
 // texts and lists may come in.
+#![tactic(auto)]
+
 ghost use Rattle.std.specs.Prelude.{◌≡◌, true, ◌+◌, ◌*◌, ◌-◌, ◌≤◌, length};
 ghost use Rattle.refusal.specs.Number.{number_of};
 ghost use Rattle.desk.specs.Length.{length_row};
@@ -12,14 +14,14 @@ use names::{Order, WORK};
 use refusal::{Refusal, Verdict};
 
 // How many objects there are, and how wide a name is.
-#[derive(Drop)]
+#[derive(Clone, Copy)]
 pub struct Shape {
     pub objects: u32,
     pub width: u32,
 }
 
 // What the mentions of a text are written with: its owner, behind how many others, and the width.
-#[derive(Drop)]
+#[derive(Clone, Copy)]
 struct Put {
     owner: u32,
     top: usize,
@@ -27,14 +29,14 @@ struct Put {
 }
 
 // Where a text is read on: the place, and up to where its bytes were looked at.
-#[derive(Drop)]
+#[derive(Clone, Copy)]
 struct Cursor {
     at: usize,
     sure: usize,
 }
 
 // The place of a mention and the object mentioned; the text's end for none.
-#[derive(Drop)]
+#[derive(Clone, Copy)]
 struct Mention {
     place: usize,
     object: u32,

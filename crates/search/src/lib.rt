@@ -1,5 +1,7 @@
 // Breadth-first search by layers. A layer is a bag; each pennant of it fills a bag of its own with the
 // objects found from there, and the bags are joined to the next layer.
+#![tactic(auto)]
+
 ghost use Rattle.std.specs.Prelude.{◌≡◌, ℕ, ◌<◌, true, length, replicate};
 ghost use Rattle.laws.specs.Sum.{sum};
 ghost use Rattle.bag.specs.Bag.{slot_count, Bag, times, pennant_of, contents};

@@ -1,5 +1,7 @@
 // The rounds of a hand, worker by worker: each card is a round in which every worker below W has a
 // turn, in the card's order, and asks the one after it, the last the first.
+#![tactic(auto)]
+
 ghost use Rattle.std.specs.Prelude.{◌≡◌, length};
 ghost use Rattle.hands.specs.Deck.{digits, deck as all-cards};
 ghost use Rattle.hands.specs.Hand.{turns_of};

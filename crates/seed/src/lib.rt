@@ -1,19 +1,21 @@
 // Turns from a seed: two words of 32 bits, moved on at each draw, and the card that they give. The
 // schedule of so many draws is defined here; `seed_deal` has its call.
+#![tactic(auto)]
+
 ghost use Rattle.std.specs.Prelude.{◌≡◌};
 ghost use Rattle.seed.specs.Draw.{xorshifted, next, card_of, drawn_by, drawn};
 
 use refusal::Refusal;
 
 // The two words. They are where the caller keeps them.
-#[derive(Drop)]
+#[derive(Clone, Copy)]
 pub struct Seed {
     pub first: u32,
     pub second: u32,
 }
 
 // What a draw answers.
-#[derive(Drop)]
+#[derive(Clone, Copy)]
 pub enum Drawn {
     Card(u32),
     Refused(Refusal),
@@ -21,7 +23,7 @@ pub enum Drawn {
 
 // What the schedule of a seed answers: the seed as the draws leave it, or the refusal, beside which
 // the seed is as it was.
-#[derive(Drop)]
+#[derive(Clone, Copy)]
 pub enum Dealt {
     Moved(Seed),
     Refused(Refusal),
@@ -81,7 +83,7 @@ pub fn draw(seed: &mut Seed) -> Drawn
 }
 
 // A seed that a draw left, and what the draw answered.
-#[derive(Drop)]
+#[derive(Clone, Copy)]
 pub struct DrawLeft {
     pub seed: Seed,
     pub answer: Drawn,

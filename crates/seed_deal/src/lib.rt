@@ -1,4 +1,6 @@
 // The schedule of so many draws from a seed.
+#![tactic(auto)]
+
 ghost use Rattle.std.specs.Prelude.{◌≡◌, length};
 ghost use Rattle.hands.specs.Deck.{deck as all-cards};
 ghost use Rattle.cards.specs.Copying.{Tables};

@@ -1,5 +1,7 @@
 // What every kind of turn shares: the settings, how far the collection is, the entry of the schedule, and a tally
 // that is raised.
+#![tactic(auto)]
+
 pub mod counts;
 pub mod ring;
 
@@ -11,7 +13,7 @@ ghost use Rattle.step.specs.Raising.{Raisable, raised_words};
 use ring::Ring;
 
 // W, D, K and the length of a stretch.
-#[derive(Drop)]
+#[derive(Clone, Copy)]
 pub struct Setup {
     pub workers: u32,
     pub batch: u32,
@@ -22,7 +24,7 @@ pub struct Setup {
 // How far a collection is: what its tallies do not tell of its counts, how many workers have not
 // ended, and the token ring. Words of another width than the registers': the compiler joins the writing of the two where
 // they are of one.
-#[derive(Drop)]
+#[derive(Clone, Copy)]
 pub struct Progress {
     // The marks that no claim set.
     pub starts: u64,
@@ -35,14 +37,14 @@ pub struct Progress {
 
 // An entry of the schedule: the worker whose turn it is, and whom it asks. Bytes, as in the schedule: so
 // the compiler knows how large they are, and puts following into the loop.
-#[derive(Drop)]
+#[derive(Clone, Copy)]
 pub struct Entry {
     pub worker: u8,
     pub named: u8,
 }
 
 // A turn to be taken: with these settings, so far, and by this entry.
-#[derive(Drop)]
+#[derive(Clone, Copy)]
 pub struct Step {
     pub setup: Setup,
     pub progress: Progress,
@@ -51,7 +53,7 @@ pub struct Step {
 
 // How far a turn leaves the collection. Over is told by the turn in which the last worker ends; so no
 // other turn need be followed by a test.
-#[derive(Drop)]
+#[derive(Clone, Copy)]
 pub enum Outcome {
     Goes(Progress),
     Over(Progress),

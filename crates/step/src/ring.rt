@@ -4,7 +4,7 @@ ghost use Rattle.machine.specs.Ring.{shade as shadeOf, colour_of, blackened as b
 ghost use Rattle.step.specs.Ringing.{ring_with, ring_of, RingAt};
 
 // A colour is 1 for black and 0 for white; black workers are bits, worker 0 the lowest.
-#[derive(Drop)]
+#[derive(Clone, Copy)]
 pub struct Ring {
     pub holder: u64,
     pub token: u64,

@@ -1,5 +1,7 @@
 // The sweep of SPECIFICATION 5: the numbers of the unmarked objects, upwards, and the sum of their
 // sizes. Any marks, sizes and list may come in.
+#![tactic(auto)]
+
 ghost use Rattle.std.specs.Prelude.{◌≡◌, true, ◌+◌, ◌≤◌, length};
 ghost use Rattle.sweep.specs.Sweep.{all_fit, Listable, Listed, LiveFor, At, row, sweeping, list_after};
 ghost use Rattle.sweep.specs.Collection.{Collection};
@@ -8,7 +10,7 @@ use graph::{LARGEST_SIZE, MOST_OBJECTS};
 use refusal::Refusal;
 
 // What the sweep answers: how many objects are dead and the sum of their sizes, or the refusal.
-#[derive(Drop)]
+#[derive(Clone, Copy)]
 pub enum Swept {
     Dead { count: u32, freed: u64 },
     Refused(Refusal),
@@ -25,7 +27,7 @@ pub fn refusal_of(swept: Swept) -> u8
 }
 
 // How many dead objects are listed, and the sum of their sizes.
-#[derive(Drop)]
+#[derive(Clone, Copy)]
 struct Listing {
     count: usize,
     freed: u64,

@@ -1,6 +1,8 @@
 // The rounds of all cards, one behind the other, for some numbers of workers: the first eight bytes of
 // each, and what is left of each. They are constants, so a function that takes them has them in its
 // frame: whoever deals many cards takes them once.
+#![tactic(auto)]
+
 ghost use Rattle.std.specs.Prelude.{◌≡◌};
 ghost use Rattle.tables.specs.Table.{fronts, backs};
 

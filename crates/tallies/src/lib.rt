@@ -1,5 +1,7 @@
 // Whether the counts and the tallies of saved words are those of the marks, the starts and the workers
 // (SPECIFICATION 8.2).
+#![tactic(auto)]
+
 mod fields;
 
 ghost use Rattle.std.specs.Prelude.{◌≡◌, ◌<◌, ◌≤◌, length};
@@ -13,7 +15,7 @@ use desk::{Settings, places};
 use machine::Counts;
 
 // What the marks, the starts and the workers come to.
-#[derive(Drop)]
+#[derive(Clone, Copy)]
 pub struct Sums {
     pub live: u64,
     pub leaving: u64,

@@ -1,12 +1,14 @@
 // Lines of text in a lent buffer: words, decimal numbers, line ends. Each function writes behind
 // the first `at` bytes, leaves every other byte as it is, and returns how many bytes there are
 // then.
+#![tactic(auto)]
+
 ghost use Rattle.std.specs.Prelude.{◌+◌, ◌≤◌, ◌++◌, length};
 ghost use Rattle.slices.specs.Put.{Put, PutIn};
 ghost use Rattle.text.specs.Text.{Aligned, decimal, spaced, line};
 
 // Decimal digits, right-aligned: those of the number begin at `from`.
-#[derive(Drop)]
+#[derive(Clone, Copy)]
 struct Digits {
     bytes: [u8; 20],
     from: usize,

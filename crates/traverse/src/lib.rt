@@ -1,5 +1,7 @@
 // Looking at objects: those that references lead to and that have no hop count get one, and enter a
 // bag. An object's references, those of a tree's objects, and those of a pennant's.
+#![tactic(auto)]
+
 ghost use Rattle.std.specs.Prelude.{ℕ, ◌<◌, length};
 ghost use Rattle.laws.specs.Sum.{sum, hit};
 ghost use Rattle.bag.specs.Bag.{slot_count, tree_of, pennant_of};
@@ -10,7 +12,7 @@ ghost use Rattle.layers.specs.Search.{leads_to, Growable, Grown, Walkable, Apart
 pub const NONE: u32 = 4294967295;
 
 // A tree or a pennant of a bag: how high it is, and the object at its root.
-#[derive(Drop)]
+#[derive(Clone, Copy)]
 pub struct Tree {
     pub height: usize,
     pub root: u32,

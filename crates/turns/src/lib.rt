@@ -1,4 +1,6 @@
 // A turn of the machine on the lent memories: marks, work memory, tallies and registers.
+#![tactic(auto)]
+
 ghost use Rattle.step.specs.Held.{memory};
 ghost use Rattle.step.specs.Outcome.{progress_of, ToldOver};
 ghost use Rattle.step.specs.Turned.{Ready, Does};

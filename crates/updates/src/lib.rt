@@ -1,5 +1,7 @@
 // References that come and go (SPECIFICATION 12): what the calls that add them and take them out share. The
 // checks and promises of both stand in specs/.
+#![tactic(auto)]
+
 ghost use Rattle.std.specs.Prelude.{◌≡◌, ◌≤◌};
 ghost use Rattle.graph.specs.Limits.{most_objects};
 ghost use Rattle.desk.specs.Length.{length_row};
@@ -9,7 +11,7 @@ use desk::Length;
 use refusal::Refusal;
 
 // How long the buffers are that both calls are lent.
-#[derive(Drop)]
+#[derive(Clone, Copy)]
 pub struct Lengths {
     pub offsets: usize,
     pub targets: usize,

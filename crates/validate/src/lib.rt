@@ -1,4 +1,6 @@
 // Whether saved words hold a sound run (SPECIFICATION 8.2).
+#![tactic(auto)]
+
 ghost use Rattle.laws.specs.Decides.{Decides};
 ghost use Rattle.graph.specs.Graph.{graph};
 ghost use Rattle.validate.specs.Checked.{Checked, Saves, setting_of};

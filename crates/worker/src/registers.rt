@@ -48,7 +48,7 @@ pub const ALL: usize = BLOCK * 16;
 // The words of a block: status; batch; cell (0 empty, else the asker and 1); since as it will be
 // when the batch is done; how many references the runs hold beyond the batch; how many words of the stretch the runs below the first take; the first
 // run, from its next reference to its end; and where that reference leads.
-#[derive(Drop)]
+#[derive(Clone, Copy)]
 pub struct Block {
     pub status: u32,
     pub batch: u32,

@@ -10,7 +10,7 @@ use machine::frontier::Held;
 
 // The run being followed, from its next reference to its end, and how many words the others take.
 // Where first is the end, there is none.
-#[derive(Drop)]
+#[derive(Clone, Copy)]
 pub struct Top {
     pub used: u32,
     pub first: u32,
@@ -55,7 +55,7 @@ pub fn behind_front(s: &[u32], top: Top, k: u32) -> Top
 
 // Where the first k references end: they are the runs above the pair that ends at `place`, and
 // the first `left` references of that pair's run.
-#[derive(Drop)]
+#[derive(Clone, Copy)]
 pub struct Cut {
     pub place: u32,
     pub left: u32,

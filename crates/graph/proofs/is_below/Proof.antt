@@ -8,20 +8,20 @@ use Rattle.graph.proofs.Scan.{below_none, below_all}
 use Rattle.graph.proofs.is_below.Statement.{statement}
 use Rattle.graph.proofs.is_below.Tie as tie
 
-returns : tie.Need-returns
-returns c = rw c.if1.true (sym (below_none _))
+returns-then-n-eq0 : tie.Need-returns-then-n-eq0
+returns-then-n-eq0 c = rw c.if-n-eq0.true (sym (below_none _))
 
-returns_2 : tie.Need-returns-2
-returns_2 c =
+returns-then-n-ge-WORDS : tie.Need-returns-then-n-ge-WORDS
+returns-then-n-ge-WORDS c =
     let k = c.before.before in
-    sym (below_all _ _ (λ i. omega (arith, k.shared_slice_known.given i, c.if2.true)))
+    sym (below_all _ _ (λ i. omega (arith, k.shared_slice_known-1.given i, c.if-n-ge-WORDS.true)))
 
-returns_3 : tie.Need-returns-3
-returns_3 c =
+returns : tie.Need-returns
+returns c =
     let e = c.before.before in
     let s = e.before.before in
-    let n : s.args.n - 1 + 1 ≡ s.args.n = omega (arith, e.if1.false) in
+    let n : s.args.n - 1 + 1 ≡ s.args.n = omega (arith, e.if-n-eq0.false) in
     c.is_at_most.ensures ∙ ap (λ (n : ℕ). all_below n s.args.numbers.now) n
 
 pub is_below_spec : {M : Type 1} → statement M
-is_below_spec = tie.close (tie.spec returns returns_2 (λ c. omega (arith, c.before.if1.false)) (λ c. omega (arith, c.if2.false)) (λ c κs. search rules) returns_3)
+is_below_spec = tie.close (tie.spec returns-then-n-eq0 returns-then-n-ge-WORDS (λ c. omega (arith, c.if-n-eq0.false)) (λ c. omega (arith, c.if-n-ge-WORDS.false)) (λ c κs. search rules) returns)

@@ -9,30 +9,30 @@ use borrow.Author.Rules.{rules}
 use Rattle.graph.proofs.well_formed.Statement.{statement}
 use Rattle.graph.proofs.well_formed.Tie as tie
 
-returns_3 : tie.Need-returns-3
-returns_3 c =
+returns-then-not-is_rising : tie.Need-returns-then-not-is_rising
+returns-then-not-is_rising c =
     let test = c.before in
-    sym (formed_fall _ _ (omega arith) test.before.if2.false (sym test.is_rising.ensures ∙ not-true _ c.if3.true))
+    sym (formed_fall _ _ (omega arith) test.if-offsets-ne0.false (sym test.is_rising.ensures ∙ not-true _ c.if-not-is_rising.true-raw))
 
-returns_4 : tie.Need-returns-4
-returns_4 c =
+returns-then-offsets-n : tie.Need-returns-then-offsets-n
+returns-then-offsets-n c =
     let rises = c.before.before in
     let test = rises.before in
-    let rising = sym test.is_rising.ensures ∙ not-false _ rises.if3.false in
-    sym (formed_last _ _ (omega arith) test.before.if2.false rising c.if4.true)
+    let rising = sym test.is_rising.ensures ∙ not-false _ rises.if-not-is_rising.false-raw in
+    sym (formed_last _ _ (omega arith) test.if-offsets-ne0.false rising c.if-offsets-n.true)
 
-returns_5 : tie.Need-returns-5
-returns_5 c =
+returns : tie.Need-returns
+returns c =
     let rises = c.before.before.before in
     let test = rises.before in
-    let rising = sym test.is_rising.ensures ∙ not-false _ rises.if3.false in
-    c.is_below.ensures ∙ sym (formed_rest _ _ (omega arith) test.before.if2.false rising c.before.if4.false)
+    let rising = sym test.is_rising.ensures ∙ not-false _ rises.if-not-is_rising.false-raw in
+    c.is_below.ensures ∙ sym (formed_rest _ _ (omega arith) test.if-offsets-ne0.false rising c.if-offsets-n.false)
 
 pub well_formed_spec : {M : Type 1} → statement M
 well_formed_spec =
     tie.close
-    (tie.spec (λ c. sym (formed_none _ _ c.if1.true)) (λ c. search rules)
-    (λ c. sym (formed_first _ _ (omega arith) c.if2.true)) (λ c. search rules) (λ c κs. search rules) returns_3
+    (tie.spec (λ c. sym (formed_none _ _ c.if-offsets-eq0.true)) (λ c. search rules)
+    (λ c. sym (formed_first _ _ (omega arith) c.if-offsets-ne0.true)) (λ c. search rules) (λ c κs. search rules) returns-then-not-is_rising
     (λ c. search rules) (λ c. search rules)
-    (λ c. omega (arith, c.shared_slice_known4.given (length c.before.before.before.before.before.before.before.before.args.offsets.now - 1)))
-    returns_4 (λ c κs. search rules) returns_5)
+    (λ c. omega (arith, c.shared_slice_known-4-1.given (length c.args.offsets.now - 1)))
+    returns-then-offsets-n (λ c κs. search rules) returns)

@@ -5,9 +5,9 @@ use Rattle.refusal.specs.Number.{number_of}
 use Rattle.refusal.proofs.verdict_number.Statement.{statement}
 use Rattle.refusal.proofs.verdict_number.Tie as tie
 
-returns_2 : tie.Need-returns-2
-returns_2 c = c.number_of_lem.ensures ∙ sym (ap number_of c.before.before.v.given.1)
+returns-in-Faulty : tie.Need-returns-in-Faulty
+returns-in-Faulty c = c.number_of.ensures ∙ sym (ap number_of c.in-Faulty.is)
 
 pub verdict_number_spec : {M : Type 1} → statement M
 verdict_number_spec =
-    tie.close (tie.spec (λ c. search rules) (λ c. search rules) (λ c κs. search rules) (λ c. search rules) returns_2)
+    tie.close (tie.spec (λ c. search rules) (λ c. search rules) (λ c κs. search rules) (λ c. search rules) returns-in-Faulty)
