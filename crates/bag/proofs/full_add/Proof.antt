@@ -4,67 +4,67 @@ use Rattle.bag.proofs.Adder.{rooted, filled_is, case_none, case_second, case_fir
 use Rattle.bag.proofs.full_add.Statement.{statement}
 use Rattle.bag.proofs.full_add.Tie as tie
 
-returns : tie.Need-returns
-returns c = case_none c.before.if1.true c.if2.true
+returns-then-y-eq0 : tie.Need-returns-then-y-eq0
+returns-then-y-eq0 c = case_none c.if-x-eq0.true c.if-y-eq0.true
 
-returns_2 : tie.Need-returns-2
-returns_2 c = let e = c.before in case_second e.before.if1.true (filled_is _ e.if2.false) c.if3.true
+returns-then-z-eq0 : tie.Need-returns-then-z-eq0
+returns-then-z-eq0 c = let e = c.before in case_second e.if-x-eq0.true (filled_is _ e.if-y-eq0.false) c.if-z-eq0.true
 
-unite_requires : tie.Need-unite-requires
-unite_requires c κs =
+unite-requires : tie.Need-unite-requires
+unite-requires c κs =
     let e = c.before in
-    let p = e.before.before.before.before.requires in
-    (rooted _ _ e.before.if2.false p.second, rooted _ _ e.if3.false p.third)
+    let p = e.requires in
+    (rooted _ _ e.if-y-eq0.false p.second, rooted _ _ e.if-z-eq0.false p.third)
 
-returns_3 : tie.Need-returns-3
-returns_3 c =
+returns-then-x-eq0 : tie.Need-returns-then-x-eq0
+returns-then-x-eq0 c =
     let u = c.before.before in
     let e = u.before.before in
-    case_later e.before.before.if1.true (filled_is _ e.before.if2.false) (filled_is _ e.if3.false) u.unite.ensures
+    case_later e.if-x-eq0.true (filled_is _ e.if-y-eq0.false) (filled_is _ e.if-z-eq0.false) u.unite.ensures
 
-returns_4 : tie.Need-returns-4
-returns_4 c = let e = c.before in case_first (filled_is _ e.before.if1.false) e.if4.true c.if5.true
+returns-then-z-eq0-2 : tie.Need-returns-then-z-eq0-2
+returns-then-z-eq0-2 c = let e = c.before in case_first (filled_is _ e.if-x-eq0.false) e.if-y-eq0-2.true c.if-z-eq0-2.true
 
-unite_requires_2 : tie.Need-unite-requires-2
-unite_requires_2 c κs =
+unite-requires-then-y-eq0-2 : tie.Need-unite-requires-then-y-eq0-2
+unite-requires-then-y-eq0-2 c κs =
     let e = c.before in
     let f = e.before.before in
-    let p = f.before.before.requires in
-    (rooted _ _ f.if1.false p.first, rooted _ _ e.if5.false p.third)
+    let p = f.requires in
+    (rooted _ _ f.if-x-eq0.false p.first, rooted _ _ e.if-z-eq0-2.false p.third)
 
-returns_5 : tie.Need-returns-5
-returns_5 c =
+returns-then-y-eq0-2 : tie.Need-returns-then-y-eq0-2
+returns-then-y-eq0-2 c =
     let u = c.before.before in
     let e = u.before.before in
-    case_outer (filled_is _ e.before.before.if1.false) e.before.if4.true (filled_is _ e.if5.false) u.unite2.ensures
+    case_outer (filled_is _ e.if-x-eq0.false) e.if-y-eq0-2.true (filled_is _ e.if-z-eq0-2.false) u.unite-then-y-eq0-2.ensures
 
-unite_requires_3 : tie.Need-unite-requires-3
-unite_requires_3 c κs =
+unite-requires-then-z-eq0-3 : tie.Need-unite-requires-then-z-eq0-3
+unite-requires-then-z-eq0-3 c κs =
     let e = c.before.before in
-    let p = e.before.before.before.requires in
-    (rooted _ _ e.before.if1.false p.first, rooted _ _ e.if4.false p.second)
+    let p = e.requires in
+    (rooted _ _ e.if-x-eq0.false p.first, rooted _ _ e.if-y-eq0-2.false p.second)
 
-returns_6 : tie.Need-returns-6
-returns_6 c =
+returns-then-z-eq0-3 : tie.Need-returns-then-z-eq0-3
+returns-then-z-eq0-3 c =
     let u = c.before.before in
     let t = u.before.before in
-    case_both (filled_is _ t.before.before.if1.false) (filled_is _ t.before.if4.false) t.if6.true u.unite3.ensures
+    case_both (filled_is _ t.if-x-eq0.false) (filled_is _ t.if-y-eq0-2.false) t.if-z-eq0-3.true u.unite-then-z-eq0-3.ensures
 
-unite_requires_4 : tie.Need-unite-requires-4
-unite_requires_4 c κs =
+unite-requires-2 : tie.Need-unite-requires-2
+unite-requires-2 c κs =
     let t = c.before in
-    let p = t.before.before.before.before.requires in
-    (rooted _ _ t.before.if4.false p.second, rooted _ _ t.if6.false p.third)
+    let p = t.requires in
+    (rooted _ _ t.if-y-eq0-2.false p.second, rooted _ _ t.if-z-eq0-3.false p.third)
 
-returns_7 : tie.Need-returns-7
-returns_7 c =
+returns : tie.Need-returns
+returns c =
     let u = c.before.before in
     let t = u.before.before in
-    case_all (filled_is _ t.before.before.if1.false) (filled_is _ t.before.if4.false) (filled_is _ t.if6.false) u.unite4.ensures
+    case_all (filled_is _ t.if-x-eq0.false) (filled_is _ t.if-y-eq0-2.false) (filled_is _ t.if-z-eq0-3.false) u.unite-2.ensures
 
 pub full_add_spec : {M : Type 1} → statement M
 full_add_spec =
     tie.close
-    (tie.spec returns returns_2 (λ c. search rules) (λ c. search rules) unite_requires (λ c. search rules) returns_3 returns_4
-    (λ c. search rules) (λ c. search rules) unite_requires_2 (λ c. search rules) returns_5 (λ c. search rules) (λ c. search rules)
-    unite_requires_3 (λ c. search rules) returns_6 (λ c. search rules) (λ c. search rules) unite_requires_4 (λ c. search rules) returns_7)
+    (tie.spec returns-then-y-eq0 returns-then-z-eq0 (λ c. search rules) (λ c. search rules) unite-requires (λ c. search rules) returns-then-x-eq0 returns-then-z-eq0-2
+    (λ c. search rules) (λ c. search rules) unite-requires-then-y-eq0-2 (λ c. search rules) returns-then-y-eq0-2 (λ c. search rules) (λ c. search rules)
+    unite-requires-then-z-eq0-3 (λ c. search rules) returns-then-z-eq0-3 (λ c. search rules) (λ c. search rules) unite-requires-2 (λ c. search rules) returns)

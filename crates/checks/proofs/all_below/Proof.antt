@@ -10,16 +10,16 @@ use Rattle.desk.proofs.Checks.{so, inside}
 use Rattle.checks.proofs.all_below.Statement.{statement}
 use Rattle.checks.proofs.all_below.Tie as tie
 
-within : (c : tie.Else1) → let W = c.before.before.before.args.workers in (1 ≤ W) × (W ≤ most_workers)
-within c = inside most_workers _ (so c.before.workers_outside.ensures c.if1.false)
+within : (c : tie.Else-workers_outside) → let W = c.args.workers in (1 ≤ W) × (W ≤ most_workers)
+within c = inside most_workers _ (so c.workers_outside.ensures c.if-workers_outside.false)
 
-returns_2 : tie.Need-returns-2
-returns_2 c =
-    let a = c.before.before.before.before.args in
+returns : tie.Need-returns
+returns c =
+    let a = c.args in
     let n : a.workers - 1 + 1 ≡ a.workers = omega (arith, within c.before) in
     λ z. sym (c.is_at_most.ensures ∙ ap (λ (n : ℕ). all_below n a.bytes.now) n) ∙ z
 
 pub all_below_spec : {M : Type 1} → statement M
 all_below_spec =
     tie.close
-    (tie.spec (λ c κs. search rules) (λ c z. never z refl) (λ c. omega (arith, within c)) (λ c. omega (arith, within c)) (λ c κs. search rules) returns_2)
+    (tie.spec (λ c κs. search rules) (λ c z. never z refl) (λ c. omega (arith, within c)) (λ c. omega (arith, within c)) (λ c κs. search rules) returns)

@@ -5,18 +5,18 @@ use Rattle.desk.proofs.Checks.{so}
 use Rattle.checks.proofs.check_graph.Statement.{statement}
 use Rattle.checks.proofs.check_graph.Tie as tie
 
+returns-then-graph_outside : tie.Need-returns-then-graph_outside
+returns-then-graph_outside c = rw (so c.graph_outside.ensures c.if-graph_outside.true)
+
+returns-then-not-well_formed : tie.Need-returns-then-not-well_formed
+returns-then-not-well_formed c =
+    let t = c.before.before in
+    rw (so t.graph_outside.ensures t.if-graph_outside.false, so c.well_formed-2.ensures (not-true _ c.if-not-well_formed.true-raw))
+
 returns : tie.Need-returns
-returns c = rw (so c.before.graph_outside.ensures c.if1.true)
-
-returns_2 : tie.Need-returns-2
-returns_2 c =
+returns c =
     let t = c.before.before in
-    rw (so t.before.graph_outside.ensures t.if1.false, so c.before.well_formed_2.ensures (not-true _ c.if2.true))
-
-returns_3 : tie.Need-returns-3
-returns_3 c =
-    let t = c.before.before in
-    rw (so t.before.graph_outside.ensures t.if1.false, so c.before.well_formed_2.ensures (not-false _ c.if2.false))
+    rw (so t.graph_outside.ensures t.if-graph_outside.false, so c.well_formed-2.ensures (not-false _ c.if-not-well_formed.false-raw))
 
 pub check_graph_spec : {M : Type 1} → statement M
-check_graph_spec = tie.close (tie.spec (λ c κs. search rules) returns (λ c κs. search rules) returns_2 returns_3)
+check_graph_spec = tie.close (tie.spec (λ c κs. search rules) returns-then-graph_outside (λ c κs. search rules) returns-then-not-well_formed returns)

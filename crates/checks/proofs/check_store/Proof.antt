@@ -8,41 +8,41 @@ use Rattle.desk.proofs.Checks.{so}
 use Rattle.checks.proofs.check_store.Statement.{statement}
 use Rattle.checks.proofs.check_store.Tie as tie
 
-returns : tie.Need-returns
-returns c = rw (so c.before.well_formed_2.ensures (not-true _ c.if1.true))
+returns-then-not-well_formed : tie.Need-returns-then-not-well_formed
+returns-then-not-well_formed c = rw (so c.well_formed-2.ensures (not-true _ c.if-not-well_formed.true-raw))
 
-returns_2 : tie.Need-returns-2
-returns_2 c =
+returns-then-out_of_range : tie.Need-returns-then-out_of_range
+returns-then-out_of_range c =
     let g = c.before.before in
-    rw (so g.before.well_formed_2.ensures (not-false _ g.if1.false), so c.before.out_of_range.ensures c.if2.true)
+    rw (so g.well_formed-2.ensures (not-false _ g.if-not-well_formed.false-raw), so c.out_of_range.ensures c.if-out_of_range.true)
 
-sub_n : tie.Need-overflow-sub-n
-sub_n c =
+overflow_sub-n : tie.Need-overflow_sub-n
+overflow_sub-n c =
     let g = c.before.before in
-    let a = g.before.before.before.before.before.args in
-    omega (arith, (formed (graph a.offsets.now a.targets.now) (so g.before.well_formed_2.ensures (not-false _ g.if1.false))).some)
+    let a = g.args in
+    omega (arith, (formed (graph a.offsets.now a.targets.now) (so g.well_formed-2.ensures (not-false _ g.if-not-well_formed.false-raw))).some)
 
-returns_3 : tie.Need-returns-3
-returns_3 c =
+returns-then-not-is_below : tie.Need-returns-then-not-is_below
+returns-then-not-is_below c =
     let s = c.before.before in
     let g = s.before.before in
     rw (
-      so g.before.well_formed_2.ensures (not-false _ g.if1.false),
-      so s.before.out_of_range.ensures s.if2.false,
-      so c.before.is_below.ensures (not-true _ c.if3.true),
+      so g.well_formed-2.ensures (not-false _ g.if-not-well_formed.false-raw),
+      so s.out_of_range.ensures s.if-out_of_range.false,
+      so c.is_below.ensures (not-true _ c.if-not-is_below.true-raw),
     )
 
-returns_4 : tie.Need-returns-4
-returns_4 c =
+returns : tie.Need-returns
+returns c =
     let s = c.before.before in
     let g = s.before.before in
     rw (
-      so g.before.well_formed_2.ensures (not-false _ g.if1.false),
-      so s.before.out_of_range.ensures s.if2.false,
-      so c.before.is_below.ensures (not-false _ c.if3.false),
+      so g.well_formed-2.ensures (not-false _ g.if-not-well_formed.false-raw),
+      so s.out_of_range.ensures s.if-out_of_range.false,
+      so c.is_below.ensures (not-false _ c.if-not-is_below.false-raw),
     )
 
 pub check_store_spec : {M : Type 1} → statement M
 check_store_spec =
     tie.close
-    (tie.spec (λ c κs. search rules) returns (λ c κs. search rules) returns_2 sub_n (λ c κs. search rules) returns_3 returns_4)
+    (tie.spec (λ c κs. search rules) returns-then-not-well_formed (λ c κs. search rules) returns-then-out_of_range overflow_sub-n (λ c κs. search rules) returns-then-not-is_below returns)

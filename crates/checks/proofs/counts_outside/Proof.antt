@@ -4,11 +4,11 @@ use Rattle.desk.proofs.Checks.{so}
 use Rattle.checks.proofs.counts_outside.Statement.{statement}
 use Rattle.checks.proofs.counts_outside.Tie as tie
 
-returns : tie.Need-returns
-returns c = rw (so c.before.out_of_range.ensures c.if1.true)
+returns-then-out_of_range : tie.Need-returns-then-out_of_range
+returns-then-out_of_range c = rw (so c.out_of_range.ensures c.if-out_of_range.true)
 
-returns_2 : tie.Need-returns-2
-returns_2 c = rw (so c.before.out_of_range.ensures c.if1.false)
+returns : tie.Need-returns
+returns c = rw (so c.out_of_range.ensures c.if-out_of_range.false)
 
 pub counts_outside_spec : {M : Type 1} → statement M
-counts_outside_spec = tie.close (tie.spec (λ c κs. search rules) returns returns_2)
+counts_outside_spec = tie.close (tie.spec (λ c κs. search rules) returns-then-out_of_range returns)

@@ -9,38 +9,38 @@ use Rattle.desk.proofs.Schedule.{fits_done, entry_wrong, entry_right}
 use Rattle.checks.proofs.entries_fit.Statement.{statement}
 use Rattle.checks.proofs.entries_fit.Tie as tie
 
-abbrev invariant_loop : tie.invariant-loop
+abbrev invariant_loop : tie.invariant-loop-k
 invariant_loop schedule workers entries wrong₀ k₀ wrong k = (k ≤ entries) × Scan (schedule_fits workers (drop (2 * k) schedule)) (schedule_fits workers schedule) wrong
 
-abbrev decreases_loop : tie.decreases-loop
+abbrev decreases_loop : tie.decreases-loop-k
 decreases_loop schedule workers entries wrong₀ k₀ wrong k = entries - k
 
-loop_holds : tie.Need-loop-init invariant_loop decreases_loop
-loop_holds c = (omega arith, scan_start (schedule_fits c.args.workers c.args.schedule.now))
+loop-k-init : tie.Need-loop-k-init invariant_loop decreases_loop
+loop-k-init c = (omega arith, scan_start (schedule_fits c.args.workers c.args.schedule.now))
 
-cast_b : tie.Need-overflow-cast-b invariant_loop decreases_loop
-cast_b c = omega (arith, c.shared_slice_known.given (2 * c.before.before.loop.k))
+overflow_cast-b : tie.Need-overflow_cast-b invariant_loop decreases_loop
+overflow_cast-b c = omega (arith, c.shared_slice_known-1.given (2 * c.loop-k.k))
 
-loop_again : tie.Need-loop-preserved invariant_loop decreases_loop
-loop_again c =
-    let a = c.before.before.before.before.args in
-    let l = c.before.before.before.loop in
+loop-k-preserved : tie.Need-loop-k-preserved invariant_loop decreases_loop
+loop-k-preserved c =
+    let a = c.args in
+    let l = c.loop-k in
     let room : 2 * l.k + 2 ≤ length a.schedule.now = omega arith in (
       omega arith,
       ⊎_elim
-          (λ w. rw w.1 (scan_wrong l.invariant.1 (entry_wrong a.workers a.schedule.now l.k room (omega (arith, w.0.taken)))))
-          (λ w. rw w.1 (scan_right l.invariant.1 (entry_right a.workers a.schedule.now l.k room (omega (arith, w.0.left)))))
-          c.if1.branch,
+          (λ w. rw w.wrong-is (scan_wrong l.invariant.1 (entry_wrong a.workers a.schedule.now l.k room (omega (arith, w.if-workers-b.true)))))
+          (λ w. rw w.wrong-is (scan_right l.invariant.1 (entry_right a.workers a.schedule.now l.k room (omega (arith, w.if-workers-b.false)))))
+          c.if-workers-b.branch-raw,
     )
 
 returns : tie.Need-returns invariant_loop decreases_loop
 returns c =
-    let a = c.before.before.args in
-    let l = c.before.loop in
+    let a = c.args in
+    let l = c.loop-k in
     scan_end l.invariant.1 (fits_done a.workers a.schedule.now (2 * l.k) (omega arith))
 
 pub entries_fit_spec : {M : Type 1} → statement M
 entries_fit_spec =
     tie.close
-    (tie.spec invariant_loop decreases_loop loop_holds (λ c. omega arith) (λ c. omega arith) cast_b
-    (λ c. omega arith) (λ c. omega arith) loop_again returns)
+    (tie.spec invariant_loop decreases_loop loop-k-init (λ c. omega arith) (λ c. omega arith) overflow_cast-b
+    (λ c. omega arith) (λ c. omega arith) loop-k-preserved returns)

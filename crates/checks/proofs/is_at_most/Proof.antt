@@ -10,31 +10,31 @@ use Rattle.graph.proofs.Scan.{below_step, below_stop, below_end}
 use Rattle.checks.proofs.is_at_most.Statement.{statement}
 use Rattle.checks.proofs.is_at_most.Tie as tie
 
-abbrev invariant_loop : tie.invariant-loop
+abbrev invariant_loop : tie.invariant-loop-i
 invariant_loop most bytes wrong₀ i₀ i_end wrong i = (i ≤ length bytes) × Scan (all_below (most + 1) (drop i bytes)) (all_below (most + 1) bytes) wrong
 
-abbrev decreases_loop : tie.decreases-loop
+abbrev decreases_loop : tie.decreases-loop-i
 decreases_loop most bytes wrong₀ i₀ i_end wrong i = length bytes - i
 
-loop_holds : tie.Need-loop-init invariant_loop decreases_loop
-loop_holds c = (omega arith, scan_start _)
+loop-i-init : tie.Need-loop-i-init invariant_loop decreases_loop
+loop-i-init c = (omega arith, scan_start _)
 
-loop_again : tie.Need-loop-preserved invariant_loop decreases_loop
-loop_again c =
+loop-i-preserved : tie.Need-loop-i-preserved invariant_loop decreases_loop
+loop-i-preserved c =
     let tested = c.before.before in
-    let l = tested.before.loop in
-    let h = tested.loop_test.true in (
+    let l = tested.loop-i in
+    let h = tested.loop-i-test.true in (
       omega arith,
       ⊎_elim
-          (λ w. rw w.1 (scan_wrong l.invariant.1 (below_stop _ _ _ h (omega (arith, w.0.taken)))))
-          (λ w. rw w.1 (scan_right l.invariant.1 (below_step _ _ _ h (omega (arith, w.0.left)))))
-          c.if1.branch,
+          (λ w. rw w.wrong-is (scan_wrong l.invariant.1 (below_stop _ _ _ h (omega (arith, w.if-most-bytes.true)))))
+          (λ w. rw w.wrong-is (scan_right l.invariant.1 (below_step _ _ _ h (omega (arith, w.if-most-bytes.false)))))
+          c.if-most-bytes.branch-raw,
     )
 
 returns : tie.Need-returns invariant_loop decreases_loop
-returns c = scan_end c.before.loop.invariant.1 (below_end _ _ _ c.loop_test.false)
+returns c = scan_end c.loop-i.invariant.1 (below_end _ _ _ c.loop-i-test.false)
 
 pub is_at_most_spec : {M : Type 1} → statement M
 is_at_most_spec =
     tie.close
-    (tie.spec invariant_loop decreases_loop loop_holds (λ c. search rules) (λ c. search rules) (λ c. search rules) loop_again returns)
+    (tie.spec invariant_loop decreases_loop loop-i-init (λ c. search rules) (λ c. search rules) (λ c. search rules) loop-i-preserved returns)

@@ -7,45 +7,45 @@ use Rattle.desk.proofs.Checks.{so}
 use Rattle.checks.proofs.lengths_wrong.Statement.{statement}
 use Rattle.checks.proofs.lengths_wrong.Tie as tie
 
-returns : tie.Need-returns
-returns c = rw (so c.before.saved_wrong.ensures c.if1.true)
+returns-then-saved_wrong : tie.Need-returns-then-saved_wrong
+returns-then-saved_wrong c = rw (so c.saved_wrong.ensures c.if-saved_wrong.true)
 
-returns_2 : tie.Need-returns-2
-returns_2 c =
+returns-then-l-n : tie.Need-returns-then-l-n
+returns-then-l-n c =
     let saved = c.before.before in
-    rw (so saved.before.saved_wrong.ensures saved.if1.false, ne_eqb _ _ c.if2.true)
+    rw (so saved.saved_wrong.ensures saved.if-saved_wrong.false, ne_eqb _ _ c.if-l-n.true)
 
-mul_if3 : tie.Need-overflow-mul-if3
-mul_if3 c =
+overflow_mul-workers : tie.Need-overflow_mul-workers
+overflow_mul-workers c =
     let start = c.before.before.before.before.before in
     rw c.stretch.ensures (omega (arith, work_small start.args.n start.args.workers start.requires.0 start.requires.1))
 
-returns_3 : tie.Need-returns-3
-returns_3 c =
+returns-then-l-workers : tie.Need-returns-then-l-workers
+returns-then-l-workers c =
     let long = c.before.before in
     let marks = long.before in
     let saved = marks.before.before in
     rw (
-      so saved.before.saved_wrong.ensures saved.if1.false,
-      eq-eqb _ _ marks.if2.false,
+      so saved.saved_wrong.ensures saved.if-saved_wrong.false,
+      eq-eqb _ _ marks.if-l-n.false,
       ← long.stretch.ensures,
-      ne_eqb _ _ c.if3.true,
+      ne_eqb _ _ c.if-l-workers.true,
     )
 
-returns_4 : tie.Need-returns-4
-returns_4 c =
+returns : tie.Need-returns
+returns c =
     let work = c.before in
     let long = work.before.before in
     let marks = long.before in
     let saved = marks.before.before in
     rw (
-      so saved.before.saved_wrong.ensures saved.if1.false,
-      eq-eqb _ _ marks.if2.false,
+      so saved.saved_wrong.ensures saved.if-saved_wrong.false,
+      eq-eqb _ _ marks.if-l-n.false,
       ← long.stretch.ensures,
-      eq-eqb _ _ work.if3.false,
+      eq-eqb _ _ work.if-l-workers.false,
     )
 
 pub lengths_wrong_spec : {M : Type 1} → statement M
 lengths_wrong_spec =
     tie.close
-    (tie.spec (λ c κs. search rules) returns returns_2 (λ c κs. search rules) mul_if3 returns_3 (λ c. search rules) returns_4)
+    (tie.spec (λ c κs. search rules) returns-then-saved_wrong returns-then-l-n (λ c κs. search rules) overflow_mul-workers returns-then-l-workers (λ c. search rules) returns)

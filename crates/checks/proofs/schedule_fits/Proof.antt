@@ -8,17 +8,17 @@ use Rattle.desk.proofs.Schedule.{fits_odd, fits_below}
 use Rattle.checks.proofs.schedule_fits.Statement.{statement}
 use Rattle.checks.proofs.schedule_fits.Tie as tie
 
-returns : tie.Need-returns
-returns c = let a = c.before.before.args in sym (fits_odd a.workers a.schedule.now (λ k e. c.if1.true (omega arith)))
+returns-then-entries-schedule : tie.Need-returns-then-entries-schedule
+returns-then-entries-schedule c = let a = c.args in sym (fits_odd a.workers a.schedule.now (λ k e. c.if-entries-schedule.true (omega arith)))
 
-returns_2 : tie.Need-returns-2
-returns_2 c =
+returns-then-all_below : tie.Need-returns-then-all_below
+returns-then-all_below c =
     let found = c.before in
-    let a = found.before.before.before.args in
-    sym (fits_below a.workers a.schedule.now (found.all_below.ensures c.if2.true) (length a.schedule.now / 2) (omega (arith, found.before.if1.false)))
+    let a = found.args in
+    sym (fits_below a.workers a.schedule.now (found.all_below.ensures c.if-all_below.true) (length a.schedule.now / 2) (omega (arith, found.if-entries-schedule.false)))
 
 pub schedule_fits_spec : {M : Type 1} → statement M
 schedule_fits_spec =
     tie.close
-    (tie.spec (λ c. omega arith) returns (λ c κs. search rules) returns_2 (λ c κs. omega (arith, c.before.before.if1.false))
+    (tie.spec (λ c. omega arith) returns-then-entries-schedule (λ c κs. search rules) returns-then-all_below (λ c κs. omega (arith, c.if-entries-schedule.false))
     (λ c. c.entries_fit.ensures))

@@ -4,23 +4,23 @@ use Rattle.desk.proofs.Checks.{so}
 use Rattle.checks.proofs.settings_outside.Statement.{statement}
 use Rattle.checks.proofs.settings_outside.Tie as tie
 
-returns : tie.Need-returns
-returns c = rw (so c.before.workers_outside.ensures c.if1.true)
+returns-then-workers_outside : tie.Need-returns-then-workers_outside
+returns-then-workers_outside c = rw (so c.workers_outside.ensures c.if-workers_outside.true)
 
-returns_2 : tie.Need-returns-2
-returns_2 c =
+returns-then-out_of_range : tie.Need-returns-then-out_of_range
+returns-then-out_of_range c =
     let first = c.before.before.before in
-    rw (so first.before.workers_outside.ensures first.if1.false, so c.before.out_of_range.ensures c.if2.true)
+    rw (so first.workers_outside.ensures first.if-workers_outside.false, so c.out_of_range.ensures c.if-out_of_range.true)
 
-returns_3 : tie.Need-returns-3
-returns_3 c =
+returns : tie.Need-returns
+returns c =
     let second = c.before.before in
     let first = second.before.before.before in
-    rw (so first.before.workers_outside.ensures first.if1.false, so second.before.out_of_range.ensures second.if2.false)
-    c.out_of_range2.ensures
+    rw (so first.workers_outside.ensures first.if-workers_outside.false, so second.out_of_range.ensures second.if-out_of_range.false)
+    c.out_of_range-2.ensures
 
 pub settings_outside_spec : {M : Type 1} → statement M
 settings_outside_spec =
     tie.close
-    (tie.spec (λ c κs. search rules) returns (λ c. search rules) (λ c. search rules) (λ c κs. search rules) returns_2
-    (λ c. search rules) (λ c. search rules) (λ c κs. search rules) returns_3)
+    (tie.spec (λ c κs. search rules) returns-then-workers_outside (λ c. search rules) (λ c. search rules) (λ c κs. search rules) returns-then-out_of_range
+    (λ c. search rules) (λ c. search rules) (λ c κs. search rules) returns)

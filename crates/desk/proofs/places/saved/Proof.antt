@@ -5,19 +5,19 @@ use Rattle.desk.proofs.Bounded.{work_small}
 use Rattle.desk.proofs.places.saved.Statement.{statement}
 use Rattle.desk.proofs.places.saved.Tie as tie
 
-mul_result : tie.Need-overflow-mul-result
-mul_result c =
+overflow_mul-result : tie.Need-overflow_mul-result
+overflow_mul-result c =
     let start = c.before.before in
     rw c.stretch.ensures (omega (arith, work_small start.args.objects start.args.workers start.requires.0 start.requires.1))
 
-add_result_2 : tie.Need-overflow-add-result-2
-add_result_2 c =
+overflow_add-result-2 : tie.Need-overflow_add-result-2
+overflow_add-result-2 c =
     let start = c.before.before in
-    rw (c.before.marks.ensures, c.stretch.ensures)
+    rw (c.marks.ensures, c.stretch.ensures)
     (omega (arith, start.requires, work_small start.args.objects start.args.workers start.requires.0 start.requires.1))
 
 returns : tie.Need-returns
-returns c = rw (c.before.marks.ensures, c.stretch.ensures)
+returns c = rw (c.marks.ensures, c.stretch.ensures)
 
 pub saved_spec : {M : Type 1} → statement M
-saved_spec = tie.close (tie.spec (λ c κs. search rules) (λ c. search rules) (λ c κs. search rules) mul_result add_result_2 returns)
+saved_spec = tie.close (tie.spec (λ c κs. search rules) (λ c. search rules) (λ c κs. search rules) overflow_mul-result overflow_add-result-2 returns)
