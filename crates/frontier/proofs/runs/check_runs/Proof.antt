@@ -49,7 +49,7 @@ check_run-run-requires c κs =
 returns-then-not-sound : tie.Need-returns-then-not-sound invariant_loop decreases_loop
 returns-then-not-sound c =
     let l = c.loop-i in
-    runs_wrong (runs_wrong_run l.inv (omega arith) c.if-to-from.false c.check_run-run.ensures (not-true _ c.if-not-sound.true-raw))
+    runs_wrong (runs_wrong_run l.invariant (omega arith) c.if-to-from.false c.check_run-run.ensures (not-true _ c.if-not-sound.true-raw))
 
 overflow_cast-total : tie.Need-overflow_cast-total invariant_loop decreases_loop
 overflow_cast-total c =
@@ -67,10 +67,10 @@ loop-i-preserved c =
     let w = not-false _ c.if-not-whole.false-raw in
     let s = not-false _ c.if-not-sound.false-raw in
     let found = c.check_run-run.ensures in
-    runs_next l.inv (omega arith) pair found w s
+    runs_next l.invariant (omega arith) pair found w s
     (⊎_elim
-    (λ t. rw t.whole-is (flag_more l.inv (omega arith) pair found (omega (arith, t.if-i-gt0.true)) w s))
-    (λ t. rw t.whole-is (flag_one l.inv (omega arith) pair (omega (arith, t.if-i-gt0.false)) w))
+    (λ t. rw t.whole-is (flag_more l.invariant (omega arith) pair found (omega (arith, t.if-i-gt0.true)) w s))
+    (λ t. rw t.whole-is (flag_one l.invariant (omega arith) pair (omega (arith, t.if-i-gt0.false)) w))
     c.if-i-gt0.branch-raw)
     (c.shared_slice_known-in-loop-i-2-1.given (2 * l.i + 1)).fits
 

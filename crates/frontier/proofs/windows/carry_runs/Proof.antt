@@ -47,12 +47,12 @@ shape_of-carried-then-not-carry c =
 returns-then-not-carry : tie.Need-returns-then-not-carry invariant_loop decreases_loop
 returns-then-not-carry c =
     let l = c.loop-i in
-    takes_not (taken_twice l.inv (omega arith) c.if-to-from.false c.carry.ensures (not-true _ c.if-not-carry.true-raw))
+    takes_not (taken_twice l.invariant (omega arith) c.if-to-from.false c.carry.ensures (not-true _ c.if-not-carry.true-raw))
 
 loop-i-preserved : tie.Need-loop-i-preserved invariant_loop decreases_loop
 loop-i-preserved c =
     let l = c.loop-i in
-    taken_next l.inv (omega arith) c.if-to-from.false c.carry.ensures (not-false _ c.if-not-carry.false-raw) c.carry.auto.carried
+    taken_next l.invariant (omega arith) c.if-to-from.false c.carry.ensures (not-false _ c.if-not-carry.false-raw) c.carry.auto.carried
 
 returns : tie.Need-returns invariant_loop decreases_loop
 returns c = taken_end c.loop-i.invariant (runs_out _ c.loop-i.i (omega arith))
