@@ -18,33 +18,25 @@ low l = in_low l.requires l.loop-bag.invariant
 
 unite-requires : tie.Need-unite-requires invariant_loop decreases_loop
 unite-requires c κs =
-    let t = c.before.before in
-    let l = t.before.before in
-    in_other l.requires l.loop-bag.invariant t.loop-bag-test.true
+    in_other c.requires c.loop-bag.invariant c.loop-bag-test.true
 
 loop-bag-preserved : tie.Need-loop-bag-preserved invariant_loop decreases_loop
 loop-bag-preserved c =
-    let u = c.before.before in
-    let t = u.before.before.before in
-    let l = t.before.before in
-    in_next l.requires l.loop-bag.invariant t.loop-bag-test.true u.unite.ensures
-
-abbrev exit : tie.After-loop-bag invariant_loop decreases_loop → tie.At-loop-bag invariant_loop decreases_loop
-exit e = e.before.before
+    in_next c.requires c.loop-bag.invariant c.loop-bag-test.true c.unite.ensures
 
 returns : tie.Need-returns invariant_loop decreases_loop
-returns c = let l = exit c.before in in_end l.requires l.loop-bag.invariant c.loop-bag-test.false
+returns c = in_end c.requires c.loop-bag.invariant c.loop-bag-test.false
 
 pub add_spec : {M : Type 1} → statement M
 add_spec =
     tie.close
-    (tie.spec invariant_loop decreases_loop (λ c. in_start c.requires) (λ c. omega (arith, low c)) (λ c. omega (arith, low c))
-    (λ c. omega (arith, low c.before.before)) (λ c. omega (arith, low c.before.before)) (λ c. omega (arith, c.loop-bag-test.true)) unite-requires
-    (λ c. omega (arith, low c.before.before.before.before.before.before.before))
-    (λ c. omega (arith, low c.before.before.before.before.before.before.before))
-    (λ c. omega (arith, low c.before.before.before.before.before.before.before))
-    (λ c. omega (arith, low c.before.before.before.before.before.before.before)) loop-bag-preserved
-    (λ c. let l = exit c in omega (arith, in_root l.requires l.loop-bag.invariant)) (λ c. omega (arith, low (exit c)))
-    (λ c. omega (arith, low (exit c))) (λ c. search rules)
-    (λ c. let l = exit c.before in omega (arith, in_size l.requires l.loop-bag.invariant)) (λ c. search rules)
-    (λ c. (exit c.before).loop.inv.adding.long) returns)
+    (tie.spec invariant_loop decreases_loop (λ c. in_start c.requires) (λ c. omega (arith, low c)) (λ c. omega (arith, low c.before))
+    (λ c. omega (arith, low c.before.before.before)) (λ c. omega (arith, low c.before.before.before)) (λ c. omega (arith, c.loop-bag-test.true)) unite-requires
+    (λ c. omega (arith, low c.before.before.before.before.before.before.before.before))
+    (λ c. omega (arith, low c.before.before.before.before.before.before.before.before))
+    (λ c. omega (arith, low c.before.before.before.before.before.before.before.before))
+    (λ c. omega (arith, low c.before.before.before.before.before.before.before.before)) loop-bag-preserved
+    (λ c. omega (arith, in_root c.requires c.loop-bag.invariant)) (λ c. omega (arith, low c.before.before.before))
+    (λ c. omega (arith, low c.before.before.before)) (λ c. search rules)
+    (λ c. omega (arith, in_size c.requires c.loop-bag.invariant)) (λ c. search rules)
+    (λ c. c.loop-bag.invariant.adding.long) returns)

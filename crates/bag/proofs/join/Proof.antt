@@ -13,31 +13,26 @@ invariant_loop links₀ bag₀ other₀ carry₀ k₀ rest₀ links bag other ca
 abbrev decreases_loop : tie.decreases-loop-rest
 decreases_loop links₀ bag₀ other₀ carry₀ k₀ rest₀ links bag other carry k rest = slot_count - k
 
-abbrev start : tie.At-loop-rest invariant_loop decreases_loop → tie.Start invariant_loop decreases_loop
-start l = l.before.before.before
-
 low : (t : tie.In-loop-rest invariant_loop decreases_loop) → t.loop-rest.k < slot_count
-low t = in_low (start t.before).pre t.loop-rest.invariant t.loop-rest-test.true
+low t = in_low t.requires t.loop-rest.invariant t.loop-rest-test.true
 
 full_add-sum-requires : tie.Need-full_add-sum-requires invariant_loop decreases_loop
-full_add-sum-requires c κs = let t = c.before.before.before in in_ready (start t.before).pre t.loop-rest.invariant t.loop-rest-test.true
+full_add-sum-requires c κs = in_ready c.requires c.loop-rest.invariant c.loop-rest-test.true
 
 loop-rest-preserved : tie.Need-loop-rest-preserved invariant_loop decreases_loop
 loop-rest-preserved c =
-    let f = c.before.before in
-    let t = f.before.before.before.before in
-    in_next (start t.before).pre t.loop-rest.invariant t.loop-rest-test.true f.full_add-sum.ensures
+    in_next c.requires c.loop-rest.invariant c.loop-rest-test.true c.full_add-sum.ensures
 
 returns : tie.Need-returns invariant_loop decreases_loop
-returns c = let e = c.before.before in in_end (start e.before).pre e.loop-rest.invariant e.loop-rest-test.false
+returns c = in_end c.requires c.loop-rest.invariant c.loop-rest-test.false
 
 pub join_spec : {M : Type 1} → statement M
 join_spec =
     tie.close
-    (tie.spec invariant_loop decreases_loop (λ c. search rules) (λ c. in_start c.requires) (λ c. omega (arith, in_fits (start c).requires c.loop-rest.invariant))
-    (λ c. omega (arith, low c.before)) (λ c. omega (arith, low c.before)) (λ c. omega (arith, low c.before.before))
-    (λ c. omega (arith, low c.before.before)) full_add-sum-requires (λ c. omega (arith, low c.before.before.before.before.before.before)) (λ c. omega (arith, low c.before.before.before.before.before.before))
-    (λ c. omega (arith, low c.before.before.before.before.before.before)) (λ c. omega (arith, low c.before.before.before.before.before.before)) (λ c. omega (arith, low c.before.before.before.before.before.before)) (λ c. omega (arith, low c.before.before.before.before.before.before))
+    (tie.spec invariant_loop decreases_loop (λ c. search rules) (λ c. in_start c.requires) (λ c. omega (arith, in_fits c.requires c.loop-rest.invariant))
+    (λ c. omega (arith, low c.before)) (λ c. omega (arith, low c.before.before)) (λ c. omega (arith, low c.before.before.before))
+    (λ c. omega (arith, low c.before.before.before.before)) full_add-sum-requires (λ c. omega (arith, low c.before.before.before.before.before.before.before.before)) (λ c. omega (arith, low c.before.before.before.before.before.before.before.before))
+    (λ c. omega (arith, low c.before.before.before.before.before.before.before.before)) (λ c. omega (arith, low c.before.before.before.before.before.before.before.before)) (λ c. omega (arith, low c.before.before.before.before.before.before.before.before)) (λ c. omega (arith, low c.before.before.before.before.before.before.before.before))
     loop-rest-preserved (λ c. search rules) (λ c. search rules)
-    (λ c. let l = c.before.before.before in omega (arith, in_sum (start l).requires l.loop-rest.invariant)) (λ c. search rules) (λ c. search rules)
+    (λ c. omega (arith, in_sum c.requires c.loop-rest.invariant)) (λ c. search rules) (λ c. search rules)
     (λ c. c.loop-rest.invariant.joining.long) returns)
