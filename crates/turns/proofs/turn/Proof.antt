@@ -95,7 +95,7 @@ returns-in_default : tie.Need-returns-in_default
 returns-in_default c =
     let e = ap (λ (r : Block). r.status) c.load-r.ensures in
     let v = c.args.step.entry.named in
-    (λ x. holds_quiet x (λ z. c.match.rest.0.0.0.0.0.1 (e ∙ z)) (λ z. c.match.rest.0.0.0.0.1 (e ∙ z)) (λ z. c.match.rest.0.0.0.1 (e ∙ z)) (λ z. c.match.rest.0.0.1 (e ∙ z)) (λ z. c.match.rest.0.1 (e ∙ z)) (λ z. c.match.rest.1 (e ∙ z)) v, tt)
+    (λ x. holds_quiet x (λ z. c.in_default.in_default-own.rest.0.0.0.0.0.1 (e ∙ z)) (λ z. c.in_default.in_default-own.rest.0.0.0.0.1 (e ∙ z)) (λ z. c.in_default.in_default-own.rest.0.0.0.1 (e ∙ z)) (λ z. c.in_default.in_default-own.rest.0.0.1 (e ∙ z)) (λ z. c.in_default.in_default-own.rest.0.1 (e ∙ z)) (λ z. c.in_default.in_default-own.rest.1 (e ∙ z)) v, tt)
 
 pub turn_spec : {M : Type 1} → statement M
 turn_spec =
