@@ -56,9 +56,9 @@ overflow_add-i c =
 
 loop-p-preserved : tie.Need-loop-p-preserved invariant_loop decreases_loop
 loop-p-preserved c =
-    let k = c.take_turns-p.auto.marks in
+    let k = c.take_turns-p.auto in
     let i = c.loop-p.invariant.0 in (
-      (k.0 ∙ i.0, k.1.0 ∙ i.1, k.1.1.0 ∙ i.2, k.1.1.1.0 ∙ i.3),
+      (k.marks ∙ i.0, k.work ∙ i.1, k.tallies ∙ i.2, k.regs ∙ i.3),
       λ x. round_done x (c.loop-p.invariant.1 x) c.loop-p-test.true (round_is c.before.before.before.before.before.before.before.before.before.before.before.before.before.before.before.before _) c.take_turns-p.ensures,
     )
 
