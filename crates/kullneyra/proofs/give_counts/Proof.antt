@@ -22,7 +22,7 @@ returns : tie.Need-returns
 returns c =
     let a = c.args in
     let long = c.requires in
-    rw c.put_counts.ensures (first_and_rest a.result.now (count_words a.counts) a.finished (omega arith))
+    rw c.put_counts.ensures (first_and_rest a.res.now (count_words a.counts) a.finished (omega arith))
 
 shape_of-res : tie.Need-shape_of-res
 shape_of-res c = ap length (returns c) ∙ sym c.requires

@@ -11,7 +11,7 @@ use Rattle.kullneyra.proofs.give_found.Tie as tie
 
 returns-in-Read : tie.Need-returns-in-Read
 returns-in-Read c =
-    let count = c.found-1.given.0.1.1.1.0 in
+    let count = c.in-Read.starts in
     let all = sets_all (c.in-Read.n ∷ c.in-Read.m ∷ c.in-Read.index ∷ count ∷ []) c.args.res.now c.requires in
     (rw c.in-Read.is, rw c.in-Read.is (ap (λ (l : List ℕ). set l 3 count) c.give_head.ensures ∙ all))
 
