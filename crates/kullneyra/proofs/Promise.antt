@@ -119,7 +119,7 @@ module _ (result : List ℕ) {result' : List ℕ} (r : Marked) {sound : Bool} {a
           sound = sound;
           told = words_told (stop_words (row r) sound) result e w z;
           sound_is = a.tells none;
-          all_marked_lem = a.all_marked none;
+          all_marked = a.all_marked none;
           waits = a.waits none;
           joined = a.joined none;
           afresh = λ xs q. a.afresh xs q (first_none _ _ none).0;

@@ -88,7 +88,7 @@ pub record ResumePromise (c : Call) (w marks work tallies saved result : List �
   -- whether the saved words are sound, by the test of the next call
   pub sound_is : sound ≡ saved? (graph_of c) c.starts c.workers (setting_of c) saved
   -- finished, every object to which a chain leads is marked, whoever wrote the words
-  pub all_marked_lem : row.finished ≡ true → (v : ℕ) → Reach (graph_of c) c.starts v → Marked marks v
+  pub all_marked : row.finished ≡ true → (v : ℕ) → Reach (graph_of c) c.starts v → Marked marks v
   pub waits : (k : ℕ) → Waits (graph_of c) c.workers (setting_of c) (resumed_by c w (take k (entries c.schedule)))
   pub joined : Joined c (λ (l : List ℕ). resumed (scheduled_by l c) w)
   -- and of a collection begun afresh, with the turns xs so far, all that is promised of all its turns

@@ -131,7 +131,7 @@ module _ {c : Call} {marks work tallies w : List ℕ} {v : Verdict}
         answers = answers_refused cause _ i;
         exactly = λ z. absurd (omega (arith, numbered cause, k, z));
         tells = λ z. absurd (omega (arith, numbered cause, i, z));
-        all_marked_lem = λ z. absurd (omega (arith, numbered cause, i, z));
+        all_marked = λ z. absurd (omega (arith, numbered cause, i, z));
         waits = λ z. absurd (omega (arith, numbered cause, i, z));
         joined = λ z. absurd (omega (arith, numbered cause, i, z));
         afresh = λ xs q z. absurd (omega (arith, numbered cause, k, z));
@@ -185,7 +185,7 @@ module _ {c : Call} {marks work tallies w : List ℕ} {v : Verdict}
           answers = rw same_fault d;
           exactly = λ z. rw same_fault ((λ f. (state_of (objects (graph_of c)) c.workers w, run_of f)), λ y. no_fault y.0 y.1);
           tells = λ z. sound_tells (sym same_fault ∙ z);
-          all_marked_lem = λ z done v reach.
+          all_marked = λ z done v reach.
               let f = sym same_fault ∙ z in
               let a = reached f in
               let ended = sym (ap (λ (t : Row). t.finished) a.row_is) ∙ done in

@@ -41,7 +41,7 @@ pub record Continued (c : Call) (marks work tallies w : List ℕ) (r : Marked) (
   pub tells : resume_fault c (length marks) (length work) (length tallies) w ≡ 0
       → sound ≡ saved? (graph_of c) c.starts c.workers (setting_of c) w'
   -- whoever wrote them: finished, every object to which a chain leads is marked
-  pub all_marked_lem : resume_fault c (length marks) (length work) (length tallies) w ≡ 0 → (row r).finished ≡ true
+  pub all_marked : resume_fault c (length marks) (length work) (length tallies) w ≡ 0 → (row r).finished ≡ true
       → (v : ℕ) → Reach (graph_of c) c.starts v → state.Marked marks' v
   -- from before the first turn and from after each of them on, an asker waits no longer than is said
   pub waits : resume_fault c (length marks) (length work) (length tallies) w ≡ 0

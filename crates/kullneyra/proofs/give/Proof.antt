@@ -7,24 +7,17 @@ use borrow.Author.Rules.{rules}
 use Rattle.kullneyra.proofs.give.Statement.{statement}
 use Rattle.kullneyra.proofs.give.Tie as tie
 
-returns : tie.Need-returns
-returns c =
-    let at_head = c.before.before in
-    let at_answer = at_head.before.before.before in
-    let start = at_answer.before.before.before in
-    let v = at_answer.answer.given in
-    let all = sets_all (v.0.0 ∷ v.0.1.0 ∷ v.0.1.1.0 ∷ []) start.args.res.now start.requires in
-    (rw v.1, rw v.1 (at_head.give_head.ensures ∙ all))
+returns-in-Read : tie.Need-returns-in-Read
+returns-in-Read c =
+    let all = sets_all (c.in-Read.n ∷ c.in-Read.m ∷ c.in-Read.index ∷ []) c.args.res.now c.requires in
+    (rw c.in-Read.is, rw c.in-Read.is (c.give_head.ensures ∙ all))
 
-returns_2 : tie.Need-returns-2
-returns_2 c =
-    let at_answer2 = c.before.before in
-    let start = at_answer2.before.before.before in
-    let v = at_answer2.answer2.given in
-    (rw v.1 c.number_of_lem.ensures, rw v.1 (kept v.0.0 (0 ∷ 0 ∷ 0 ∷ []) start.args.res.now))
+returns-in-Refused : tie.Need-returns-in-Refused
+returns-in-Refused c =
+    (rw c.in-Refused.is c.number_of.ensures, rw c.in-Refused.is (kept c.in-Refused.refusal (0 ∷ 0 ∷ 0 ∷ []) c.args.res.now))
 
 pub give_spec : {M : Type 1} → statement M
 give_spec =
     tie.close
     (tie.spec (λ c. search rules) (λ c κs. search rules) (λ c. search rules) (λ c κs. search rules) (λ c. search rules)
-    (λ c. search rules) returns returns_2)
+    (λ c. search rules) returns-in-Read returns-in-Refused)

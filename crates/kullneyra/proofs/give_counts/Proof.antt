@@ -9,29 +9,26 @@ use borrow.Author.Rules.{rules}
 use Rattle.kullneyra.proofs.give_counts.Statement.{statement}
 use Rattle.kullneyra.proofs.give_counts.Tie as tie
 
-sub_put_counts : tie.Need-overflow-sub-put-counts
-sub_put_counts c = simp length-set (omega arith)
+slice_bounds-put_counts-count : tie.Need-slice_bounds-put_counts-count
+slice_bounds-put_counts-count c = simp length-set (omega arith)
 
-part_put_counts_start : tie.Need-slice-bounds-put-counts-start
-part_put_counts_start c = simp length-set (omega arith)
+slice_bounds-put_counts-start : tie.Need-slice_bounds-put_counts-start
+slice_bounds-put_counts-start c = simp length-set (omega arith)
 
-put_counts_requires : tie.Need-put-counts-requires
-put_counts_requires c κs = let start = c.before.before in
-    rest_long start.args.res.now start.args.finished counts_number start.requires
+put_counts-requires : tie.Need-put_counts-requires
+put_counts-requires c κs = rest_long c.args.res.now c.args.finished counts_number c.requires
 
 returns : tie.Need-returns
 returns c =
-    let at_put = c.before.before in
-    let start = at_put.before.before.before in
-    let a = start.args in
-    let long = start.requires in
-    rw at_put.put_counts.ensures (first_and_rest a.result.now (count_words a.counts) a.finished (omega arith))
+    let a = c.args in
+    let long = c.requires in
+    rw c.put_counts.ensures (first_and_rest a.res.now (count_words a.counts) a.finished (omega arith))
 
-same_length : tie.Need-same-length
-same_length c = ap length (returns c) ∙ sym c.before.before.before.before.before.requires
+shape_of-res : tie.Need-shape_of-res
+shape_of-res c = ap length (returns c) ∙ sym c.requires
 
 pub give_counts_spec : {M : Type 1} → statement M
 give_counts_spec =
     tie.close
-    (tie.spec (λ c. search rules) sub_put_counts part_put_counts_start (λ c. search rules) put_counts_requires same_length
+    (tie.spec (λ c. search rules) slice_bounds-put_counts-count slice_bounds-put_counts-start (λ c. search rules) put_counts-requires shape_of-res
     returns)

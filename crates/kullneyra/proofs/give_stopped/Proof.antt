@@ -9,30 +9,25 @@ use Rattle.kullneyra.proofs.Results.{last_stored, none_stored}
 use Rattle.kullneyra.proofs.give_stopped.Statement.{statement}
 use Rattle.kullneyra.proofs.give_stopped.Tie as tie
 
-slice_aggregate_give_marked : tie.Need-slice-aggregate-give-marked
-slice_aggregate_give_marked c = omega (arith, length-take-le 7 c.before.before.args.res.now (omega (arith, c.before.before.requires)))
+slice_bounds-give_marked-end-2 : tie.Need-slice_bounds-give_marked-end-2
+slice_bounds-give_marked-end-2 c = omega (arith, length-take-le 7 c.args.res.now (omega (arith, c.requires)))
 
-give_marked_requires : tie.Need-give-marked-requires
-give_marked_requires c κs = length-take-le 7 c.before.before.args.res.now (omega (arith, c.before.before.requires))
+give_marked-number-requires : tie.Need-give_marked-number-requires
+give_marked-number-requires c κs = length-take-le 7 c.args.res.now (omega (arith, c.requires))
 
-returns : tie.Need-returns
-returns c =
-    let yes = c.before in
-    let g = yes.before.before.before in
-    let start = g.before.before.before in
-    let given = g.give_marked.ensures in
-    let none = sym given.0 ∙ yes.if1.true in
-    (given.0, rw c.word_of.ensures (last_stored start.args.res.now _ (mark_words (row start.args.answer)) start.requires _ none refl given.1))
+returns-then-number-eq0 : tie.Need-returns-then-number-eq0
+returns-then-number-eq0 c =
+    let given = c.give_marked-number.ensures in
+    let none = sym given.0 ∙ c.if-number-eq0.true in
+    (given.0, rw c.word_of.ensures (last_stored c.args.res.now _ (mark_words (row c.args.answer)) c.requires _ none refl given.1))
 
-returns_2 : tie.Need-returns-2
-returns_2 c =
-    let g = c.before.before.before in
-    let start = g.before.before.before in
-    let given = g.give_marked.ensures in
-    (given.0, none_stored start.args.res.now _ (mark_words (row start.args.answer)) start.requires _ _ (λ z. c.if1.false (given.0 ∙ z)) given.1)
+returns-else-number-eq0 : tie.Need-returns-else-number-eq0
+returns-else-number-eq0 c =
+    let given = c.give_marked-number.ensures in
+    (given.0, none_stored c.args.res.now _ (mark_words (row c.args.answer)) c.requires _ _ (λ z. c.if-number-eq0.false (given.0 ∙ z)) given.1)
 
 pub give_stopped_spec : {M : Type 1} → statement M
 give_stopped_spec =
     tie.close
-    (tie.spec (λ c. search rules) slice_aggregate_give_marked give_marked_requires (λ c κs. search rules) (λ c. search rules) (λ c. search rules)
-    returns (λ c. search rules) returns_2)
+    (tie.spec (λ c. search rules) slice_bounds-give_marked-end-2 give_marked-number-requires (λ c κs. search rules) (λ c. search rules) (λ c. search rules)
+    returns-then-number-eq0 (λ c. search rules) returns-else-number-eq0)
