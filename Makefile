@@ -146,7 +146,7 @@ deb:
 packaged: library shared programs oci pause steps deal
 
 clean:
-	rm -rf target runtime/rust/target runtime/rust/pause/target tests/runtime/own/target
+	rm -rf target crates/*/out runtime/rust/target runtime/rust/pause/target tests/runtime/own/target
 	find tools tests runtime -name __pycache__ -prune -exec rm -rf {} +
 
 compare:
