@@ -72,6 +72,7 @@ UNFIT = (
     ("a parse error", r"^expected (?:an?|the|one of)\b.*, found\b|parse error|unexpected|found the start of a new declaration"),
     ("a clause that does not fit", r"has no clause for|exact case split|is not a constructor of|does not define it|is private"),
     ("something that was not admitted", r"was not admitted"),
+    ("what was not checked, since a name is gone", r"^\d+ declarations? that depends? on ``, which was rejected"),
     ("something undetermined", r"unsolved \?|was not determined|not yet determined|takes its meaning from the type"),
     ("a file that is not there", r"[Nn]o such file|cannot be read"),
     ("a fault of the tool", r"native extension|internal error|panicked|out of memory|step limit|please report this"),

@@ -65,6 +65,7 @@ UNFIT = {
     "`number`: an exact case split needs every clause to match there or none to": "a clause that does not fit",
     "`number`: `Fine` is not a constructor of `ℕ`: it is a constructor of `Verdict`": "a clause that does not fit",
     "`close`: `number` was not admitted (it has holes or was rejected), so this cannot be checked": "something that was not admitted",
+    "1 declaration that depends on `loop-i-preserved`, which was rejected, was not checked: check_runs_spec": "what was not checked, since a name is gone",
     "`spec`: unsolved ?k: _ was not determined": "something undetermined",
     "`spec`: the numeral 0 takes its meaning from the type expected here": "something undetermined",
     "No such file or directory": "a file that is not there",
