@@ -117,7 +117,7 @@ module _ {G : Graph} {starts : List ℕ} {W : ℕ} {g : Setting} (A : Accepted G
   moving : {s : State} → Sound G starts W g s → (xs : List Entry) → Moving s xs
   unfolding turns
   moving S [] = record { number = 0; changing = none; counted = omega arith }
-  moving {s} S (x ∷ xs) = by (move_told A S (move A S x)) (moving (sound_turn A S x) xs)
+  moving {s} S (x ∷ xs) = by (move_told A S (move A S x)) (moving {s = turn G g s x} (sound_turn A S x) xs)
     where
       by : Told s (turn G g s x) → Moving (turn G g s x) xs → Moving s (x ∷ xs)
       by (inl e) m =
@@ -140,11 +140,11 @@ module _ {G : Graph} {starts : List ℕ} {W : ℕ} {g : Setting} (A : Accepted G
       × ((turns G g s xs).counts.refused ≡ s.counts.refused + answered refused? G g s xs)
   unfolding turns answered
   replies_count S [] = omega arith
-  replies_count S (x ∷ xs) =
+  replies_count {s} S (x ∷ xs) =
       let t = step A S (move A S x) in
       omega (
         arith,
-        replies_count (sound_turn A S x) xs,
+        replies_count {s = turn G g s x} (sound_turn A S x) xs,
         t.weighs.handed_is,
         t.weighs.refused_is,
         t.replies_are owed? refl,

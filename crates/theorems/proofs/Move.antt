@@ -95,12 +95,12 @@ pub data Counted (s : State) (b : ℕ) : State → Type 0 where
 
 module _ {G : Graph} {starts : List ℕ} {W : ℕ} {g : Setting} {s : State} (A : Accepted G starts W g) (S : Sound G starts W g s) where
   -- every move does; while nobody carries anything nobody turns black
-  pub moved_one : {s' : State} {b : ℕ} {t : List ℕ} → Move G g s b t s' → Counted s b s'
+  pub moved_one : {b : ℕ} {s' : State} {t : List ℕ} → Move G g s b t s' → Counted s b s'
   moved_one (still h) = nothing h
   moved_one (passed q e o h) = passing q e h
   moved_one {s'} (alone q r) = moving s' (omega arith) (omega arith) (λ z. refl)
   moved_one {s'} (asked v q r) = moving s' (omega arith) (omega arith) (λ z. refl)
-  moved_one {s'} {b} (hands a q r h) =
+  moved_one {b} {s'} (hands a q r h) =
       moving s' (omega arith) (omega arith) (λ z. absurd (omega (arith, z, busy_carried A S b q, busy_carried_all A S b q)))
   moved_one {s'} (refuses a q r h) = moving s' (omega arith) (omega arith) (λ z. refl)
   moved_one {s'} (follow q r w) = moving s' (omega arith) (omega arith) (λ z. refl)

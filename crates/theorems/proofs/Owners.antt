@@ -154,7 +154,8 @@ owned_turns : (G : Graph) (g : Setting) {starts : List ℕ} {l : List Win} (s : 
     → AllOwned starts (l ++ claims_won G g s xs) (turns G g s xs).marks
 unfolding turns claims_won
 owned_turns G g s O [] = rw append-nil O
-owned_turns G g s O (x ∷ xs) = rw append_assoc at (owned_turns G g (turn G g s x) (owned_turn O (wrote G g s x)) xs)
+owned_turns G g {l = l} s O (x ∷ xs) =
+    rw append_assoc at (owned_turns G g {l = l ++ wins (worker s x.worker) G s x.worker} (turn G g s x) (owned_turn O (wrote G g s x)) xs)
 
 module _ {G : Graph} {starts : List ℕ} {W : ℕ} {g : Setting} (A : Accepted G starts W g) where
   -- at the start by whether the object is one

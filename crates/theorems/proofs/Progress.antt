@@ -145,7 +145,7 @@ module _ {G : Graph} {starts : List ℕ} {W : ℕ} {g : Setting} (A : Accepted G
   turns_spent : {s : State} → Sound G starts W g s → (xs : List Entry) → Spent W s 0 (turns G g s xs)
   unfolding turns
   turns_spent S [] = omega arith
-  turns_spent S (x ∷ xs) = omega (arith, turn_spent S x, turns_spent (sound_turn A S x) xs)
+  turns_spent {s} S (x ∷ xs) = omega (arith, turn_spent S x, turns_spent {s = turn G g s x} (sound_turn A S x) xs)
 
   -- worker b carries nothing, and is quiet where nobody carries anything
   abbrev Dull : State → ℕ → Type 0
@@ -158,7 +158,7 @@ module _ {G : Graph} {starts : List ℕ} {W : ℕ} {g : Setting} (A : Accepted G
   dull_or_spent : {s : State} → Sound G starts W g s → (xs : List Entry) → DullOrSpent s xs
   unfolding turns sum carried
   dull_or_spent S [] = inl (λ (b : ℕ) (h : 0 < 0). absurd (omega arith))
-  dull_or_spent {s} S (x ∷ xs) = by (effect S x) (sound_turn A S x) (dull_or_spent (sound_turn A S x) xs)
+  dull_or_spent {s} S (x ∷ xs) = by (effect S x) (sound_turn A S x) (dull_or_spent {s = turn G g s x} (sound_turn A S x) xs)
     where
       more : Dull s x.worker → ((b : ℕ) → 0 < entries_of b xs → Dull s b) → (b : ℕ) → 0 < hit b x.worker + entries_of b xs → Dull s b
       more d rest b h =
@@ -200,7 +200,7 @@ module _ {G : Graph} {starts : List ℕ} {W : ℕ} {g : Setting} (A : Accepted G
   unfolding joined laid turns
   stretches_spend {s} S [] h = inr (omega arith)
   stretches_spend {s} S (xs ∷ xss) h =
-      by (stretch_spends S xs (λ (b : ℕ) (p : b < W). h.0 b (omega arith))) (stretches_spend (sound_turns A S xs) xss h.1)
+      by (stretch_spends S xs (λ (b : ℕ) (p : b < W). h.0 b (omega arith))) (stretches_spend {s = turns G g s xs} (sound_turns A S xs) xss h.1)
     where
       by : (all_ended s.workers ≡ true) ⊎ Spent W s 1 (turns G g s xs)
           → Done W (turns G g s xs) (length xss) (turns G g (turns G g s xs) (joined xss)) → Done W s (suc (length xss)) (turns G g s (xs ++ joined xss))

@@ -22,7 +22,7 @@ use Rattle.graph.proofs.Reached.{rounds_grows, reached_chain, starts_marked}
 use Rattle.machine.specs.Run.{Run, carried, leaving}
 use Rattle.machine.specs.Tally.{Tally, no_tally}
 use Rattle.machine.specs.Ring.{white}
-use Rattle.machine.specs.Machine.{Setting, State, Entry, Worker, idle, ended, busy, empty, poll, runs_of, carried_by, worker, carries?, live, new_run, start_runs, with_runs, unmarked, start, turns, trail, stopped}
+use Rattle.machine.specs.Machine.{Setting, State, Entry, Worker, idle, ended, busy, empty, poll, runs_of, carried_by, worker, carries?, live, new_run, start_runs, with_runs, unmarked, start, turn, turns, trail, stopped}
 use Rattle.machine.specs.Accepted.{Accepted}
 use Rattle.machine.specs.Sound.{Marked, InTargets, Within, Whole, holds, waits, since_of, runs_sum, held_sum, carried_times, distinct_starts, Sound, asks?, Fresh}
 use Rattle.machine.specs.Demand2.{outcome}
@@ -328,14 +328,14 @@ module _ {G : Graph} {starts : List ℕ} {W : ℕ} {g : Setting} (A : Accepted G
   pub sound_turns : {s : State} → Sound G starts W g s → (xs : List Entry) → Sound G starts W g (turns G g s xs)
   unfolding turns
   sound_turns S [] = S
-  sound_turns S (x ∷ xs) = sound_turns (sound_turn A S x) xs
+  sound_turns {s} S (x ∷ xs) = sound_turns {s = turn G g s x} (sound_turn A S x) xs
 
   -- turns keep a collection fresh; what they take off joins the trail
   pub fresh_turns : {s : State} {l : List ℕ} → Sound G starts W g s → Fresh G starts g s l → (xs : List Entry)
       → Fresh G starts g (turns G g s xs) (l ++ trail G g s xs)
   unfolding turns trail
   fresh_turns {s} {l} S F [] = rw append-nil F
-  fresh_turns {s} {l} S F (x ∷ xs) = rw append_assoc at (fresh_turns (sound_turn A S x) (fresh_turn A S F x) xs)
+  fresh_turns {s} {l} S F (x ∷ xs) = rw append_assoc at (fresh_turns {s = turn G g s x} (sound_turn A S x) (fresh_turn A S F x) xs)
 
   -- every state that turns reach from the start is sound, and fresh with the trail of these turns
   pub sound : (xs : List Entry) → Sound G starts W g (outcome G starts W g xs)

@@ -61,7 +61,7 @@ module _ {G : Graph} {starts : List ℕ} {W : ℕ} {g : Setting} (A : Accepted G
       let m = move A S x in
       let t = tallied_move A S m in
       let T = step A S m in
-      let later = added (sound_turn A S x) xs i in
+      let later = added {s = turn G g s x} (sound_turn A S x) xs i in
       let w = worker s b in
       let hands : turn_hands G g s x ≡ t.added.handed = omega (arith, t.handed_counts, T.weighs.handed_is, T.replies_are owed? refl) in
       record {

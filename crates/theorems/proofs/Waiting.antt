@@ -202,7 +202,7 @@ module _ {G : Graph} {starts : List ℕ} {W : ℕ} {g : Setting} (A : Accepted G
   unfolding turns sum
   within S a b {p = p} q [] h = absurd (omega (arith, patience_least p))
   within {s} S a b {n} {p} {rs} q (x ∷ xs) h =
-      let later : Further (turn G g s x) a b xs = λ n p rs q l. within (sound_turn A S x) a b q xs l in
+      let later : Further (turn G g s x) a b xs = λ n p rs q l. within {s = turn G g s x} (sound_turn A S x) a b q xs l in
       by_cases (dec_lt 0 (hit b x.worker))
       (λ (m : 0 < hit b x.worker). by_own later (own_turn A S x b (hit_equal b x.worker m) q))
       (λ (m : ¬ (0 < hit b x.worker)). by_other later m)

@@ -10,13 +10,11 @@ returns-then-graph_outside c = rw (so c.graph_outside.ensures c.if-graph_outside
 
 returns-then-not-well_formed : tie.Need-returns-then-not-well_formed
 returns-then-not-well_formed c =
-    let t = c.before.before in
-    rw (so t.graph_outside.ensures t.if-graph_outside.false, so c.well_formed-2.ensures (not-true _ c.if-not-well_formed.true-raw))
+    rw (so c.graph_outside.ensures c.if-graph_outside.false, so c.well_formed-2.ensures (not-true _ c.if-not-well_formed.true-raw))
 
 returns : tie.Need-returns
 returns c =
-    let t = c.before.before in
-    rw (so t.graph_outside.ensures t.if-graph_outside.false, so c.well_formed-2.ensures (not-false _ c.if-not-well_formed.false-raw))
+    rw (so c.graph_outside.ensures c.if-graph_outside.false, so c.well_formed-2.ensures (not-false _ c.if-not-well_formed.false-raw))
 
 pub check_graph_spec : {M : Type 1} → statement M
 check_graph_spec = tie.close (tie.spec (λ c κs. search rules) returns-then-graph_outside (λ c κs. search rules) returns-then-not-well_formed returns)

@@ -13,32 +13,26 @@ returns-then-not-well_formed c = rw (so c.well_formed-2.ensures (not-true _ c.if
 
 returns-then-out_of_range : tie.Need-returns-then-out_of_range
 returns-then-out_of_range c =
-    let g = c.before.before in
-    rw (so g.well_formed-2.ensures (not-false _ g.if-not-well_formed.false-raw), so c.out_of_range.ensures c.if-out_of_range.true)
+    rw (so c.well_formed-2.ensures (not-false _ c.if-not-well_formed.false-raw), so c.out_of_range.ensures c.if-out_of_range.true)
 
 overflow_sub-n : tie.Need-overflow_sub-n
 overflow_sub-n c =
-    let g = c.before.before in
-    let a = g.args in
-    omega (arith, (formed (graph a.offsets.now a.targets.now) (so g.well_formed-2.ensures (not-false _ g.if-not-well_formed.false-raw))).some)
+    let a = c.args in
+    omega (arith, (formed (graph a.offsets.now a.targets.now) (so c.well_formed-2.ensures (not-false _ c.if-not-well_formed.false-raw))).some)
 
 returns-then-not-is_below : tie.Need-returns-then-not-is_below
 returns-then-not-is_below c =
-    let s = c.before.before in
-    let g = s.before.before in
     rw (
-      so g.well_formed-2.ensures (not-false _ g.if-not-well_formed.false-raw),
-      so s.out_of_range.ensures s.if-out_of_range.false,
+      so c.well_formed-2.ensures (not-false _ c.if-not-well_formed.false-raw),
+      so c.out_of_range.ensures c.if-out_of_range.false,
       so c.is_below.ensures (not-true _ c.if-not-is_below.true-raw),
     )
 
 returns : tie.Need-returns
 returns c =
-    let s = c.before.before in
-    let g = s.before.before in
     rw (
-      so g.well_formed-2.ensures (not-false _ g.if-not-well_formed.false-raw),
-      so s.out_of_range.ensures s.if-out_of_range.false,
+      so c.well_formed-2.ensures (not-false _ c.if-not-well_formed.false-raw),
+      so c.out_of_range.ensures c.if-out_of_range.false,
       so c.is_below.ensures (not-false _ c.if-not-is_below.false-raw),
     )
 

@@ -12,37 +12,28 @@ returns-then-saved_wrong c = rw (so c.saved_wrong.ensures c.if-saved_wrong.true)
 
 returns-then-l-n : tie.Need-returns-then-l-n
 returns-then-l-n c =
-    let saved = c.before.before in
-    rw (so saved.saved_wrong.ensures saved.if-saved_wrong.false, ne_eqb _ _ c.if-l-n.true)
+    rw (so c.saved_wrong.ensures c.if-saved_wrong.false, ne_eqb _ _ c.if-l-n.true)
 
 overflow_mul-workers : tie.Need-overflow_mul-workers
 overflow_mul-workers c =
-    let start = c.before.before.before.before.before in
-    rw c.stretch.ensures (omega (arith, work_small start.args.n start.args.workers start.requires.0 start.requires.1))
+    rw c.stretch.ensures (omega (arith, work_small c.args.n c.args.workers c.requires.0 c.requires.1))
 
 returns-then-l-workers : tie.Need-returns-then-l-workers
 returns-then-l-workers c =
-    let long = c.before.before in
-    let marks = long.before in
-    let saved = marks.before.before in
     rw (
-      so saved.saved_wrong.ensures saved.if-saved_wrong.false,
-      eq-eqb _ _ marks.if-l-n.false,
-      ← long.stretch.ensures,
+      so c.saved_wrong.ensures c.if-saved_wrong.false,
+      eq-eqb _ _ c.if-l-n.false,
+      ← c.stretch.ensures,
       ne_eqb _ _ c.if-l-workers.true,
     )
 
 returns : tie.Need-returns
 returns c =
-    let work = c.before in
-    let long = work.before.before in
-    let marks = long.before in
-    let saved = marks.before.before in
     rw (
-      so saved.saved_wrong.ensures saved.if-saved_wrong.false,
-      eq-eqb _ _ marks.if-l-n.false,
-      ← long.stretch.ensures,
-      eq-eqb _ _ work.if-l-workers.false,
+      so c.saved_wrong.ensures c.if-saved_wrong.false,
+      eq-eqb _ _ c.if-l-n.false,
+      ← c.stretch.ensures,
+      eq-eqb _ _ c.if-l-workers.false,
     )
 
 pub lengths_wrong_spec : {M : Type 1} → statement M

@@ -13,9 +13,8 @@ returns-then-entries-schedule c = let a = c.args in sym (fits_odd a.workers a.sc
 
 returns-then-all_below : tie.Need-returns-then-all_below
 returns-then-all_below c =
-    let found = c.before in
-    let a = found.args in
-    sym (fits_below a.workers a.schedule.now (found.all_below.ensures c.if-all_below.true) (length a.schedule.now / 2) (omega (arith, found.if-entries-schedule.false)))
+    let a = c.args in
+    sym (fits_below a.workers a.schedule.now (c.all_below.ensures c.if-all_below.true) (length a.schedule.now / 2) (omega (arith, c.if-entries-schedule.false)))
 
 pub schedule_fits_spec : {M : Type 1} → statement M
 schedule_fits_spec =

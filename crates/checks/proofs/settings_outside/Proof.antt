@@ -9,14 +9,11 @@ returns-then-workers_outside c = rw (so c.workers_outside.ensures c.if-workers_o
 
 returns-then-out_of_range : tie.Need-returns-then-out_of_range
 returns-then-out_of_range c =
-    let first = c.before.before.before in
-    rw (so first.workers_outside.ensures first.if-workers_outside.false, so c.out_of_range.ensures c.if-out_of_range.true)
+    rw (so c.workers_outside.ensures c.if-workers_outside.false, so c.out_of_range.ensures c.if-out_of_range.true)
 
 returns : tie.Need-returns
 returns c =
-    let second = c.before.before in
-    let first = second.before.before.before in
-    rw (so first.workers_outside.ensures first.if-workers_outside.false, so second.out_of_range.ensures second.if-out_of_range.false)
+    rw (so c.workers_outside.ensures c.if-workers_outside.false, so c.out_of_range.ensures c.if-out_of_range.false)
     c.out_of_range-2.ensures
 
 pub settings_outside_spec : {M : Type 1} → statement M

@@ -13,15 +13,12 @@ returns-then-n-eq0 c = rw c.if-n-eq0.true (sym (below_none _))
 
 returns-then-n-ge-WORDS : tie.Need-returns-then-n-ge-WORDS
 returns-then-n-ge-WORDS c =
-    let k = c.before.before in
-    sym (below_all _ _ (λ i. omega (arith, k.shared_slice_known-1.given i, c.if-n-ge-WORDS.true)))
+    sym (below_all _ _ (λ i. omega (arith, c.shared_slice_known-1.given i, c.if-n-ge-WORDS.true)))
 
 returns : tie.Need-returns
 returns c =
-    let e = c.before.before in
-    let s = e.before.before in
-    let n : s.args.n - 1 + 1 ≡ s.args.n = omega (arith, e.if-n-eq0.false) in
-    c.is_at_most.ensures ∙ ap (λ (n : ℕ). all_below n s.args.numbers.now) n
+    let n : c.args.n - 1 + 1 ≡ c.args.n = omega (arith, c.if-n-eq0.false) in
+    c.is_at_most.ensures ∙ ap (λ (n : ℕ). all_below n c.args.numbers.now) n
 
 pub is_below_spec : {M : Type 1} → statement M
 is_below_spec = tie.close (tie.spec returns-then-n-eq0 returns-then-n-ge-WORDS (λ c. omega (arith, c.if-n-eq0.false)) (λ c. omega (arith, c.if-n-ge-WORDS.false)) (λ c κs. search rules) returns)

@@ -21,9 +21,8 @@ loop-i-init c = (omega arith, scan_start _)
 
 loop-i-preserved : tie.Need-loop-i-preserved invariant_loop decreases_loop
 loop-i-preserved c =
-    let tested = c.before.before.before in
-    let l = tested.loop-i in
-    let h = tested.loop-i-test.true in (
+    let l = c.loop-i in
+    let h = c.loop-i-test.true in (
       omega arith,
       ⊎_elim
           (λ w. rw w.wrong-is (scan_wrong l.invariant.1 (rising_stop _ _ l.invariant.0 h w.if-offsets-i.true)))

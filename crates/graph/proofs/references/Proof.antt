@@ -7,12 +7,9 @@ use borrow.Author.Rules.{rules}
 use Rattle.graph.proofs.references.Statement.{statement}
 use Rattle.graph.proofs.references.Tie as tie
 
-abbrev start : tie.After-part_of-part → tie.Start
-start c = c.before.before.before
-
 part : (c : tie.After-part_of-part)
-    → IsPart (graph (start c).args.offsets.now (start c).args.targets.now) (start c).args.v c.part_of-part.result.start c.part_of-part.result.end
-part c = c.part_of-part.ensures (start c).args.targets.now refl
+    → IsPart (graph c.args.offsets.now c.args.targets.now) c.args.v c.part_of-part.result.start c.part_of-part.result.end
+part c = c.part_of-part.ensures c.args.targets.now refl
 
 pub references_spec : {M : Type 1} → statement M
 references_spec =

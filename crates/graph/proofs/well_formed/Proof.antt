@@ -11,22 +11,17 @@ use Rattle.graph.proofs.well_formed.Tie as tie
 
 returns-then-not-is_rising : tie.Need-returns-then-not-is_rising
 returns-then-not-is_rising c =
-    let test = c.before in
-    sym (formed_fall _ _ (omega arith) test.if-offsets-ne0.false (sym test.is_rising.ensures ∙ not-true _ c.if-not-is_rising.true-raw))
+    sym (formed_fall _ _ (omega arith) c.if-offsets-ne0.false (sym c.is_rising.ensures ∙ not-true _ c.if-not-is_rising.true-raw))
 
 returns-then-offsets-n : tie.Need-returns-then-offsets-n
 returns-then-offsets-n c =
-    let rises = c.before.before in
-    let test = rises.before in
-    let rising = sym test.is_rising.ensures ∙ not-false _ rises.if-not-is_rising.false-raw in
-    sym (formed_last _ _ (omega arith) test.if-offsets-ne0.false rising c.if-offsets-n.true)
+    let rising = sym c.is_rising.ensures ∙ not-false _ c.if-not-is_rising.false-raw in
+    sym (formed_last _ _ (omega arith) c.if-offsets-ne0.false rising c.if-offsets-n.true)
 
 returns : tie.Need-returns
 returns c =
-    let rises = c.before.before.before in
-    let test = rises.before in
-    let rising = sym test.is_rising.ensures ∙ not-false _ rises.if-not-is_rising.false-raw in
-    c.is_below.ensures ∙ sym (formed_rest _ _ (omega arith) test.if-offsets-ne0.false rising c.if-offsets-n.false)
+    let rising = sym c.is_rising.ensures ∙ not-false _ c.if-not-is_rising.false-raw in
+    c.is_below.ensures ∙ sym (formed_rest _ _ (omega arith) c.if-offsets-ne0.false rising c.if-offsets-n.false)
 
 pub well_formed_spec : {M : Type 1} → statement M
 well_formed_spec =

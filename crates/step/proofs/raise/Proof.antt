@@ -5,14 +5,14 @@ use borrow.Author.Rules.{rules}
 use Rattle.step.proofs.raise.Statement.{statement}
 use Rattle.step.proofs.raise.Tie as tie
 
-slice_write_tallies_2 : tie.Need-slice-write-tallies-2
-slice_write_tallies_2 c = simp length-set (omega (arith, c.before.before.before.before.requires.room))
+bounds-tallies-at-6 : tie.Need-bounds-tallies-at-6
+bounds-tallies-at-6 c = simp length-set (omega (arith, c.requires.room))
 
-slice_write_tallies_3 : tie.Need-slice-write-tallies-3
-slice_write_tallies_3 c = simp length-set (omega (arith, c.before.before.before.before.requires.room))
+bounds-tallies-at-7 : tie.Need-bounds-tallies-at-7
+bounds-tallies-at-7 c = simp length-set (omega (arith, c.requires.room))
 
-slice_write_tallies_4 : tie.Need-slice-write-tallies-4
-slice_write_tallies_4 c = simp length-set (omega (arith, c.before.before.before.before.requires.room))
+bounds-tallies-at-8 : tie.Need-bounds-tallies-at-8
+bounds-tallies-at-8 c = simp length-set (omega (arith, c.requires.room))
 
 pub raise_spec : {M : Type 1} → statement M
 raise_spec =
@@ -21,5 +21,5 @@ raise_spec =
     (λ c. search rules) (λ c. search rules) (λ c. search rules) (λ c. search rules) (λ c. search rules)
     (λ c. search rules) (λ c. search rules) (λ c. search rules) (λ c. search rules) (λ c. search rules)
     (λ c. search rules) (λ c. search rules) (λ c. search rules) (λ c. search rules) (λ c. search rules)
-    slice_write_tallies_2 (λ c. search rules) (λ c. search rules) slice_write_tallies_3 (λ c. search rules)
-    (λ c. search rules) slice_write_tallies_4 (λ c. search rules) (λ c. search rules))
+    bounds-tallies-at-6 (λ c. search rules) (λ c. search rules) bounds-tallies-at-7 (λ c. search rules)
+    (λ c. search rules) bounds-tallies-at-8 (λ c. search rules) (λ c. search rules))

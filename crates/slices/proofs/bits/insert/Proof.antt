@@ -11,11 +11,11 @@ returns-then-word-shift-eq1 c = inserts_not _ _ c.if-word-shift-eq1.true
 
 overflow_add-words : tie.Need-overflow_add-words
 overflow_add-words c =
-    let a = c.before.before.args in
-    record { fits = insert_fits a.words.now a.i c.if-word-shift-eq1.false (c.before.slice_known-1.given (a.i / 32)).fits }
+    let a = c.args in
+    record { fits = insert_fits a.words.now a.i c.if-word-shift-eq1.false (c.slice_known-1.given (a.i / 32)).fits }
 
 returns : tie.Need-returns
-returns c = let a = c.before.before.args in inserts a.words.now a.i c.if-word-shift-eq1.false (omega arith)
+returns c = let a = c.args in inserts a.words.now a.i c.if-word-shift-eq1.false (omega arith)
 
 pub insert_spec : {M : Type 1} → statement M
 insert_spec =

@@ -7,11 +7,11 @@ use borrow.Author.Rules.{rules}
 use Rattle.step.proofs.counts.put_counts.Statement.{statement}
 use Rattle.step.proofs.counts.put_counts.Tie as tie
 
-slice_write_words_5 : tie.Need-slice-write-words-5
-slice_write_words_5 c = simp length-set (omega arith)
+bounds-words-4 : tie.Need-bounds-words-4
+bounds-words-4 c = simp length-set (omega arith)
 
-slice_write_words_6 : tie.Need-slice-write-words-6
-slice_write_words_6 c = simp length-set (omega arith)
+bounds-words-5 : tie.Need-bounds-words-5
+bounds-words-5 c = simp length-set (omega arith)
 
 returns : tie.Need-returns
 returns c = let a = c.args in
@@ -20,5 +20,5 @@ returns c = let a = c.args in
 pub put_counts_spec : {M : Type 1} → statement M
 put_counts_spec =
     tie.close
-    (tie.spec (λ c. search rules) (λ c. search rules) (λ c. search rules) (λ c. search rules) slice_write_words_5
-    slice_write_words_6 (λ c. search rules) returns)
+    (tie.spec (λ c. search rules) (λ c. search rules) (λ c. search rules) (λ c. search rules) bounds-words-4
+    bounds-words-5 (λ c. search rules) returns)

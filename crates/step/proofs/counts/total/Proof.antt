@@ -9,52 +9,52 @@ use Rattle.step.proofs.Counting.{sum_read, sum_there, sum_ends}
 use Rattle.step.proofs.counts.total.Statement.{statement}
 use Rattle.step.proofs.counts.total.Tie as tie
 
-abbrev invariant_loop : tie.invariant-loop
+abbrev invariant_loop : tie.invariant-loop-b
 invariant_loop tallies workers k all₀ b₀ all b =
     (b ≤ workers)
     × ((x : Summable tallies workers k) → all + sum (tally_word k) (drop b x.tallies) ≡ sum (tally_word k) x.tallies)
 
-abbrev decreases_loop : tie.decreases-loop
+abbrev decreases_loop : tie.decreases-loop-b
 decreases_loop tallies workers k all₀ b₀ all b = workers - b
 
-loop_holds : tie.Need-loop-init invariant_loop decreases_loop
-loop_holds c = (omega arith, λ x. omega arith)
+loop-b-init : tie.Need-loop-b-init invariant_loop decreases_loop
+loop-b-init c = (omega arith, λ x. omega arith)
 
-mul_all : tie.Need-overflow-mul-all invariant_loop decreases_loop
-mul_all c = omega (arith, c.before.before.requires.few)
+overflow_mul-all : tie.Need-overflow_mul-all invariant_loop decreases_loop
+overflow_mul-all c = omega (arith, c.requires.few)
 
-add_all : tie.Need-overflow-add-all invariant_loop decreases_loop
-add_all c =
-    let x = c.before.before.requires in
+overflow_add-all : tie.Need-overflow_add-all invariant_loop decreases_loop
+overflow_add-all c =
+    let x = c.requires in
     omega (arith, x.few, x.low)
 
-mul_all_2 : tie.Need-overflow-mul-all-2 invariant_loop decreases_loop
-mul_all_2 c =
-    let x = c.before.before.requires in
+offset_bounds-tallies-b : tie.Need-offset_bounds-tallies-b invariant_loop decreases_loop
+offset_bounds-tallies-b c =
+    let x = c.requires in
     omega (arith, x.few, x.low)
 
-shared_slice_read_all : tie.Need-shared-slice-read-all invariant_loop decreases_loop
-shared_slice_read_all c = sum_there c.before.before.before.requires c.before.before.loop.b c.before.loop_test.true
+bounds-tallies-b : tie.Need-bounds-tallies-b invariant_loop decreases_loop
+bounds-tallies-b c = sum_there c.requires c.loop-b.b c.loop-b-test.true
 
 -- no sum wraps: what is added up is at most the whole
-add_all_2 : tie.Need-overflow-add-all-2 invariant_loop decreases_loop
-add_all_2 c =
-    let l = c.before.before.loop in
-    let x = c.before.before.before.requires in
-    omega (arith, l.invariant.1 x, sum_read x l.b c.before.loop_test.true, x.fits)
+overflow_add-all-in-loop-b : tie.Need-overflow_add-all-in-loop-b invariant_loop decreases_loop
+overflow_add-all-in-loop-b c =
+    let l = c.loop-b in
+    let x = c.requires in
+    omega (arith, l.invariant.1 x, sum_read x l.b c.loop-b-test.true, x.fits)
 
-loop_again : tie.Need-loop-preserved invariant_loop decreases_loop
-loop_again c =
-    let l = c.before.before.loop in
-    (omega arith, λ x. omega (arith, l.invariant.1 x, sum_read x l.b c.before.loop_test.true))
+loop-b-preserved : tie.Need-loop-b-preserved invariant_loop decreases_loop
+loop-b-preserved c =
+    let l = c.loop-b in
+    (omega arith, λ x. omega (arith, l.invariant.1 x, sum_read x l.b c.loop-b-test.true))
 
 returns : tie.Need-returns invariant_loop decreases_loop
 returns c =
-    let l = c.before.loop in
+    let l = c.loop-b in
     λ x. omega (arith, l.invariant.1 x, sum_ends x l.b (omega arith))
 
 pub total_spec : {M : Type 1} → statement M
 total_spec =
     tie.close
-    (tie.spec invariant_loop decreases_loop loop_holds (λ c. omega arith) mul_all add_all mul_all_2 shared_slice_read_all add_all_2 (λ c. omega arith)
-    (λ c. omega arith) loop_again returns)
+    (tie.spec invariant_loop decreases_loop loop-b-init (λ c. omega arith) overflow_mul-all overflow_add-all offset_bounds-tallies-b bounds-tallies-b overflow_add-all-in-loop-b (λ c. omega arith)
+    (λ c. omega arith) loop-b-preserved returns)

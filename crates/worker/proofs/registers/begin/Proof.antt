@@ -5,18 +5,18 @@ use borrow.Author.Rules.{rules}
 use Rattle.worker.proofs.registers.begin.Statement.{statement}
 use Rattle.worker.proofs.registers.begin.Tie as tie
 
-slice_write_regs_2 : tie.Need-slice-write-regs-2
-slice_write_regs_2 c = simp length-set (omega arith)
+bounds-regs-at-2 : tie.Need-bounds-regs-at-2
+bounds-regs-at-2 c = simp length-set (omega arith)
 
-slice_write_regs_3 : tie.Need-slice-write-regs-3
-slice_write_regs_3 c = simp length-set (omega arith)
+bounds-regs-at-3 : tie.Need-bounds-regs-at-3
+bounds-regs-at-3 c = simp length-set (omega arith)
 
-slice_write_regs_4 : tie.Need-slice-write-regs-4
-slice_write_regs_4 c = simp length-set (omega arith)
+bounds-regs-at-4 : tie.Need-bounds-regs-at-4
+bounds-regs-at-4 c = simp length-set (omega arith)
 
 pub begin_spec : {M : Type 1} → statement M
 begin_spec =
     tie.close
     (tie.spec (λ c. search rules) (λ c. search rules) (λ c. search rules) (λ c. search rules) (λ c. search rules) (λ c. search rules)
-    slice_write_regs_2 (λ c. search rules) (λ c. search rules) slice_write_regs_3 (λ c. search rules) (λ c. search rules)
-    slice_write_regs_4 (λ c. search rules) (λ c. search rules))
+    bounds-regs-at-2 (λ c. search rules) (λ c. search rules) bounds-regs-at-3 (λ c. search rules) (λ c. search rules)
+    bounds-regs-at-4 (λ c. search rules) (λ c. search rules))

@@ -6,29 +6,29 @@ use borrow.Author.Rules.{rules}
 use Rattle.worker.proofs.registers.store.Statement.{statement}
 use Rattle.worker.proofs.registers.store.Tie as tie
 
-slice_write_regs_2 : tie.Need-slice-write-regs-2
-slice_write_regs_2 c = simp length-set (omega arith)
+bounds-regs-at-2 : tie.Need-bounds-regs-at-2
+bounds-regs-at-2 c = simp length-set (omega arith)
 
-slice_write_regs_3 : tie.Need-slice-write-regs-3
-slice_write_regs_3 c = simp length-set (omega arith)
+bounds-regs-at-3 : tie.Need-bounds-regs-at-3
+bounds-regs-at-3 c = simp length-set (omega arith)
 
-slice_write_regs_4 : tie.Need-slice-write-regs-4
-slice_write_regs_4 c = simp length-set (omega arith)
+bounds-regs-at-4 : tie.Need-bounds-regs-at-4
+bounds-regs-at-4 c = simp length-set (omega arith)
 
-slice_write_regs_5 : tie.Need-slice-write-regs-5
-slice_write_regs_5 c = simp length-set (omega arith)
+bounds-regs-at-5 : tie.Need-bounds-regs-at-5
+bounds-regs-at-5 c = simp length-set (omega arith)
 
-slice_write_regs_6 : tie.Need-slice-write-regs-6
-slice_write_regs_6 c = simp length-set (omega arith)
+bounds-regs-at-6 : tie.Need-bounds-regs-at-6
+bounds-regs-at-6 c = simp length-set (omega arith)
 
-slice_write_regs_7 : tie.Need-slice-write-regs-7
-slice_write_regs_7 c = simp length-set (omega arith)
+bounds-regs-at-7 : tie.Need-bounds-regs-at-7
+bounds-regs-at-7 c = simp length-set (omega arith)
 
-slice_write_regs_8 : tie.Need-slice-write-regs-8
-slice_write_regs_8 c = simp length-set (omega arith)
+bounds-regs-at-8 : tie.Need-bounds-regs-at-8
+bounds-regs-at-8 c = simp length-set (omega arith)
 
-slice_write_regs_9 : tie.Need-slice-write-regs-9
-slice_write_regs_9 c = simp length-set (omega arith)
+bounds-regs-at-9 : tie.Need-bounds-regs-at-9
+bounds-regs-at-9 c = simp length-set (omega arith)
 
 returns : tie.Need-returns
 returns c = simp towards_suc
@@ -42,27 +42,27 @@ store_spec =
     (λ c. search rules)
     (λ c. search rules)
     (λ c. search rules)
-    slice_write_regs_2
+    bounds-regs-at-2
     (λ c. search rules)
     (λ c. search rules)
-    slice_write_regs_3
+    bounds-regs-at-3
     (λ c. search rules)
     (λ c. search rules)
-    slice_write_regs_4
+    bounds-regs-at-4
     (λ c. search rules)
     (λ c. search rules)
-    slice_write_regs_5
+    bounds-regs-at-5
     (λ c. search rules)
     (λ c. search rules)
-    slice_write_regs_6
+    bounds-regs-at-6
     (λ c. search rules)
     (λ c. search rules)
-    slice_write_regs_7
+    bounds-regs-at-7
     (λ c. search rules)
     (λ c. search rules)
-    slice_write_regs_8
+    bounds-regs-at-8
     (λ c. search rules)
     (λ c. search rules)
-    slice_write_regs_9
+    bounds-regs-at-9
     (λ c. search rules)
     returns)

@@ -9,16 +9,16 @@ use Rattle.worker.proofs.Cutting.{Inside, inside_start, cut_size, cut_stop, cut_
 use Rattle.worker.proofs.stretch.find_cut.Statement.{statement}
 use Rattle.worker.proofs.stretch.find_cut.Tie as tie
 
-abbrev invariant_loop : tie.invariant-loop
+abbrev invariant_loop : tie.invariant-loop-left
 invariant_loop s used k place₀ left₀ place left =
     ((2 ≤ place) × ((place ≤ used) × (place ≤ length s)))
     × ((rs : List Run) → Holds s used rs → k < carried rs → Inside rs k place left)
 
-abbrev decreases_loop : tie.decreases-loop
+abbrev decreases_loop : tie.decreases-loop-left
 decreases_loop s used k place₀ left₀ place left = place
 
-loop_holds : tie.Need-loop-init invariant_loop decreases_loop
-loop_holds c =
+loop-left-init : tie.Need-loop-left-init invariant_loop decreases_loop
+loop-left-init c =
     let a = c.args in
     let p = c.requires in
     let i = inside_start a.s.now a.used a.k p.runs p.holds p.enough in (
@@ -26,30 +26,30 @@ loop_holds c =
       λ rs h l. inside_start a.s.now a.used a.k rs h l,
     )
 
-sub_size_3 : tie.Need-overflow-sub-size-3 invariant_loop decreases_loop
-sub_size_3 c =
-    let a = c.before.before.before.args in
-    let p = c.before.before.before.requires in
-    let l = c.before.before.loop in
+overflow_sub-size-in-loop-left-2 : tie.Need-overflow_sub-size-in-loop-left-2 invariant_loop decreases_loop
+overflow_sub-size-in-loop-left-2 c =
+    let a = c.args in
+    let p = c.requires in
+    let l = c.loop-left in
     (cut_size p.holds (l.invariant.1 p.runs p.holds p.enough)).0
 
-returns : tie.Need-returns invariant_loop decreases_loop
-returns c =
-    let a = c.before.before.before.before.args in
-    let l = c.before.before.before.loop in
+returns-then-left-size : tie.Need-returns-then-left-size invariant_loop decreases_loop
+returns-then-left-size c =
+    let a = c.args in
+    let l = c.loop-left in
     record {
       split =
-          λ rs h e. cut_stop h (l.invariant.1 rs h e) c.if1.true;
+          λ rs h e. cut_stop h (l.invariant.1 rs h e) c.if-left-size.true;
     }
 
-loop_again : tie.Need-loop-preserved invariant_loop decreases_loop
-loop_again c =
-    let a = c.before.before.before.before.args in
-    let p = c.before.before.before.before.requires in
-    let l = c.before.before.before.loop in
-    let n = cut_go p.holds (l.invariant.1 p.runs p.holds p.enough) c.if1.false in (
+loop-left-preserved : tie.Need-loop-left-preserved invariant_loop decreases_loop
+loop-left-preserved c =
+    let a = c.args in
+    let p = c.requires in
+    let l = c.loop-left in
+    let n = cut_go p.holds (l.invariant.1 p.runs p.holds p.enough) c.if-left-size.false in (
       (omega (arith, n.at), (omega arith, omega arith)),
-      λ rs h e. cut_go h (l.invariant.1 rs h e) c.if1.false,
+      λ rs h e. cut_go h (l.invariant.1 rs h e) c.if-left-size.false,
     )
 
 pub find_cut_spec : {M : Type 1} → statement M
@@ -58,7 +58,7 @@ find_cut_spec =
     (tie.spec
     invariant_loop
     decreases_loop
-    loop_holds
+    loop-left-init
     (λ c. omega arith)
     (λ c. omega arith)
     (λ c. omega arith)
@@ -66,8 +66,8 @@ find_cut_spec =
     (λ c. omega arith)
     (λ c. omega arith)
     (λ c. omega arith)
-    sub_size_3
-    returns
+    overflow_sub-size-in-loop-left-2
+    returns-then-left-size
     (λ c. omega arith)
     (λ c. omega arith)
-    loop_again)
+    loop-left-preserved)

@@ -4,28 +4,28 @@ use Rattle.worker.proofs.Parting.{front_order, back_room, back_order, held_front
 use Rattle.worker.proofs.stretch.held.Statement.{statement}
 use Rattle.worker.proofs.stretch.held.Tie as tie
 
-sub_if1 : tie.Need-overflow-sub-if1
-sub_if1 c = front_order c.before.requires
+overflow_sub-top : tie.Need-overflow_sub-top
+overflow_sub-top c = front_order c.requires
+
+returns-then-keep-top : tie.Need-returns-then-keep-top
+returns-then-keep-top c = λ x. held_front x c.if-keep-top.true
+
+bounds-s-1 : tie.Need-bounds-s-1
+bounds-s-1 c = omega (arith, back_room c.requires c.if-keep-top.false)
+
+bounds-s-0 : tie.Need-bounds-s-0
+bounds-s-0 c = omega (arith, back_room c.requires c.if-keep-top.false)
+
+overflow_sub-s : tie.Need-overflow_sub-s
+overflow_sub-s c = back_order c.requires c.if-keep-top.false
+
+returns-then-rest-s : tie.Need-returns-then-rest-s
+returns-then-rest-s c = λ x. held_back x c.if-keep-top.false c.if-rest-s.true
 
 returns : tie.Need-returns
-returns c = λ x. held_front x c.if1.true
-
-shared_slice_read_if2 : tie.Need-shared-slice-read-if2
-shared_slice_read_if2 c = omega (arith, back_room c.before.before.before.requires c.before.if1.false)
-
-shared_slice_read_if2_2 : tie.Need-shared-slice-read-if2-2
-shared_slice_read_if2_2 c = omega (arith, back_room c.before.before.before.before.requires c.before.before.if1.false)
-
-sub_if2 : tie.Need-overflow-sub-if2
-sub_if2 c = back_order c.before.before.before.before.requires c.before.before.if1.false
-
-returns_2 : tie.Need-returns-2
-returns_2 c = λ x. held_back x c.before.before.before.if1.false c.if2.true
-
-returns_3 : tie.Need-returns-3
-returns_3 c = λ x. held_middle x c.before.before.before.if1.false c.if2.false
+returns c = λ x. held_middle x c.if-keep-top.false c.if-rest-s.false
 
 pub held_spec : {M : Type 1} → statement M
 held_spec =
     tie.close
-    (tie.spec sub_if1 returns shared_slice_read_if2 shared_slice_read_if2_2 sub_if2 returns_2 returns_3)
+    (tie.spec overflow_sub-top returns-then-keep-top bounds-s-1 bounds-s-0 overflow_sub-s returns-then-rest-s returns)

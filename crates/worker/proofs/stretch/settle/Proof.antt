@@ -8,23 +8,21 @@ use borrow.Author.Rules.{rules}
 use Rattle.worker.proofs.stretch.settle.Statement.{statement}
 use Rattle.worker.proofs.stretch.settle.Tie as tie
 
-slice_write_s_2 : tie.Need-slice-write-s-2
-slice_write_s_2 c = simp length-set (omega arith)
+bounds-s-at-then-first-end : tie.Need-bounds-s-at-then-first-end
+bounds-s-at-then-first-end c = simp length-set (omega arith)
 
-same_length : tie.Need-same-length
-same_length c = omega (arith, simp length-set at c.before.before.clear.auto.0)
+shape_of-s-then-first-end : tie.Need-shape_of-s-then-first-end
+shape_of-s-then-first-end c = omega (arith, simp length-set at c.clear.auto.w)
 
-returns : tie.Need-returns
-returns c =
-    let at_if1 = c.before.before.before.before in
-    let a = at_if1.before.before.before.args in
-    rw (lt-ltb _ _ at_if1.if1.true)
-    (c.before.before.clear.ensures ∙ settle_words a.s.now a.t.used a.t.first a.t.end at_if1.before.before.before.requires)
+returns-then-first-end : tie.Need-returns-then-first-end
+returns-then-first-end c =
+    let a = c.args in
+    rw (lt-ltb _ _ c.if-first-end.true)
+    (c.clear.ensures ∙ settle_words a.s.now a.t.used a.t.first a.t.end c.requires)
 
-returns_2 : tie.Need-returns-2
-returns_2 c =
-    let at_if1 = c.before.before.before.before in
-    rw (le-ltb _ _ at_if1.if1.false) (c.before.before.clear2.ensures ∙ settle_zeros at_if1.before.before.before.args.s.now)
+returns-else-first-end : tie.Need-returns-else-first-end
+returns-else-first-end c =
+    rw (le-ltb _ _ c.if-first-end.false) (c.clear-else-first-end.ensures ∙ settle_zeros c.args.s.now)
 
 pub settle_spec : {M : Type 1} → statement M
 settle_spec =
@@ -35,11 +33,11 @@ settle_spec =
     (λ c. search rules)
     (λ c. search rules)
     (λ c. search rules)
-    slice_write_s_2
+    bounds-s-at-then-first-end
     (λ c. search rules)
     (λ c κs. search rules)
     (λ c κs. search rules)
-    same_length
-    returns
+    shape_of-s-then-first-end
+    returns-then-first-end
     (λ c. search rules)
-    returns_2)
+    returns-else-first-end)
