@@ -188,7 +188,8 @@ handed_turns : {G : Graph} {starts : List ℕ} {W : ℕ} {d : Setting} {s : Stat
     → (turns G d s es).counts.handed ≤ s.counts.handed + length es
 unfolding turns
 handed_turns a n [] = omega arith
-handed_turns a n (e ∷ es) = omega (arith, (counts_grow a n e).0, handed_turns a (sound_turn a n e) es)
+handed_turns {G} {starts} {W} {d} {s} a n (e ∷ es) =
+    omega (arith, (counts_grow a n e).0, handed_turns {s = turn G d s e} a (sound_turn a n e) es)
 
 -- so it does not wrap over the schedule
 pub handed_fits : {g : Setup} {offsets targets schedule : List ℕ} {μ : Memory} (x : Ready (IsScheduled g offsets targets schedule) g μ)

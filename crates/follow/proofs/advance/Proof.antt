@@ -6,99 +6,55 @@ use borrow.Author.Rules.{rules}
 use Rattle.follow.proofs.advance.Statement.{statement}
 use Rattle.follow.proofs.advance.Tie as tie
 
--- back to the call; and to where a run opens beside one that goes on, comes up, and where the next one comes up
-abbrev entry : tie.After-struct-known2 → tie.Start
-entry c = c.before.before.before.before.before
+bounds-s-at-then-f-g : tie.Need-bounds-s-at-then-f-g
+bounds-s-at-then-f-g c =
+    simp length-set (omega (arith, c.requires.next.room))
 
-abbrev pushed : tie.After-come-up-arg → tie.Then2
-pushed c = c.before.before.before.before.before.before.before.before.before.before
+come_up-requires : tie.Need-come_up-requires
+come_up-requires c κs =
+    (search rules, c.requires.goes_on (omega (arith, c.if-rest-end.true)))
 
-abbrev opened : tie.After-come-up-arg3 → tie.Then3
-opened c = c.before.before.before.before.before.before.before.before.before.before
+returns-then-f-g : tie.Need-returns-then-f-g
+returns-then-f-g c =
+    advance_push c.requires c.if-rest-end.true c.if-f-g.true
+    (rw (c.come_up.ensures, c.put-then-f-g.ensures, c.put.ensures))
 
-abbrev popped : tie.After-come-up-arg4 → tie.Else4
-popped c = c.before.before.before.before.before.before.before.before.before.before.before
+come_up-requires-then-rest-end : tie.Need-come_up-requires-then-rest-end
+come_up-requires-then-rest-end c κs =
+    (search rules, c.requires.goes_on (omega (arith, c.if-rest-end.true)))
 
-slice_write_s_2 : tie.Need-slice-write-s-2
-slice_write_s_2 c =
-    let start = entry c.before.before in
-    simp length-set (omega (arith, start.pre.next.room))
+returns-then-rest-end : tie.Need-returns-then-rest-end
+returns-then-rest-end c =
+    advance_on c.requires c.if-rest-end.true c.if-f-g.false (rw c.come_up-then-rest-end.ensures)
 
-come_up_requires : tie.Need-come-up-requires
-come_up_requires c κs =
-    let at_if1 = (pushed c).before in
-    (search rules, (entry at_if1.before).requires.goes_on (omega (arith, at_if1.if1.taken)))
+come_up-requires-then-f-g-2 : tie.Need-come_up-requires-then-f-g-2
+come_up-requires-then-f-g-2 c κs =
+    (search rules, c.requires.opens c.if-f-g-2.true)
+
+returns-then-f-g-2 : tie.Need-returns-then-f-g-2
+returns-then-f-g-2 c =
+    advance_open c.requires c.if-rest-end.false c.if-f-g-2.true
+    (rw (c.come_up-then-f-g-2.ensures, c.put-then-f-g-2-2.ensures, c.put-then-f-g-2.ensures))
+
+returns-then-used-lt2 : tie.Need-returns-then-used-lt2
+returns-then-used-lt2 c =
+    advance_none c.requires c.if-rest-end.false c.if-f-g-2.false c.if-used-lt2.true
+
+come_up-requires-2 : tie.Need-come_up-requires-2
+come_up-requires-2 c κs =
+    (search rules, c.requires.comes_up c.if-used-lt2.false)
 
 returns : tie.Need-returns
 returns c =
-    let at_up = c.before.before in
-    let at_put2 = at_up.before.before.before.before in
-    let at_put = at_put2.before.before.before.before.before in
-    let at_if2 = at_put.before.before in
-    let at_if1 = at_if2.before in
-    let start = entry at_if1.before in
-    advance_push start.pre at_if1.if1.true at_if2.if2.true
-    (rw (at_up.come_up.ensures, at_put2.put2.ensures, at_put.put.ensures))
-
-come_up_requires_2 : tie.Need-come-up-requires-2
-come_up_requires_2 c κs =
-    let at_if1 = c.before.before in
-    (search rules, (entry at_if1.before).requires.goes_on (omega (arith, at_if1.if1.true)))
-
-returns_2 : tie.Need-returns-2
-returns_2 c =
-    let at_up2 = c.before.before in
-    let at_if2 = at_up2.before.before in
-    let at_if1 = at_if2.before in
-    let start = entry at_if1.before in
-    advance_on start.pre at_if1.if1.true at_if2.if2.false (rw at_up2.come_up2.ensures)
-
-come_up_requires_3 : tie.Need-come-up-requires-3
-come_up_requires_3 c κs =
-    let at_if3 = opened c in
-    (search rules, (entry at_if3.before.before).requires.opens at_if3.if3.taken)
-
-returns_3 : tie.Need-returns-3
-returns_3 c =
-    let at_up3 = c.before.before in
-    let at_put4 = at_up3.before.before.before.before in
-    let at_put3 = at_put4.before.before.before.before in
-    let at_if3 = at_put3.before.before.before in
-    let at_if1 = at_if3.before in
-    let start = entry at_if1.before in
-    advance_open start.pre at_if1.if1.false at_if3.if3.true
-    (rw (at_up3.come_up3.ensures, at_put4.put4.ensures, at_put3.put3.ensures))
-
-returns_4 : tie.Need-returns-4
-returns_4 c =
-    let at_if3 = c.before in
-    let at_if1 = at_if3.before in
-    let start = entry at_if1.before in
-    advance_none start.pre at_if1.if1.false at_if3.if3.false c.if4.true
-
-come_up_requires_4 : tie.Need-come-up-requires-4
-come_up_requires_4 c κs =
-    let at_if4 = popped c in
-    (search rules, (entry at_if4.before.before.before).requires.comes_up at_if4.if4.left)
-
-returns_5 : tie.Need-returns-5
-returns_5 c =
-    let at_up4 = c.before.before in
-    let at_put6 = at_up4.before.before.before.before in
-    let at_put5 = at_put6.before.before.before.before.before in
-    let at_if4 = at_put5.before.before.before in
-    let at_if3 = at_if4.before in
-    let at_if1 = at_if3.before in
-    let start = entry at_if1.before in
-    advance_pop start.pre at_if1.if1.false at_if3.if3.false at_if4.if4.false
-    (rw (at_up4.come_up4.ensures, at_put6.put6.ensures, at_put5.put5.ensures))
+    advance_pop c.requires c.if-rest-end.false c.if-f-g-2.false c.if-used-lt2.false
+    (rw (c.come_up-2.ensures, c.put-3.ensures, c.put-2.ensures))
 
 pub advance_spec : {M : Type 1} → statement M
 advance_spec =
     tie.close
     (tie.spec (λ c. search rules) (λ c. search rules) (λ c. search rules) (λ c. search rules) (λ c. search rules) (λ c. search rules)
-    (λ c. search rules) slice_write_s_2 (λ c. search rules) (λ c κs. search rules) (λ c. search rules) (λ c. search rules)
-    (λ c κs. search rules) come_up_requires (λ c. search rules) (λ c. search rules) returns come_up_requires_2 (λ c. search rules) returns_2
-    (λ c. search rules) (λ c. search rules) (λ c κs. search rules) (λ c κs. search rules) come_up_requires_3 (λ c. search rules) returns_3
-    returns_4 (λ c. search rules) (λ c. search rules) (λ c. search rules) (λ c. search rules) (λ c κs. search rules) (λ c. search rules)
-    (λ c. search rules) (λ c. search rules) (λ c κs. search rules) come_up_requires_4 (λ c. search rules) returns_5)
+    (λ c. search rules) bounds-s-at-then-f-g (λ c. search rules) (λ c κs. search rules) (λ c. search rules) (λ c. search rules)
+    (λ c κs. search rules) come_up-requires (λ c. search rules) (λ c. search rules) returns-then-f-g come_up-requires-then-rest-end (λ c. search rules) returns-then-rest-end
+    (λ c. search rules) (λ c. search rules) (λ c κs. search rules) (λ c κs. search rules) come_up-requires-then-f-g-2 (λ c. search rules) returns-then-f-g-2
+    returns-then-used-lt2 (λ c. search rules) (λ c. search rules) (λ c. search rules) (λ c. search rules) (λ c κs. search rules) (λ c. search rules)
+    (λ c. search rules) (λ c. search rules) (λ c κs. search rules) come_up-requires-2 (λ c. search rules) returns)

@@ -5,20 +5,17 @@ use borrow.Author.Rules.{rules}
 use Rattle.follow.proofs.claim_target.Statement.{statement}
 use Rattle.follow.proofs.claim_target.Tie as tie
 
+returns-then-again-ne0 : tie.Need-returns-then-again-ne0
+returns-then-again-ne0 c =
+    let a = c.args in
+    claims_lost a.marks.now a.b a.t c.requires.0 _ c.if-again-ne0.true refl
+
 returns : tie.Need-returns
 returns c =
-    let start = c.before.before.before.before in
-    let a = start.args in
-    claims_lost a.marks.now a.b a.t start.requires.0 _ c.if1.true refl
-
-returns_2 : tie.Need-returns-2
-returns_2 c =
-    let at_claim_mark = c.before.before in
-    let start = at_claim_mark.before.before in
-    let a = start.args in
-    rw at_claim_mark.claim_mark.ensures (claims_won_lem a.marks.now a.b a.t start.requires.0 c.if1.false)
+    let a = c.args in
+    rw c.claim_mark-own.ensures (claims_won_lem a.marks.now a.b a.t c.requires.0 c.if-again-ne0.false)
 
 pub claim_target_spec : {M : Type 1} → statement M
 claim_target_spec =
     tie.close
-    (tie.spec (λ c κs. search rules) (λ c. search rules) returns (λ c. search rules) (λ c. search rules) returns_2)
+    (tie.spec (λ c κs. search rules) (λ c. search rules) returns-then-again-ne0 (λ c. search rules) (λ c. search rules) returns)

@@ -5,9 +5,7 @@ use Rattle.follow.proofs.come_up.Tie as tie
 
 returns : tie.Need-returns
 returns c =
-    let at_step = c.before.before in
-    let at_phase = at_step.before.before in
-    rw (at_step.step.ensures, at_phase.phase.ensures)
+    rw (c.step.ensures, c.phase.ensures)
 
 pub come_up_spec : {M : Type 1} → statement M
 come_up_spec =

@@ -10,101 +10,80 @@ use Rattle.follow.proofs.follow.Statement.{statement}
 use Rattle.follow.proofs.follow.Tie as tie
 
 -- back to the call, from before and behind the advance
-abbrev called : tie.After-struct-known → tie.Start
+abbrev called : tie.After-struct_known-1 → tie.Start
 called c = c.before.before.before.before
-
-abbrev entry : tie.After-advance → tie.Start
-entry c = called c.before.before.before
 
 -- a stretch from its start to its end
 long : (b l : ℕ) → b * l + l - b * l ≡ l
 long b l = omega arith
 
-mul_from : tie.Need-overflow-mul-from
-mul_from c =
-    let start = called c in
-    let b = start.args.step.entry.worker in
-    let x = start.pre.1.1.1.1.1 in
+overflow_mul-from : tie.Need-overflow_mul-from
+overflow_mul-from c =
+    let b = c.args.step.entry.worker in
+    let x = c.requires.1.1.1.1.1 in
     omega (arith, place_limit x.scene x.holds b (follow_low x))
 
-add_advance : tie.Need-overflow-add-advance
-add_advance c =
-    let start = called c in
-    let b = start.args.step.entry.worker in
-    let x = start.pre.1.1.1.1.1 in
+overflow_add-from : tie.Need-overflow_add-from
+overflow_add-from c =
+    let b = c.args.step.entry.worker in
+    let x = c.requires.1.1.1.1.1 in
     omega (arith, place_limit x.scene x.holds b (follow_low x))
 
-mul_advance : tie.Need-overflow-mul-advance
-mul_advance c =
-    let start = called c in
-    let b = start.args.step.entry.worker in
-    let x = start.pre.1.1.1.1.1 in
+offset_bounds-work-from : tie.Need-offset_bounds-work-from
+offset_bounds-work-from c =
+    let b = c.args.step.entry.worker in
+    let x = c.requires.1.1.1.1.1 in
     omega (arith, place_limit x.scene x.holds b (follow_low x))
 
-part_advance_end : tie.Need-slice-bounds-advance-end
-part_advance_end c =
-    let start = called c in
-    let b = start.args.step.entry.worker in
-    let x = start.pre.1.1.1.1.1 in
+slice_bounds-advance-end : tie.Need-slice_bounds-advance-end
+slice_bounds-advance-end c =
+    let b = c.args.step.entry.worker in
+    let x = c.requires.1.1.1.1.1 in
     omega (arith, stretch_room x.scene x.holds b (follow_low x))
 
-advance_requires : tie.Need-advance-requires
-advance_requires c κs =
-    let start = called c.before.before in
-    let m = long start.args.step.entry.worker start.args.step.setup.stretch in
-    rw m (advanceable start.pre.1.1.1.1.1 start.pre.0)
+advance-requires : tie.Need-advance-requires
+advance-requires c κs =
+    let m = long c.args.step.entry.worker c.args.step.setup.stretch in
+    rw m (advanceable c.requires.1.1.1.1.1 c.requires.0)
 
-followed_requires : tie.Need-followed-requires
-followed_requires c κs =
-    let start = entry c.before.before.before.before.before in
-    let x = start.pre.1.1.1.1.1 in
+followed-requires : tie.Need-followed-requires
+followed-requires c κs =
+    let x = c.requires.1.1.1.1.1 in
     (roomy x.scene x.holds, omega arith, omega arith)
+
+returns-then-advance : tie.Need-returns-then-advance
+returns-then-advance c =
+    let m = long c.args.step.entry.worker c.args.step.setup.stretch in
+    let d = rw (c.requires.0, m) at c.advance.ensures in
+    let t = c.if-advance.true in
+    λ marks marks' tallies tallies' v x. rw (d.words, c.followed.ensures, m) (holds_onward x (sym d.says ∙ t) (d.onward t) v)
+
+stop-refused-requires : tie.Need-stop-refused-requires
+stop-refused-requires c κs =
+    let b = c.args.step.entry.worker in
+    let x = c.requires.1.1.1.1.1 in
+    let e = ap (λ (r : Block). r.cell) c.requires.0 in
+    rw (c.advance.ensures.nothing c.if-advance.false, c.requires.0)
+    (block_room x.scene x.holds b (follow_low x), λ z. asker_room x z)
+
+followed-requires-2 : tie.Need-followed-requires-2
+followed-requires-2 c κs =
+    let x = c.requires.1.1.1.1.1 in
+    (roomy x.scene x.holds, omega (arith, c.stop-refused.ensures.0, stopped_one c.args.r.cell), omega (arith, carries_one x))
 
 returns : tie.Need-returns
 returns c =
-    let at_if1 = c.before in
-    let at_advance = at_if1.before.before.before.before.before in
-    let start = entry at_advance in
-    let m = long start.args.step.entry.worker start.args.step.setup.stretch in
-    let d = rw (start.pre.0, m) at at_advance.advance.ensures in
-    let t = at_if1.if1.true in
-    λ marks marks' tallies tallies' v x. rw (d.words, c.followed.ensures, m) (holds_onward x (sym d.says ∙ t) (d.onward t) v)
-
-stop_requires : tie.Need-stop-requires
-stop_requires c κs =
-    let at_if1 = c.before in
-    let at_advance = at_if1.before.before.before.before.before in
-    let start = entry at_advance in
-    let b = start.args.step.entry.worker in
-    let x = start.pre.1.1.1.1.1 in
-    let e = ap (λ (r : Block). r.cell) start.pre.0 in
-    rw (at_advance.advance.ensures.nothing at_if1.if1.false, start.pre.0)
-    (block_room x.scene x.holds b (follow_low x), λ z. asker_room x z)
-
-followed_requires_2 : tie.Need-followed-requires-2
-followed_requires_2 c κs =
-    let at_stop = c.before.before in
-    let start = entry at_stop.before.before.before.before.before.before.before in
-    let x = start.pre.1.1.1.1.1 in
-    (roomy x.scene x.holds, omega (arith, at_stop.stop.ensures.0, stopped_one start.args.r.cell), omega (arith, carries_one x))
-
-returns_2 : tie.Need-returns-2
-returns_2 c =
-    let at_stop = c.before.before.before in
-    let at_if1 = at_stop.before.before in
-    let at_advance = at_if1.before.before.before.before.before in
-    let start = entry at_advance in
-    let m = long start.args.step.entry.worker start.args.step.setup.stretch in
-    let d = rw (start.pre.0, m) at at_advance.advance.ensures in
-    let t = at_if1.if1.false in
-    let regs = rw (d.nothing t, start.pre.0) at at_stop.stop.ensures.1 in
-    let refused = rw start.pre.0 at at_stop.stop.ensures.0 in
+    let m = long c.args.step.entry.worker c.args.step.setup.stretch in
+    let d = rw (c.requires.0, m) at c.advance.ensures in
+    let t = c.if-advance.false in
+    let regs = rw (d.nothing t, c.requires.0) at c.stop-refused.ensures.1 in
+    let refused = rw c.requires.0 at c.stop-refused.ensures.0 in
     λ marks marks' tallies tallies' v x.
-    holds_stopped x (sym d.says ∙ t) v (rw (d.words, m)) regs (rw (c.followed2.ensures, refused))
+    holds_stopped x (sym d.says ∙ t) v (rw (d.words, m)) regs (rw (c.followed-2.ensures, refused))
 
 pub follow_spec : {M : Type 1} → statement M
 follow_spec =
     tie.close
-    (tie.spec (λ c. search rules) (λ c. search rules) mul_from add_advance mul_advance (λ c. search rules) (λ c. search rules)
-    part_advance_end advance_requires followed_requires (λ c. search rules) (λ c. search rules) returns stop_requires followed_requires_2
-    (λ c. search rules) (λ c. search rules) returns_2)
+    (tie.spec (λ c. search rules) (λ c. search rules) overflow_mul-from overflow_add-from offset_bounds-work-from (λ c. search rules) (λ c. search rules)
+    slice_bounds-advance-end advance-requires followed-requires (λ c. search rules) (λ c. search rules) returns-then-advance stop-refused-requires followed-requires-2
+    (λ c. search rules) (λ c. search rules) returns)

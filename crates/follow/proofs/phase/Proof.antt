@@ -4,11 +4,11 @@ use borrow.Author.Rules.{rules}
 use Rattle.follow.proofs.phase.Statement.{statement}
 use Rattle.follow.proofs.phase.Tie as tie
 
-returns : tie.Need-returns
-returns c = search rules
+returns-then-batch-eq0 : tie.Need-returns-then-batch-eq0
+returns-then-batch-eq0 c = search rules
 
-returns_2 : tie.Need-returns-2
-returns_2 c = next_look c.before.args.batch c.if1.false
+returns-else-batch-eq0 : tie.Need-returns-else-batch-eq0
+returns-else-batch-eq0 c = next_look c.args.batch c.if-batch-eq0.false
 
 pub phase_spec : {M : Type 1} → statement M
-phase_spec = tie.close (tie.spec returns returns_2)
+phase_spec = tie.close (tie.spec returns-then-batch-eq0 returns-else-batch-eq0)

@@ -12,55 +12,43 @@ use Rattle.follow.proofs.take_up.Statement.{statement}
 use Rattle.follow.proofs.take_up.Tie as tie
 
 -- back to the call, from before and behind the load
-abbrev called : tie.After-struct-known → tie.Start
+abbrev called : tie.After-struct_known-1 → tie.Start
 called c = c.before.before.before
 
-abbrev entry : tie.After-load → tie.Start
-entry c = called c.before.before
-
-load_requires : tie.Need-load-requires
-load_requires c κs =
-    let start = called c.before in
-    let b = start.args.step.entry.worker in
-    let x = start.pre.1.1.1 in
+load-r-requires : tie.Need-load-r-requires
+load-r-requires c κs =
+    let b = c.args.step.entry.worker in
+    let x = c.requires.1.1.1 in
     block_room x.scene x.holds b (given_low x.scene x.holds b x.here.is)
 
-shared_slice_read_taken : tie.Need-shared-slice-read-taken
-shared_slice_read_taken c =
-    let at_load = c.before.before.before in
-    let start = entry at_load in
-    let b = start.args.step.entry.worker in
-    let x = start.pre.1.1.1 in
+bounds-targets-first : tie.Need-bounds-targets-first
+bounds-targets-first c =
+    let b = c.args.step.entry.worker in
+    let x = c.requires.1.1.1 in
     let f = (first_given x.scene x.holds b x.here.is).0 in
-    rw (at_load.load.ensures, x.here.targets_are) f
+    rw (c.load-r.ensures, x.here.targets_are) f
 
-store_requires : tie.Need-store-requires
-store_requires c κs =
-    let start = entry c.before.before.before.before in
-    let b = start.args.step.entry.worker in
-    let x = start.pre.1.1.1 in
+store-requires : tie.Need-store-requires
+store-requires c κs =
+    let b = c.args.step.entry.worker in
+    let x = c.requires.1.1.1 in
     block_room x.scene x.holds b (given_low x.scene x.holds b x.here.is)
 
-moved_requires : tie.Need-moved-requires
-moved_requires c κs =
-    let start = entry c.before.before.before.before.before.before.before in
-    let x = start.pre.1.1.1 in
+moved-requires : tie.Need-moved-requires
+moved-requires c κs =
+    let x = c.requires.1.1.1 in
     (roomy x.scene x.holds, omega arith, omega arith)
 
 returns : tie.Need-returns
 returns c =
-    let at_store = c.before.before.before in
-    let at_taken = at_store.before in
-    let at_load = at_taken.before.before.before.before in
-    let start = entry at_load in
-    let b = start.args.step.entry.worker in
+    let b = c.args.step.entry.worker in
     λ marks work tallies v x.
-    rw (at_store.store.ensures, at_taken.taken.ensures, at_load.load.ensures, c.moved.ensures)
+    rw (c.store.ensures, c.taken.ensures, c.load-r.ensures, c.moved.ensures)
     (holds_taken x.scene x.holds b x.here.is v _
-    (ap (λ (l : List ℕ). get_or l (block_at start.args.regs.now b).first 0) x.here.targets_are))
+    (ap (λ (l : List ℕ). get_or l (block_at c.args.regs.now b).first 0) x.here.targets_are))
 
 pub take_up_spec : {M : Type 1} → statement M
 take_up_spec =
     tie.close
-    (tie.spec (λ c. search rules) load_requires (λ c. search rules) (λ c. search rules) shared_slice_read_taken (λ c κs. search rules)
-    store_requires moved_requires (λ c. search rules) returns)
+    (tie.spec (λ c. search rules) load-r-requires (λ c. search rules) (λ c. search rules) bounds-targets-first (λ c κs. search rules)
+    store-requires moved-requires (λ c. search rules) returns)

@@ -3,14 +3,14 @@ use borrow.Author.Tests.{eq-eqb, ne_eqb}
 use Rattle.marker.proofs.answer.Statement.{statement}
 use Rattle.marker.proofs.answer.Tie as tie
 
-counted_requires : tie.Need-counted-requires
-counted_requires c κs = c.before.requires
+counted-all-requires : tie.Need-counted-all-requires
+counted-all-requires c κs = c.requires
+
+returns-then-running-eq0 : tie.Need-returns-then-running-eq0
+returns-then-running-eq0 c = λ x. rw (eq-eqb _ _ c.if-running-eq0.true, c.counted-all.ensures x)
 
 returns : tie.Need-returns
-returns c = λ x. rw (eq-eqb _ _ c.if1.true, c.before.counted.ensures x)
-
-returns_2 : tie.Need-returns-2
-returns_2 c = λ x. rw (ne_eqb _ _ c.if1.false, c.before.counted.ensures x)
+returns c = λ x. rw (ne_eqb _ _ c.if-running-eq0.false, c.counted-all.ensures x)
 
 pub answer_spec : {M : Type 1} → statement M
-answer_spec = tie.close (tie.spec counted_requires returns returns_2)
+answer_spec = tie.close (tie.spec counted-all-requires returns-then-running-eq0 returns)

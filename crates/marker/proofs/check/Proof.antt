@@ -12,84 +12,53 @@ use Rattle.marker.proofs.Checks.{finds_8, finds_4, finds_7, finds_store, finds_9
 use Rattle.marker.proofs.check.Statement.{statement}
 use Rattle.marker.proofs.check.Tie as tie
 
--- back from each test to the one before it, and from the first to the entry
-abbrev entry : tie.Else1 → tie.Start
-entry c = c.before.before.before.before.before.before
-
-abbrev first : tie.Else2 → tie.Else1
-first c = c.before.before
-
-abbrev second : tie.Else3 → tie.Else2
-second c = c.before.before
-
 -- n and m are within their ranges
-ranges : (c : tie.Else2) → let a = (entry (first c)).args in
+ranges : (c : tie.Else-graph_outside) → let a = c.args in
     (1 ≤ objects (graph a.offsets.now a.targets.now)) × (objects (graph a.offsets.now a.targets.now) ≤ most_objects)
     × (length a.targets.now ≤ most_references)
 ranges c =
-    let a = (entry (first c)).args in
-    counts_low (objects (graph a.offsets.now a.targets.now)) (length a.targets.now) (so c.before.graph_outside.ensures c.if2.false)
+    let a = c.args in
+    counts_low (objects (graph a.offsets.now a.targets.now)) (length a.targets.now) (so c.graph_outside.ensures c.if-graph_outside.false)
+
+returns-then-settings_outside : tie.Need-returns-then-settings_outside
+returns-then-settings_outside c = finds_8 (so c.settings_outside.ensures c.if-settings_outside.true)
+
+returns-then-graph_outside : tie.Need-returns-then-graph_outside
+returns-then-graph_outside c =
+    finds_4 (so c.settings_outside.ensures c.if-settings_outside.false) (so c.graph_outside.ensures c.if-graph_outside.true)
+
+overflow_sub-offsets : tie.Need-overflow_sub-offsets
+overflow_sub-offsets c = omega (arith, ranges c)
+
+lengths_wrong-requires : tie.Need-lengths_wrong-requires
+lengths_wrong-requires c κs =
+    let s = c.args.settings in
+    ((ranges c).1, workers_low s.workers s.batch s.cutoff (so c.settings_outside.ensures c.if-settings_outside.false))
+
+returns-then-lengths_wrong : tie.Need-returns-then-lengths_wrong
+returns-then-lengths_wrong c =
+    finds_7 (so c.settings_outside.ensures c.if-settings_outside.false) (so c.graph_outside.ensures c.if-graph_outside.false)
+    (so c.lengths_wrong.ensures c.if-lengths_wrong.true)
+
+returns-in-Faulty : tie.Need-returns-in-Faulty
+returns-in-Faulty c =
+    finds_store (so c.settings_outside.ensures c.if-settings_outside.false) (so c.graph_outside.ensures c.if-graph_outside.false)
+    (so c.lengths_wrong.ensures c.if-lengths_wrong.false) _ (when_faulty c.check_store.ensures c.in-Faulty.is)
+
+returns-then-not-schedule_fits : tie.Need-returns-then-not-schedule_fits
+returns-then-not-schedule_fits c =
+    finds_9 (so c.settings_outside.ensures c.if-settings_outside.false) (so c.graph_outside.ensures c.if-graph_outside.false)
+    (so c.lengths_wrong.ensures c.if-lengths_wrong.false) (when_fine c.check_store.ensures c.in_default.is)
+    (so c.schedule_fits.ensures (not-true _ c.if-not-schedule_fits.true-raw))
 
 returns : tie.Need-returns
-returns c = finds_8 (so c.before.settings_outside.ensures c.if1.true)
-
-returns_2 : tie.Need-returns-2
-returns_2 c =
-    let t8 = c.before.before in
-    finds_4 (so t8.before.settings_outside.ensures t8.if1.false) (so c.before.graph_outside.ensures c.if2.true)
-
-sub_lengths_wrong : tie.Need-overflow-sub-lengths-wrong
-sub_lengths_wrong c = omega (arith, ranges c)
-
-lengths_wrong_requires : tie.Need-lengths-wrong-requires
-lengths_wrong_requires c κs =
-    let t8 = first c in
-    let s = (entry t8).args.settings in
-    ((ranges c).1, workers_low s.workers s.batch s.cutoff (so t8.before.settings_outside.ensures t8.if1.left))
-
-returns_3 : tie.Need-returns-3
-returns_3 c =
-    let t4 = c.before.before in
-    let t8 = first t4 in
-    finds_7 (so t8.before.settings_outside.ensures t8.if1.left) (so t4.before.graph_outside.ensures t4.if2.false)
-    (so c.before.lengths_wrong.ensures c.if3.true)
-
-returns_4 : tie.Need-returns-4
-returns_4 c =
-    let told = c.before in
-    let stored = told.before.before in
-    let t7 = stored.before in
-    let t4 = second t7 in
-    let t8 = first t4 in
-    finds_store (so t8.before.settings_outside.ensures t8.if1.left) (so t4.before.graph_outside.ensures t4.if2.left)
-    (so t7.before.lengths_wrong.ensures t7.if3.false) _ (when_faulty stored.check_store.ensures told.cause.given.1)
-
-returns_5 : tie.Need-returns-5
-returns_5 c =
-    let fits = c.before in
-    let told = fits.before in
-    let stored = told.before.before in
-    let t7 = stored.before in
-    let t4 = second t7 in
-    let t8 = first t4 in
-    finds_9 (so t8.before.settings_outside.ensures t8.if1.left) (so t4.before.graph_outside.ensures t4.if2.left)
-    (so t7.before.lengths_wrong.ensures t7.if3.false) (when_fine stored.check_store.ensures told.enum_told.given.1)
-    (so fits.schedule_fits.ensures (not-true _ c.if4.true))
-
-returns_6 : tie.Need-returns-6
-returns_6 c =
-    let fits = c.before in
-    let told = fits.before in
-    let stored = told.before.before in
-    let t7 = stored.before in
-    let t4 = second t7 in
-    let t8 = first t4 in
-    finds_none (so t8.before.settings_outside.ensures t8.if1.left) (so t4.before.graph_outside.ensures t4.if2.left)
-    (so t7.before.lengths_wrong.ensures t7.if3.false) (when_fine stored.check_store.ensures told.enum_told.given.1)
-    (so fits.schedule_fits.ensures (not-false _ c.if4.false))
+returns c =
+    finds_none (so c.settings_outside.ensures c.if-settings_outside.false) (so c.graph_outside.ensures c.if-graph_outside.false)
+    (so c.lengths_wrong.ensures c.if-lengths_wrong.false) (when_fine c.check_store.ensures c.in_default.is)
+    (so c.schedule_fits.ensures (not-false _ c.if-not-schedule_fits.false-raw))
 
 pub check_spec : {M : Type 1} → statement M
 check_spec =
     tie.close
-    (tie.spec (λ c κs. search rules) returns (λ c κs. search rules) returns_2 sub_lengths_wrong lengths_wrong_requires returns_3
-    (λ c κs. search rules) (λ c. search rules) returns_4 (λ c. search rules) (λ c κs. search rules) returns_5 returns_6)
+    (tie.spec (λ c κs. search rules) returns-then-settings_outside (λ c κs. search rules) returns-then-graph_outside overflow_sub-offsets lengths_wrong-requires returns-then-lengths_wrong
+    (λ c κs. search rules) (λ c. search rules) returns-in-Faulty (λ c. search rules) (λ c κs. search rules) returns-then-not-schedule_fits returns)

@@ -5,9 +5,9 @@ use Rattle.marker.specs.Answer.{row}
 use Rattle.marker.proofs.refusal_of.Statement.{statement}
 use Rattle.marker.proofs.refusal_of.Tie as tie
 
-returns_3 : tie.Need-returns-3
-returns_3 c = c.number_of_lem.ensures ∙ sym (ap (λ a. (row a).number) c.before.before.marked.given.1)
+returns-in-Refused : tie.Need-returns-in-Refused
+returns-in-Refused c = c.number_of.ensures ∙ sym (ap (λ a. (row a).number) c.in-Refused.is)
 
 pub refusal_of_spec : {M : Type 1} → statement M
 refusal_of_spec =
-    tie.close (tie.spec (λ c. search rules) (λ c. search rules) (λ c. search rules) (λ c κs. search rules) (λ c. search rules) (λ c. search rules) returns_3)
+    tie.close (tie.spec (λ c. search rules) (λ c. search rules) (λ c. search rules) (λ c κs. search rules) (λ c. search rules) (λ c. search rules) returns-in-Refused)

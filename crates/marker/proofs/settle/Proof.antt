@@ -8,66 +8,58 @@ use Rattle.marker.proofs.Settling.{SettledTo, part_room, part_small, settled_non
 use Rattle.marker.proofs.settle.Statement.{statement}
 use Rattle.marker.proofs.settle.Tie as tie
 
-abbrev invariant_loop : tie.invariant-loop
+abbrev invariant_loop : tie.invariant-loop-b
 invariant_loop work₀ regs workers len b₀ work b = (b ≤ workers) × ((x : Settling workers len work₀ regs) → SettledTo x b work)
 
-abbrev decreases_loop : tie.decreases-loop
+abbrev decreases_loop : tie.decreases-loop-b
 decreases_loop work₀ regs workers len b₀ work b = workers - b
 
-loop_holds : tie.Need-loop-init invariant_loop decreases_loop
-loop_holds c = (omega arith, λ x. settled_none x)
+loop-b-init : tie.Need-loop-b-init invariant_loop decreases_loop
+loop-b-init c = (omega arith, λ x. settled_none x)
 
-load_requires : tie.Need-load-requires invariant_loop decreases_loop
-load_requires c κs = block_room c.before.before.before.before.requires c.before.loop.b (omega arith)
+load-requires : tie.Need-load-requires invariant_loop decreases_loop
+load-requires c κs = block_room c.requires c.loop-b.b (omega arith)
 
-mul_from : tie.Need-overflow-mul-from invariant_loop decreases_loop
-mul_from c =
-    let l = c.before.before.before in
-    omega (arith, part_small l.before.before.before.requires l.loop.b (omega arith))
+overflow_mul-from : tie.Need-overflow_mul-from invariant_loop decreases_loop
+overflow_mul-from c =
+    omega (arith, part_small c.requires c.loop-b.b (omega arith))
 
-add_settle : tie.Need-overflow-add-settle invariant_loop decreases_loop
-add_settle c =
-    let l = c.before.before.before in
-    omega (arith, part_small l.before.before.before.requires l.loop.b (omega arith))
+overflow_add-from : tie.Need-overflow_add-from invariant_loop decreases_loop
+overflow_add-from c =
+    omega (arith, part_small c.requires c.loop-b.b (omega arith))
 
-mul_settle : tie.Need-overflow-mul-settle invariant_loop decreases_loop
-mul_settle c =
-    let l = c.before.before.before in
-    omega (arith, part_small l.before.before.before.requires l.loop.b (omega arith))
+offset_bounds-work-from : tie.Need-offset_bounds-work-from invariant_loop decreases_loop
+offset_bounds-work-from c =
+    omega (arith, part_small c.requires c.loop-b.b (omega arith))
 
-part_settle_end : tie.Need-slice-bounds-settle-end invariant_loop decreases_loop
-part_settle_end c =
-    let l = c.before.before.before in
-    let x = l.before.before.before.requires in
-    omega (arith, part_room x l.loop.b (omega arith), (l.loop.invariant.1 x).long)
+slice_bounds-settle-end : tie.Need-slice_bounds-settle-end invariant_loop decreases_loop
+slice_bounds-settle-end c =
+    let x = c.requires in
+    omega (arith, part_room x c.loop-b.b (omega arith), (c.loop-b.invariant.1 x).long)
 
-settle_requires : tie.Need-settle-requires invariant_loop decreases_loop
-settle_requires c κs =
-    let topped = c.before in
-    let l = topped.before.before.before in
-    let x = l.before.before.before.requires in
-    top_room x (l.loop.invariant.1 x) (omega arith) refl (topped.top_of.ensures ∙ ap top_for topped.before.load.ensures)
+settle-requires : tie.Need-settle-requires invariant_loop decreases_loop
+settle-requires c κs =
+    let x = c.requires in
+    top_room x (c.loop-b.invariant.1 x) (omega arith) refl (c.top_of-top.ensures ∙ ap top_for c.load.ensures)
 
-loop_again : tie.Need-loop-preserved invariant_loop decreases_loop
-loop_again c =
-    let settled = c.before.before in
-    let topped = settled.before.before in
-    let l = topped.before.before.before.loop in (
+loop-b-preserved : tie.Need-loop-b-preserved invariant_loop decreases_loop
+loop-b-preserved c =
+    let l = c.loop-b in (
       omega arith,
       λ x.
-          settled_next x (l.invariant.1 x) (omega arith) refl (topped.top_of.ensures ∙ ap top_for topped.before.load.ensures)
-          settled.settle.ensures,
+          settled_next x (l.invariant.1 x) (omega arith) refl (c.top_of-top.ensures ∙ ap top_for c.load.ensures)
+          c.settle.ensures,
     )
 
-same_length : tie.Need-same-length invariant_loop decreases_loop
-same_length c = (c.before.loop.invariant.1 c.before.before.before.before.requires).long
+shape_of-work : tie.Need-shape_of-work invariant_loop decreases_loop
+shape_of-work c = (c.loop-b.invariant.1 c.requires).long
 
 returns : tie.Need-returns invariant_loop decreases_loop
-returns c = λ x. settled_all x (c.before.loop.invariant.1 x) (omega arith)
+returns c = λ x. settled_all x (c.loop-b.invariant.1 x) (omega arith)
 
 pub settle_spec : {M : Type 1} → statement M
 settle_spec =
     tie.close
-    (tie.spec invariant_loop decreases_loop loop_holds load_requires (λ c κs. search rules) (λ c. search rules) mul_from
-    add_settle mul_settle (λ c. search rules) (λ c. search rules) part_settle_end settle_requires (λ c. omega arith)
-    (λ c. omega arith) loop_again same_length returns)
+    (tie.spec invariant_loop decreases_loop loop-b-init load-requires (λ c κs. search rules) (λ c. search rules) overflow_mul-from
+    overflow_add-from offset_bounds-work-from (λ c. search rules) (λ c. search rules) slice_bounds-settle-end settle-requires (λ c. omega arith)
+    (λ c. omega arith) loop-b-preserved shape_of-work returns)

@@ -3,11 +3,11 @@ use borrow.Author.Tests.{lt-ltb, le-ltb}
 use Rattle.marker.proofs.top_of.Statement.{statement}
 use Rattle.marker.proofs.top_of.Tie as tie
 
-returns : tie.Need-returns
-returns c = rw (lt-ltb _ _ c.if1.true)
+returns-then-status-lt-GIVEN : tie.Need-returns-then-status-lt-GIVEN
+returns-then-status-lt-GIVEN c = rw (lt-ltb _ _ c.if-status-lt-GIVEN.true)
 
-returns_2 : tie.Need-returns-2
-returns_2 c = rw (le-ltb _ _ c.if1.false)
+returns : tie.Need-returns
+returns c = rw (le-ltb _ _ c.if-status-lt-GIVEN.false)
 
 pub top_of_spec : {M : Type 1} → statement M
-top_of_spec = tie.close (tie.spec returns returns_2)
+top_of_spec = tie.close (tie.spec returns-then-status-lt-GIVEN returns)

@@ -6,22 +6,20 @@ use borrow.Author.Rules.{rules}
 use Rattle.poll.proofs.cut_back.Statement.{statement}
 use Rattle.poll.proofs.cut_back.Tie as tie
 
-slice_read_end : tie.Need-slice-read-end
-slice_read_end c = back_read c.before.before.requires.1.1
+bounds-work-from : tie.Need-bounds-work-from
+bounds-work-from c = back_read c.requires.1.1
 
-cut_back_requires : tie.Need-cut-back-requires
-cut_back_requires c κs = back_lent c.before.before.before.requires.1.1
+cut_back-first-requires : tie.Need-cut_back-first-requires
+cut_back-first-requires c κs = back_lent c.requires.1.1
 
 returns : tie.Need-returns
 returns c =
-    let at_cut = c.before.before in
-    let s = at_cut.before.before.before in
-    let e = at_cut.cut_back.ensures in
-    (refl, λ a k x. rw (e.0, e.1) (divided_back x (λ i. omega (arith, s.slice_known.given i))))
+    let e = c.cut_back-first.ensures in
+    (refl, λ a k x. rw (e.0, e.1) (divided_back x (λ i. omega (arith, c.slice_known-1.given i))))
 
 pub cut_back_spec : {M : Type 1} → statement M
 cut_back_spec =
     tie.close
-    (tie.spec (λ c. search rules) (λ c. search rules) (λ c. search rules) slice_read_end (λ c. search rules)
-    (λ c. search rules) (λ c. search rules) (λ c. search rules) (λ c. search rules) cut_back_requires (λ c. search rules)
+    (tie.spec (λ c. search rules) (λ c. search rules) (λ c. search rules) bounds-work-from (λ c. search rules)
+    (λ c. search rules) (λ c. search rules) (λ c. search rules) (λ c. search rules) cut_back-first-requires (λ c. search rules)
     returns)

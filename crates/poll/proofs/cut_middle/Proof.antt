@@ -9,63 +9,50 @@ use Rattle.poll.proofs.cut_middle.Statement.{statement}
 use Rattle.poll.proofs.cut_middle.Tie as tie
 
 -- where the words of the work memory are known to fit
-abbrev reached : (c : tie.After-slice-known) → let a = c.before.args in
+abbrev reached : (c : tie.After-slice_known-1) → let a = c.args in
     (k : ℕ) → Cutting a.len a.work.now a.b a.asker a.top k a.cut.place a.cut.left
     → Reached a.len a.work.now a.b a.asker a.top k a.cut.place a.cut.left
-reached c k x = record { cutting = x; small = λ i. omega (arith, c.slice_known.given i) }
+reached c k x = record { cutting = x; small = λ i. omega (arith, c.slice_known-1.given i) }
 
--- from the copied words back to there
-abbrev known : tie.After-copy-words → tie.After-slice-known
-known c = c.before.before.before.before.before.before
+overflow_sub-below : tie.Need-overflow_sub-below
+overflow_sub-below c =
+    (placed (reached c.before _ c.requires.1)).low
 
-sub_below : tie.Need-overflow-sub-below
-sub_below c =
-    let s = c.before in
-    (placed (reached s _ s.before.requires.1)).low
-
-slice_read_next : tie.Need-slice-read-next
-slice_read_next c =
-    let s = c.before.before in
-    let p = placed (reached s _ s.before.requires.1) in
+bounds-work-at : tie.Need-bounds-work-at
+bounds-work-at c =
+    let p = placed (reached c.before.before _ c.requires.1) in
     omega arith
 
-add_next : tie.Need-overflow-add-next
-add_next c =
-    let s = c.before.before.before in
-    omega (arith, (placed (reached s _ s.before.requires.1)).fits)
+overflow_add-next : tie.Need-overflow_add-next
+overflow_add-next c =
+    omega (arith, (placed (reached c.before.before.before _ c.requires.1)).fits)
 
-slice_read_last : tie.Need-slice-read-last
-slice_read_last c =
-    let s = c.before.before.before.before in
-    let p = placed (reached s _ s.before.requires.1) in
+bounds-work-at-2 : tie.Need-bounds-work-at-2
+bounds-work-at-2 c =
+    let p = placed (reached c.before.before.before.before _ c.requires.1) in
     omega arith
 
-copy_words_requires : tie.Need-copy-words-requires
-copy_words_requires c κs =
-    let s = c.before.before.before.before.before in
-    let x = s.before.requires.1 in
-    let p = placed (reached s _ x) in
-    copyable x.dividing (s.before.args.cut.place - 2) (omega arith)
+copy_words-requires : tie.Need-copy_words-requires
+copy_words-requires c κs =
+    let x = c.requires.1 in
+    let p = placed (reached c.before.before.before.before.before _ x) in
+    copyable x.dividing (c.args.cut.place - 2) (omega arith)
 
-keep_above_requires : tie.Need-keep-above-requires
-keep_above_requires c κs =
-    let at_copy = c.before.before.before in
-    let s = known at_copy in
-    cleft (reached s _ s.before.pre.1) _ at_copy.copy_words.ensures
+keep_above-used-requires : tie.Need-keep_above-used-requires
+keep_above-used-requires c κs =
+    cleft (reached c.before.before.before.before.before.before.before.before.before _ c.requires.1) _ c.copy_words.ensures
 
 returns : tie.Need-returns
-returns c =
-    let at_keep = c.before.before in
-    let at_copy = at_keep.before.before.before.before in (
-      refl,
-      λ k x. divided_below (reached (known at_copy) k x) _ at_copy.copy_words.ensures
-          _ _ at_keep.keep_above.auto.0 at_keep.keep_above.ensures,
-    )
+returns c = (
+  refl,
+  λ k x. divided_below (reached c.before.before.before.before.before.before.before.before.before.before.before.before k x) _ c.copy_words.ensures
+      _ _ c.keep_above-used.auto.s c.keep_above-used.ensures,
+)
 
 pub cut_middle_spec : {M : Type 1} → statement M
 cut_middle_spec =
     tie.close
-    (tie.spec (λ c. search rules) sub_below (λ c. search rules) (λ c. search rules) (λ c. search rules) slice_read_next
-    add_next (λ c. search rules) (λ c. search rules) slice_read_last (λ c. search rules) (λ c. search rules)
-    copy_words_requires (λ c. search rules) (λ c. search rules) (λ c. search rules) (λ c. search rules)
-    (λ c. search rules) keep_above_requires (λ c. search rules) returns)
+    (tie.spec (λ c. search rules) overflow_sub-below (λ c. search rules) (λ c. search rules) (λ c. search rules) bounds-work-at
+    overflow_add-next (λ c. search rules) (λ c. search rules) bounds-work-at-2 (λ c. search rules) (λ c. search rules)
+    copy_words-requires (λ c. search rules) (λ c. search rules) (λ c. search rules) (λ c. search rules)
+    (λ c. search rules) keep_above-used-requires (λ c. search rules) returns)

@@ -4,11 +4,11 @@ use borrow.Author.Rules.{rules}
 use Rattle.poll.proofs.shared.Statement.{statement}
 use Rattle.poll.proofs.shared.Tie as tie
 
-sub_t6 : tie.Need-overflow-sub-t6
-sub_t6 c = omega (arith, c.least.ensures)
+overflow_sub-result : tie.Need-overflow_sub-result
+overflow_sub-result c = omega (arith, c.least-k.ensures)
 
 returns : tie.Need-returns
-returns c = rw c.least.ensures
+returns c = rw c.least-k.ensures
 
 pub shared_spec : {M : Type 1} → statement M
-shared_spec = tie.close (tie.spec (λ c κs. search rules) sub_t6 returns)
+shared_spec = tie.close (tie.spec (λ c κs. search rules) overflow_sub-result returns)

@@ -9,6 +9,6 @@ use Rattle.rounds.proofs.next_of.Tie as tie
 pub next_of_spec : {M : Type 1} → statement M
 next_of_spec =
     tie.close
-    (tie.spec (λ c. omega (arith, c.requires)) (λ c. omega (arith, c.before.requires))
-    (λ c. rw (lt-ltb (c.before.args.b + 1) c.before.args.workers c.if1.true) refl)
-    (λ c. rw (le-ltb (c.before.args.b + 1) c.before.args.workers (omega (arith, c.if1.false))) refl))
+    (tie.spec (λ c. omega (arith, c.requires)) (λ c. omega (arith, c.requires))
+    (λ c. rw (lt-ltb (c.args.b + 1) c.args.workers c.if-b-workers.true) refl)
+    (λ c. rw (le-ltb (c.args.b + 1) c.args.workers (omega (arith, c.if-b-workers.false))) refl))

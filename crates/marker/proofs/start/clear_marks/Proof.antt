@@ -5,17 +5,15 @@ use borrow.Author.Rules.{rules}
 use Rattle.marker.proofs.start.clear_marks.Statement.{statement}
 use Rattle.marker.proofs.start.clear_marks.Tie as tie
 
-clear_bytes_requires : tie.Need-clear-bytes-requires
-clear_bytes_requires c κs = search rules
+clear_bytes-requires : tie.Need-clear_bytes-requires
+clear_bytes-requires c κs = search rules
 
-same_length : tie.Need-same-length
-same_length c = search rules
+shape_of-marks : tie.Need-shape_of-marks
+shape_of-marks c = search rules
 
 returns : tie.Need-returns
 returns c =
-    let at_clear_bytes = c.before.before in
-    let start = at_clear_bytes.before.before.before in
-    at_clear_bytes.clear_bytes.ensures ∙ cleared_all start.args.marks.now
+    c.clear_bytes.ensures ∙ cleared_all c.args.marks.now
 
 pub clear_marks_spec : {M : Type 1} → statement M
-clear_marks_spec = tie.close (tie.spec clear_bytes_requires same_length returns)
+clear_marks_spec = tie.close (tie.spec clear_bytes-requires shape_of-marks returns)

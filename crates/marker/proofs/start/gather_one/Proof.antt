@@ -7,56 +7,48 @@ use borrow.Author.Rules.{rules}
 use Rattle.marker.proofs.start.gather_one.Statement.{statement}
 use Rattle.marker.proofs.start.gather_one.Tie as tie
 
-slice_read_was : tie.Need-slice-read-was
-slice_read_was c = mark_there c.before.requires
+bounds-marks-i : tie.Need-bounds-marks-i
+bounds-marks-i c = mark_there c.requires
 
-slice_write_marks : tie.Need-slice-write-marks
-slice_write_marks c = mark_there c.before.requires
+bounds-marks-i-2 : tie.Need-bounds-marks-i-2
+bounds-marks-i-2 c = mark_there c.requires
+
+returns-then-was-ne0 : tie.Need-returns-then-was-ne0
+returns-then-was-ne0 c = λ x. gathered_again x c.if-was-ne0.true
+
+overflow_add-live : tie.Need-overflow_add-live
+overflow_add-live c = omega (arith, live_small c.requires)
+
+bounds-offsets-i : tie.Need-bounds-offsets-i
+bounds-offsets-i c = omega (arith, offset_there c.requires)
+
+bounds-offsets-i-2 : tie.Need-bounds-offsets-i-2
+bounds-offsets-i-2 c = offset_there c.requires
+
+returns-then-end-first : tie.Need-returns-then-end-first
+returns-then-end-first c = λ x. gathered_none x c.if-was-ne0.false c.if-end-first.true
+
+overflow_sub-at : tie.Need-overflow_sub-at
+overflow_sub-at c =
+    room_more c.requires c.if-was-ne0.false _ _ refl refl c.if-end-first.false
+
+bounds-s-at-2 : tie.Need-bounds-s-at-2
+bounds-s-at-2 c =
+    let x = c.requires in
+    simp length-set (omega (arith, room_more x c.if-was-ne0.false _ _ refl refl c.if-end-first.false, x.gathered.ends.place))
+
+overflow_add-result : tie.Need-overflow_add-result
+overflow_add-result c =
+    omega (arith, carried_small c.requires c.if-was-ne0.false _ _ refl refl c.if-end-first.false)
 
 returns : tie.Need-returns
-returns c = λ x. gathered_again x c.if1.true
-
-add_live : tie.Need-overflow-add-live
-add_live c = omega (arith, live_small c.before.before.before.requires)
-
-shared_slice_read_first : tie.Need-shared-slice-read-first
-shared_slice_read_first c = omega (arith, offset_there c.before.before.before.before.requires)
-
-shared_slice_read_end : tie.Need-shared-slice-read-end
-shared_slice_read_end c = offset_there c.before.before.before.before.before.requires
-
-returns_2 : tie.Need-returns-2
-returns_2 c = λ x. gathered_none x c.before.before.before.before.if1.false c.if2.true
-
-sub_at : tie.Need-overflow-sub-at
-sub_at c =
-    let more = c.before in
-    let new = more.before.before.before.before in
-    room_more new.before.before.requires new.if1.false _ _ refl refl more.if2.false
-
-slice_write_s_2 : tie.Need-slice-write-s-2
-slice_write_s_2 c =
-    let more = c.before in
-    let new = more.before.before.before.before in
-    let x = new.before.before.requires in
-    simp length-set (omega (arith, room_more x new.if1.false _ _ refl refl more.if2.false, x.gathered.ends.place))
-
-add_t23 : tie.Need-overflow-add-t23
-add_t23 c =
-    let more = c.before.before in
-    let new = more.before.before.before.before in
-    omega (arith, carried_small new.before.before.requires new.if1.false _ _ refl refl more.if2.false)
-
-returns_3 : tie.Need-returns-3
-returns_3 c =
-    let more = c.before.before in
-    let new = more.before.before.before.before in
-    λ x. gathered_more x new.if1.false _ _ refl refl more.if2.false
+returns c =
+    λ x. gathered_more x c.if-was-ne0.false _ _ refl refl c.if-end-first.false
 
 pub gather_one_spec : {M : Type 1} → statement M
 gather_one_spec =
     tie.close
-    (tie.spec slice_read_was slice_write_marks (λ c. search rules) returns add_live (λ c. search rules)
-    shared_slice_read_first (λ c. search rules) (λ c. search rules) shared_slice_read_end (λ c. search rules) returns_2
-    sub_at (λ c. search rules) (λ c. search rules) (λ c. search rules) (λ c. search rules) slice_write_s_2
-    (λ c. search rules) add_t23 (λ c. search rules) (λ c. search rules) returns_3)
+    (tie.spec bounds-marks-i bounds-marks-i-2 (λ c. search rules) returns-then-was-ne0 overflow_add-live (λ c. search rules)
+    bounds-offsets-i (λ c. search rules) (λ c. search rules) bounds-offsets-i-2 (λ c. search rules) returns-then-end-first
+    overflow_sub-at (λ c. search rules) (λ c. search rules) (λ c. search rules) (λ c. search rules) bounds-s-at-2
+    (λ c. search rules) overflow_add-result (λ c. search rules) (λ c. search rules) returns)

@@ -5,70 +5,42 @@ use borrow.Author.Rules.{rules}
 use Rattle.marker.proofs.start.start_stretch.Statement.{statement}
 use Rattle.marker.proofs.start.start_stretch.Tie as tie
 
--- back to the marks that are cleared, and from there to the entry
-abbrev clear : tie.After-gather → tie.After-clear-marks
-clear c = c.before.before.before.before.before
+gather-t-requires : tie.Need-gather-t-requires
+gather-t-requires c κs =
+    (gather_ready c.requires.0 _ c.requires.1 c.clear_marks.auto.marks, cleared c.args.marks.now c.clear_marks.ensures)
 
-abbrev entry : tie.After-clear-marks → tie.Start
-entry c = c.before.before.before.before.before.before.before.before
+returns-then-carried-eq0 : tie.Need-returns-then-carried-eq0
+returns-then-carried-eq0 c =
+    rw c.begun.ensures
+    (begin_none c.requires.0 _ c.requires.1 c.clear_marks.auto.marks c.gather-t.ensures c.if-carried-eq0.true)
 
--- back to the starts that are gathered
-abbrev gather : tie.After-struct-known → tie.After-gather
-gather c = c.before.before.before.before.before
+lower-top-requires : tie.Need-lower-top-requires
+lower-top-requires c κs =
+    lower_ready c.requires.0 _ c.requires.1 c.clear_marks.auto.marks c.gather-t.ensures c.if-carried-eq0.false
+    c.gather-t.auto.s
 
-gather_requires : tie.Need-gather-requires
-gather_requires c κs =
-    let cleared_marks = c.before.before.before.before in
-    let start = entry cleared_marks in
-    (gather_ready start.pre.0 _ start.pre.1 cleared_marks.clear_marks.auto.0, cleared start.args.marks.now cleared_marks.clear_marks.ensures)
+bounds-targets-first : tie.Need-bounds-targets-first
+bounds-targets-first c =
+    first_inside c.requires.0 _ c.requires.1 c.clear_marks.auto.marks c.gather-t.ensures c.if-carried-eq0.false
+    c.gather-t.auto.s c.lower-top.ensures
+
+store-requires : tie.Need-store-requires
+store-requires c κs =
+    first_room c.requires.0
 
 returns : tie.Need-returns
 returns c =
-    let none = c.before.before in
-    let gathered = gather none.before in
-    rw c.begun.ensures
-    (begin_none (entry (clear gathered)).requires.0 _ (entry (clear gathered)).requires.1 (clear gathered).clear_marks.kept.0 gathered.gather.ensures none.if1.true)
+    rw c.begun-2.ensures
+    (begin_some c.requires.0 _ c.requires.1 c.clear_marks.auto.marks c.gather-t.ensures c.if-carried-eq0.false
+    c.gather-t.auto.s c.lower-top.ensures _ c.store.ensures)
 
-lower_requires : tie.Need-lower-requires
-lower_requires c κs =
-    let some = c.before in
-    let gathered = gather some.before in
-    lower_ready (entry (clear gathered)).requires.0 _ (entry (clear gathered)).requires.1 (clear gathered).clear_marks.kept.0 gathered.gather.ensures some.if1.false
-    gathered.gather.kept.1.1.1.0
-
-shared_slice_read_t29 : tie.Need-shared-slice-read-t29
-shared_slice_read_t29 c =
-    let low = c.before.before.before.before in
-    let some = low.before.before in
-    let gathered = gather some.before in
-    first_inside (entry (clear gathered)).requires.0 _ (entry (clear gathered)).requires.1 (clear gathered).clear_marks.kept.0 gathered.gather.ensures some.if1.false
-    gathered.gather.kept.1.1.1.0 low.lower.ensures
-
-store_requires : tie.Need-store-requires
-store_requires c κs =
-    let some = c.before.before.before.before.before.before in
-    first_room (entry (clear (gather some.before))).requires.0
-
-returns_2 : tie.Need-returns-2
-returns_2 c =
-    let store = c.before.before.before.before in
-    let low = store.before.before.before.before.before in
-    let some = low.before.before in
-    let gathered = gather some.before in
-    rw c.begun2.ensures
-    (begin_some (entry (clear gathered)).requires.0 _ (entry (clear gathered)).requires.1 (clear gathered).clear_marks.kept.0 gathered.gather.ensures some.if1.false
-    gathered.gather.kept.1.1.1.0 low.lower.ensures _ store.store.ensures)
-
-same_marks : tie.Need-same-length-3
-same_marks c =
-    let store = c.before.before.before.before in
-    let low = store.before.before.before.before.before in
-    let gathered = gather low.before.before.before in
-    omega (arith, (clear gathered).clear_marks.kept.0, gathered.gather.kept.1.1.0)
+shape_of-marks : tie.Need-shape_of-marks
+shape_of-marks c =
+    omega (arith, c.clear_marks.auto.marks, c.gather-t.auto.marks)
 
 pub start_stretch_spec : {M : Type 1} → statement M
 start_stretch_spec =
     tie.close
-    (tie.spec (λ c κs. search rules) gather_requires (λ c. search rules) (λ c. search rules) (λ c κs. search rules) (λ c. search rules)
-    (λ c. search rules) returns lower_requires (λ c. search rules) (λ c. search rules) shared_slice_read_t29 store_requires
-    (λ c. search rules) (λ c κs. search rules) same_marks (λ c. search rules) (λ c. search rules) returns_2)
+    (tie.spec (λ c κs. search rules) gather-t-requires (λ c. search rules) (λ c. search rules) (λ c κs. search rules) (λ c. search rules)
+    (λ c. search rules) returns-then-carried-eq0 lower-top-requires (λ c. search rules) (λ c. search rules) bounds-targets-first store-requires
+    (λ c. search rules) (λ c κs. search rules) shape_of-marks (λ c. search rules) (λ c. search rules) returns)
