@@ -1,5 +1,5 @@
 -- Layout and reading are each other's inverse.
-use mathlib.Core.Path.{◌≡◌, refl, ap, sym, ◌∙◌}
+use mathlib.Core.Path.{◌≡◌, refl, ap, sym, subst, ◌∙◌}
 use mathlib.Core.List.{List, [], ◌++◌, flat_map, append-nil}
 use Prim.Native.Nat.{ℕ, ◌+◌, ◌*◌}
 use native.Mathlib.Omega.{arith}
@@ -58,6 +58,13 @@ whole_layout b h w =
 
 -- ---- from the layout to the reading
 
+-- a good header, and no fault behind it
+clear_behind : (b : List ℕ) {n m : ℕ} → GoodHeader b → n_field b ≡ n → m_field b ≡ m → faults n (dues n m) (drop 16 b) ≡ 0
+    → catalogue_fault b ≡ 0
+unfolding catalogue_fault faults
+clear_behind b {n = n} g p q h = rw (clear_header (n_field b) b g) (subst (λ k. faults k (dues k (m_field b)) (drop 16 b) ≡ 0) (sym p)
+    (subst (λ k. faults n (dues n k) (drop 16 b) ≡ 0) (sym q) h))
+
 module _ (s : Store) (r : InRange s) where
   abbrev n : ℕ
   n = objects s
@@ -111,8 +118,7 @@ module _ (s : Store) (r : InRange s) where
       ∙ written_leases r.few most_leases s.leases r.few_leases r.leases_below
 
   layout_clear : catalogue_fault (layout s) ≡ 0
-  unfolding catalogue_fault faults
-  layout_clear = rw (clear_header (n_field (layout s)) (layout s) header_good, header_behind, header_n, header_m) layout_faults
+  layout_clear = clear_behind (layout s) header_good header_n header_m (rw header_behind layout_faults)
 
   layout_sizes : records 12 size_field (n_field (layout s)) (drop 16 (layout s)) ≡ s.sizes
   layout_sizes = rw (header_n, header_behind) (written_records (object_form 0) s.sizes pairs r.sizes_small)

@@ -147,9 +147,9 @@ pub looking_none : (n from to : ℕ) (b : List ℕ) → from ≤ to → Looking 
 looking_none n from to b h = record { begun = omega arith; within = h; clear = λ e k g p. absurd (omega arith) }
 
 -- a test that sets a flag, where the flag is not set: the test was passed, and the flag was not set before
-pub passed : {T L : Type 0} {before after : ℕ} → (T × (after ≡ 1)) ⊎ (L × (after ≡ before)) → after ≡ 0 → L × (before ≡ 0)
-passed (inl w) e = absurd (omega (arith, w.1))
-passed (inr w) e = (w.0, sym w.1 ∙ e)
+pub passed : {T L : Type 0} {before after : ℕ} → T ⊎ L → (T → after ≡ 1) → (L → after ≡ before) → after ≡ 0 → L × (before ≡ 0)
+passed (inl w) set kept e = absurd (omega (arith, set w))
+passed (inr w) set kept e = (w, sym (kept w) ∙ e)
 
 module _ {n from to : ℕ} {b : List ℕ} {wrong i : ℕ} (a : Looking n from to b wrong i) where
   pub looking_next : i < to → {after : ℕ} → (after ≡ 0 → (wrong ≡ 0) × (record_fault (due_at n i) n (drop (16 + 12 * i) b) ≡ 0))

@@ -18,6 +18,7 @@ pub data In {A : Type 0} (x : A) : List A → Type 0 where
 
 module _ {A : Type 0} where
   in_left : {x : A} (l r : List A) → In x l → In x (l ++ r)
+  in_left [] r m = elim m [ ]
   in_left (y ∷ l) r (here e) = here e
   in_left (y ∷ l) r (there m) = there (in_left l r m)
 
@@ -26,17 +27,20 @@ module _ {A : Type 0} where
   in_right (y ∷ l) r m = there (in_right l r m)
 
   pub in_map : {B : Type 0} (f : A → B) {x : A} (l : List A) → In x l → In (f x) (map f l)
+  in_map f [] m = elim m [ ]
   in_map f (y ∷ l) (here e) = here (ap f e)
   in_map f (y ∷ l) (there m) = there (in_map f l m)
 
   -- and at some place of it
   pub place : (d : A) {x : A} (l : List A) → In x l → (i : ℕ) × (i < length l) × (get_or l i d ≡ x)
+  place d [] m = elim m [ ]
   place d (y ∷ l) (here e) = (0, omega arith, sym e)
   place d (y ∷ l) (there m) = let r = place d l m in (suc r.0, omega (arith, r.1), r.2)
 
 -- among blocks laid end to end
 in_laid : {A B : Type 0} (f : A → List B) {x : A} {z : B} (l : List A) → In x l → In z (f x) → In z (laid f l)
 unfolding laid
+in_laid f [] p m = elim p [ ]
 in_laid f (y ∷ l) (here e) m = in_left (f y) (laid f l) (rw e at m)
 in_laid f (y ∷ l) (there p) m = in_right (f y) (laid f l) (in_laid f l p m)
 

@@ -172,7 +172,7 @@ unfolding down_from
 down_printed {at = at} zero a = printed a (omega arith)
 down_printed {o} {at} {w} {v} {left} {out} (suc k) a =
     let e : at + suc k - 1 ≡ at + k = omega arith in
-    down_printed k (rw e at (printing_next a (omega arith)))
+    down_printed {left = left / 10} {out = set out (at + k) (48 + left % 10)} k (rw e at (printing_next a (omega arith)))
 
 pub straight : (w : ℕ) (o : List ℕ) (at v stop : ℕ) → length (decimal v) ≡ w → at + w < length o
     → Put o at (stopped (decimal v) stop) (down_from w at v (set o (at + w) stop)) (at + w + 1)

@@ -15,62 +15,49 @@ use Rattle.hands.proofs.Checks.{finds_8, finds_width, finds_card, finds_7, finds
 use Rattle.cards.proofs.deal.Statement.{statement}
 use Rattle.cards.proofs.deal.Tie as tie
 
-within : (e : tie.Else1) → outside most_workers e.before.before.before.before.args.workers ≡ false
-within e = so e.before.workers_outside.ensures e.if1.false
+within : (e : tie.Else-workers_outside) → outside most_workers e.args.workers ≡ false
+within e = so e.workers_outside.ensures e.if-workers_outside.false
 
-abbrev start : tie.Else1 → tie.Start
-start e = e.before.before.before.before
+returns-then-workers_outside : tie.Need-returns-then-workers_outside
+returns-then-workers_outside c = refused _ _ _ 7 refl (finds_8 _ _ _ (so c.workers_outside.ensures c.if-workers_outside.true))
 
-returns : tie.Need-returns
-returns c = refused _ _ _ 7 refl (finds_8 _ _ _ (so c.before.workers_outside.ensures c.if1.true))
+returns-then-workers-gt-CARD_WORKERS : tie.Need-returns-then-workers-gt-CARD_WORKERS
+returns-then-workers-gt-CARD_WORKERS c = refused _ _ _ 14 refl (finds_width _ _ _ (within c.before) c.if-workers-gt-CARD_WORKERS.true)
 
-returns_2 : tie.Need-returns-2
-returns_2 c = refused _ _ _ 14 refl (finds_width _ _ _ (within c.before) c.if2.true)
+returns-then-not-is_below : tie.Need-returns-then-not-is_below
+returns-then-not-is_below c =
+    refused _ _ _ 14 refl (finds_card _ _ _ (within c.before.before.before) c.if-workers-gt-CARD_WORKERS.false (so c.is_below.ensures (not-true _ c.if-not-is_below.true-raw)))
 
-returns_3 : tie.Need-returns-3
-returns_3 c =
-    let t = c.before.before in
-    refused _ _ _ 14 refl (finds_card _ _ _ (within t.before) t.if2.false (so c.before.is_below.ensures (not-true _ c.if3.true)))
+known : (c : tie.Else-not-is_below) → all_below deck_size c.args.cards.now ≡ true
+known c = so c.is_below.ensures (not-false _ c.if-not-is_below.false-raw)
 
-known : (c : tie.Else3) → all_below deck_size (start c.before.before.before).args.cards.now ≡ true
-known c = so c.before.is_below.ensures (not-false _ c.if3.false)
+is_schedule_of-requires : tie.Need-is_schedule_of-requires
+is_schedule_of-requires c κs = ((inside most_workers _ (within c.before.before.before)).0, c.if-workers-gt-CARD_WORKERS.false)
 
-is_schedule_of_requires : tie.Need-is-schedule-of-requires
-is_schedule_of_requires c κs = let t = c.before.before in ((inside most_workers _ (within t.before)).0, t.if2.false)
+returns-then-not-is_schedule_of : tie.Need-returns-then-not-is_schedule_of
+returns-then-not-is_schedule_of c =
+    refused _ _ _ 6 refl (finds_7 _ _ _ (within c.before.before.before.before.before) c.if-workers-gt-CARD_WORKERS.false (known c.before.before) (so c.is_schedule_of.ensures (not-true _ c.if-not-is_schedule_of.true-raw)))
 
-returns_4 : tie.Need-returns-4
-returns_4 c =
-    let k = c.before.before in
-    let t = k.before.before in
-    refused _ _ _ 6 refl (finds_7 _ _ _ (within t.before) t.if2.false (known k) (so c.before.is_schedule_of.ensures (not-true _ c.if4.true)))
-
-exact : (c : tie.Else4) → let a = (start c.before.before.before.before.before).args in
+exact : (c : tie.Else-not-is_schedule_of) → let a = c.args in
     eqb (length a.schedule.now) (bytes_of a.workers (length a.cards.now)) ≡ true
-exact c = so c.before.is_schedule_of.ensures (not-false _ c.if4.false)
+exact c = so c.is_schedule_of.ensures (not-false _ c.if-not-is_schedule_of.false-raw)
 
-put_hand_requires : tie.Need-put-hand-requires
-put_hand_requires c κs =
-    let e = c.before in
-    let k = e.before.before in
-    let t = k.before.before in
+put_hand-requires : tie.Need-put_hand-requires
+put_hand-requires c κs =
     record {
-      some = (inside most_workers _ (within t.before)).0;
-      few = t.if2.false;
-      known = known k;
-      exact = eqb-true _ _ (exact e);
+      some = (inside most_workers _ (within c.before.before.before.before.before.before)).0;
+      few = c.if-workers-gt-CARD_WORKERS.false;
+      known = known c.before.before.before;
+      exact = eqb-true _ _ (exact c.before);
     }
 
-returns_5 : tie.Need-returns-5
-returns_5 c =
-    let r = c.before.before in
-    let e = r.before.before in
-    let k = e.before.before in
-    let t = k.before.before in
-    dealt_all _ _ _ refl (finds_none _ _ _ (within t.before) t.if2.false (known k) (exact e)) (inside most_workers _ (within t.before)).0 t.if2.false
-    (known k) r.put_hand.ensures
+returns : tie.Need-returns
+returns c =
+    dealt_all _ _ _ refl (finds_none _ _ _ (within c.before.before.before.before.before.before.before.before.before) c.if-workers-gt-CARD_WORKERS.false (known c.before.before.before.before.before.before) (exact c.before.before.before.before)) (inside most_workers _ (within c.before.before.before.before.before.before.before.before.before)).0 c.if-workers-gt-CARD_WORKERS.false
+    (known c.before.before.before.before.before.before) c.put_hand.ensures
 
 pub deal_spec : {M : Type 1} → statement M
 deal_spec =
     tie.close
-    (tie.spec (λ c κs. search rules) returns returns_2 (λ c κs. search rules) returns_3 is_schedule_of_requires returns_4
-    put_hand_requires (λ c. search rules) returns_5)
+    (tie.spec (λ c κs. search rules) returns-then-workers_outside returns-then-workers-gt-CARD_WORKERS (λ c κs. search rules) returns-then-not-is_below is_schedule_of-requires returns-then-not-is_schedule_of
+    put_hand-requires (λ c. search rules) returns)

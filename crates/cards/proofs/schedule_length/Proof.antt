@@ -14,33 +14,32 @@ use Rattle.hands.proofs.Lengths.{rounds_many, rounds_few}
 use Rattle.cards.proofs.schedule_length.Statement.{statement}
 use Rattle.cards.proofs.schedule_length.Tie as tie
 
-within : (e : tie.Else1) → outside most_workers e.before.before.args.workers ≡ false
-within e = so e.before.workers_outside.ensures e.if1.false
+within : (e : tie.Else-workers_outside) → outside most_workers e.args.workers ≡ false
+within e = so e.workers_outside.ensures e.if-workers_outside.false
 
-returns : tie.Need-returns
-returns c = sym (length_8 _ _ (so c.before.workers_outside.ensures c.if1.true))
+returns-then-workers_outside : tie.Need-returns-then-workers_outside
+returns-then-workers_outside c = sym (length_8 _ _ (so c.workers_outside.ensures c.if-workers_outside.true))
 
-returns_2 : tie.Need-returns-2
-returns_2 c = sym (length_15 _ _ (within c.before) c.if2.true)
+returns-then-workers-gt-CARD_WORKERS : tie.Need-returns-then-workers-gt-CARD_WORKERS
+returns-then-workers-gt-CARD_WORKERS c = sym (length_15 _ _ (within c.before) c.if-workers-gt-CARD_WORKERS.true)
 
-some : (c : tie.Else2) → 1 ≤ c.before.before.before.args.workers
+some : (c : tie.Else-workers-gt-CARD_WORKERS) → 1 ≤ c.args.workers
 some c = (inside most_workers _ (within c.before)).0
 
-few : (c : tie.Else3) → let a = c.before.before.before.before.args in bytes_of a.workers a.cards < 2 ^ 64
+few : (c : tie.Else-round-cards) → let a = c.args in bytes_of a.workers a.cards < 2 ^ 64
 few c =
-    let a = c.before.before.before.before.args in
-    omega (arith, rounds_few a.cards a.workers 18446744073709551615 (some c.before) c.if3.false)
+    let a = c.args in
+    omega (arith, rounds_few a.cards a.workers 18446744073709551615 (some c.before) c.if-round-cards.false)
 
-returns_3 : tie.Need-returns-3
-returns_3 c =
-    let t = c.before in
-    let a = t.before.before.before.args in
-    sym (length_7 a.workers a.cards (within t.before) t.if2.false (rounds_many a.cards a.workers 18446744073709551615 (some t) c.if3.true))
+returns-then-round-cards : tie.Need-returns-then-round-cards
+returns-then-round-cards c =
+    let a = c.args in
+    sym (length_7 a.workers a.cards (within c.before.before) c.if-workers-gt-CARD_WORKERS.false (rounds_many a.cards a.workers 18446744073709551615 (some c.before) c.if-round-cards.true))
 
-returns_4 : tie.Need-returns-4
-returns_4 c = let t = c.before in sym (length_is _ _ (within t.before) t.if2.false (few c))
+returns : tie.Need-returns
+returns c = sym (length_is _ _ (within c.before.before) c.if-workers-gt-CARD_WORKERS.false (few c))
 
 pub schedule_length_spec : {M : Type 1} → statement M
 schedule_length_spec =
     tie.close
-    (tie.spec (λ c. search rules) returns returns_2 (λ c. search rules) (λ c. omega (arith, some c)) returns_3 (λ c. record { fits = few c }) returns_4)
+    (tie.spec (λ c. search rules) returns-then-workers_outside returns-then-workers-gt-CARD_WORKERS (λ c. search rules) (λ c. omega (arith, some c)) returns-then-round-cards (λ c. record { fits = few c }) returns)

@@ -10,29 +10,24 @@ use borrow.Author.Rules.{rules}
 use Rattle.catalogue.proofs.header.Statement.{statement}
 use Rattle.catalogue.proofs.header.Tie as tie
 
-abbrev start : tie.After-record-fault → tie.Start
-start c = c.before.before
+clear : (c : tie.In-Fine) → record_fault header_kind 0 c.args.bytes.now ≡ 0
+clear c = when_fine c.record_fault.ensures c.in-Fine.is
 
-clear : (c : tie.After-enum-told) → record_fault header_kind 0 (start c.before.before).args.bytes.now ≡ 0
-clear c = when_fine c.before.before.record_fault.ensures c.enum_told.given.1
-
-returns : tie.Need-returns
+returns-in-Faulty : tie.Need-returns-in-Faulty
 unfolding header_row
-returns c =
-    let r = c.before.before.before in
-    let b = (start r).args.bytes.now in
-    let f = c.before.refusal.given in
-    header_refused f.0.0 (record_fault header_kind (n_field b) b) b (when_faulty r.record_fault.ensures f.1 ∙ header_any 0 (n_field b) b)
+returns-in-Faulty c =
+    let b = c.args.bytes.now in
+    header_refused c.in-Faulty.refusal (record_fault header_kind (n_field b) b) b (when_faulty c.record_fault.ensures c.in-Faulty.is ∙ header_any 0 (n_field b) b)
 
-returns_2 : tie.Need-returns-2
+returns-in-Fine : tie.Need-returns-in-Fine
 unfolding header_row
-returns_2 c =
-    let b = (start c.before.before.before).args.bytes.now in
-    let h = c.header_of.ensures in
+returns-in-Fine c =
+    let b = c.args.bytes.now in
+    let h = c.header_of-head.ensures in
     rw (header_any (n_field b) 0 b ∙ clear c.before, h.n_is, h.m_is, h.index_is)
 
 pub header_spec : {M : Type 1} → statement M
 header_spec =
     tie.close
     (tie.spec (λ c κs. search rules) (λ c. search rules) (λ c. search rules)
-    (λ c κs. (good_header_record 0 _ (clear c)).frame.long) returns returns_2)
+    (λ c κs. (good_header_record 0 _ (clear c)).frame.long) returns-in-Faulty returns-in-Fine)

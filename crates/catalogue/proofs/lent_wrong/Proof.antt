@@ -7,7 +7,7 @@ use Rattle.catalogue.proofs.lent_wrong.Tie as tie
 pub lent_wrong_spec : {M : Type 1} → statement M
 lent_wrong_spec =
     tie.close
-    (tie.spec (λ c. search rules) (λ c. simp (ne_eqb _ _ c.if1.true))
-    (λ c. simp (eq-eqb _ _ c.before.if1.false, ne_eqb _ _ c.if2.true))
-    (λ c. simp (eq-eqb _ _ c.before.before.if1.false, eq-eqb _ _ c.before.if2.false, ne_eqb _ _ c.if3.true))
-    (λ c. simp (eq-eqb _ _ c.before.before.if1.false, eq-eqb _ _ c.before.if2.false, eq-eqb _ _ c.if3.false)))
+    (tie.spec (λ c. search rules) (λ c. simp (ne_eqb _ _ c.if-offsets-n.true))
+    (λ c. simp (eq-eqb _ _ c.if-offsets-n.false, ne_eqb _ _ c.if-targets-m.true))
+    (λ c. simp (eq-eqb _ _ c.if-offsets-n.false, eq-eqb _ _ c.if-targets-m.false, ne_eqb _ _ c.if-sizes-n.true))
+    (λ c. simp (eq-eqb _ _ c.if-offsets-n.false, eq-eqb _ _ c.if-targets-m.false, eq-eqb _ _ c.if-sizes-n.false)))

@@ -16,12 +16,9 @@ use borrow.Author.Rules.{rules}
 use Rattle.catalogue.proofs.read.Statement.{statement}
 use Rattle.catalogue.proofs.read.Tie as tie
 
-abbrev start : tie.After-catalogue-fault → tie.Start
-start c = c.before.before.before.before.before.before
-
 -- what is lent are bytes
-are_bytes : (c : tie.After-catalogue-fault) → Bytes (start c).args.bytes.now
-are_bytes c i = let known = c.before.before.before.before.before.shared_slice_known.given i in omega arith
+are_bytes : (c : tie.After-catalogue_fault) → Bytes c.args.bytes.now
+are_bytes c i = let known = c.shared_slice_known-1.given i in omega arith
 
 -- the answer by its definition, and what that promises of any bytes
 promised : {b o t s w : List ℕ} {r : ReadRow} {o' t' s' w' : List ℕ} → Bytes b → Reads b o t s w r o' t' s' w'
@@ -29,95 +26,73 @@ promised : {b o t s w : List ℕ} {r : ReadRow} {o' t' s' w' : List ℕ} → Byt
 promised h d = (d, acceptance d h)
 
 -- the catalogue has no fault
-whole : (c : tie.After-enum-told) → Whole (start c.before.before).args.bytes.now
-whole c = whole_bytes _ (when_fine c.before.before.catalogue_fault.ensures c.enum_told.given.1)
+whole : (c : tie.In_default) → Whole c.args.bytes.now
+whole c = whole_bytes _ (when_fine c.catalogue_fault.ensures c.in_default.is)
 
 -- and the lent lengths are its own
-module _ (c : tie.Else1) where
-  abbrev at_head : tie.After-header-of
+module _ (c : tie.Else-lent_wrong) where
+  abbrev at_head : tie.After-header_of-head
   at_head = c.before.before
 
   abbrev OfLengths : (ℕ → ℕ → ℕ → ℕ → ℕ → ℕ → Type 0) → Type 0
   OfLengths P =
-      let a = (start at_head.before.before.before).args in
-      let h = at_head.header_of.result in
+      let a = c.args in
+      let h = at_head.header_of-head.result in
       P h.n h.m (length a.offsets.now) (length a.targets.now) (length a.sizes.now) (length a.starts.now)
 
   fitting : OfLengths (λ n m o t s w. misfits n m o t s w ≡ false)
-  fitting = sym c.before.lent_wrong.ensures ∙ c.if1.false
+  fitting = sym c.lent_wrong.ensures ∙ c.if-lent_wrong.false
 
   lengths : OfLengths Fits
   lengths = fits _ _ _ _ _ _ fitting
 
--- the steps that fill the buffers
-abbrev at_fitting : tie.After-fill-sizes → tie.Else1
-at_fitting c = c.before.before
+returns-in-Faulty : tie.Need-returns-in-Faulty
+returns-in-Faulty c =
+    promised (are_bytes c.before) (read_fault c.in-Faulty.refusal (when_faulty c.catalogue_fault.ensures c.in-Faulty.is))
 
-abbrev at_sizes : tie.After-fill-graph → tie.After-fill-sizes
-at_sizes c = c.before.before.before.before.before
+returns-then-lent_wrong : tie.Need-returns-then-lent_wrong
+returns-then-lent_wrong c =
+    promised (are_bytes c.before.before.before.before)
+    (read_unfit (whole c.before.before.before).clear c.header_of-head.ensures (sym c.lent_wrong.ensures ∙ c.if-lent_wrong.true))
 
-abbrev at_graph : tie.After-leases-place → tie.After-fill-graph
-at_graph c = c.before.before.before.before.before
+fill_sizes-requires : tie.Need-fill_sizes-requires
+fill_sizes-requires c κs =
+    omega (arith, (whole (at_head c.before).before).length_is, (lengths c.before).sizes, (at_head c.before).header_of-head.ensures.n_is)
+
+fill_graph-requires : tie.Need-fill_graph-requires
+fill_graph-requires c κs =
+    let h = (at_head c.before.before.before.before.before.before).header_of-head.ensures in
+    ((lengths c.before.before.before.before.before.before).offsets, whole_fillable _ (whole (at_head c.before.before.before.before.before.before).before) h.n_is ((lengths c.before.before.before.before.before.before).targets ∙ h.m_is))
+
+leases_place-requires : tie.Need-leases_place-requires
+leases_place-requires c κs =
+    let h = at_head c.before.before.before.before.before.before.before.before.before.before.before in
+    let w = (whole h.before).head in
+    (omega (arith, w.few, h.header_of-head.ensures.n_is), omega (arith, w.few_references, h.header_of-head.ensures.m_is))
+
+fill_starts-count-requires : tie.Need-fill_starts-count-requires
+fill_starts-count-requires c κs =
+    let h = (at_head c.before.before.before.before.before.before.before.before.before.before.before.before.before).header_of-head.ensures in
+    let w = whole (at_head c.before.before.before.before.before.before.before.before.before.before.before.before.before).before in
+    record {
+      there = omega (arith, c.leases_place.ensures, w.length_is, h.n_is, h.m_is);
+      few = omega (arith, c.leases_place.ensures, w.length_is, w.few_leases, h.n_is, h.m_is);
+      words_of = (lengths c.before.before.before.before.before.before.before.before.before.before.before.before.before).starts;
+    }
 
 returns : tie.Need-returns
 returns c =
-    let f = c.before.refusal.given in
-    let checked = c.before.before.before in
-    promised (are_bytes checked) (read_fault f.0.0 (when_faulty checked.catalogue_fault.ensures f.1))
-
-returns_2 : tie.Need-returns-2
-returns_2 c =
-    let h = c.before.before in
-    promised (are_bytes h.before.before.before)
-    (read_unfit (whole h.before).clear h.header_of.ensures (sym c.before.lent_wrong.ensures ∙ c.if1.true))
-
-fill_sizes_requires : tie.Need-fill-sizes-requires
-fill_sizes_requires c κs =
-    let e = c.before in
-    omega (arith, (whole (at_head e).before).length_is, (lengths e).sizes, (at_head e).header_of.ensures.n_is)
-
-fill_graph_requires : tie.Need-fill-graph-requires
-fill_graph_requires c κs =
-    let e = at_fitting c.before.before.before.before in
-    let h = (at_head e).header_of.ensures in
-    ((lengths e).offsets, whole_fillable _ (whole (at_head e).before) h.n_is ((lengths e).targets ∙ h.m_is))
-
-leases_place_requires : tie.Need-leases-place-requires
-leases_place_requires c κs =
-    let h = at_head (at_fitting (at_sizes c.before.before.before.before)) in
-    let w = (whole h.before).head in
-    (omega (arith, w.few, h.header_of.ensures.n_is), omega (arith, w.few_references, h.header_of.ensures.m_is))
-
-fill_starts_requires : tie.Need-fill-starts-requires
-fill_starts_requires c κs =
-    let p = c.before in
-    let e = at_fitting (at_sizes (at_graph p)) in
-    let h = (at_head e).header_of.ensures in
-    let w = whole (at_head e).before in
-    record {
-      there = omega (arith, p.leases_place.ensures, w.length_is, h.n_is, h.m_is);
-      few = omega (arith, p.leases_place.ensures, w.length_is, w.few_leases, h.n_is, h.m_is);
-      words_of = (lengths e).starts;
-    }
-
-returns_3 : tie.Need-returns-3
-returns_3 c =
-    let f = c.before.before in
-    let p = f.before.before in
-    let g = at_graph p in
-    let s = at_sizes g in
-    let e = at_fitting s in
-    let o = g.fill_graph.ensures in
-    let w = f.fill_starts.ensures in
-    promised (are_bytes (at_head e).before.before.before)
-    (read_filled (whole (at_head e).before).clear (at_head e).header_of.ensures (fitting e) o.0 o.1 s.fill_sizes.ensures
-    p.leases_place.ensures w.0 w.1)
+    let o = c.fill_graph.ensures in
+    let w = c.fill_starts-count.ensures in
+    promised (are_bytes (at_head c.before.before.before.before.before.before.before.before.before.before.before.before.before.before.before.before).before.before)
+    (read_filled (whole (at_head c.before.before.before.before.before.before.before.before.before.before.before.before.before.before.before.before).before).clear (at_head c.before.before.before.before.before.before.before.before.before.before.before.before.before.before.before.before).header_of-head.ensures (fitting c.before.before.before.before.before.before.before.before.before.before.before.before.before.before.before.before) o.0 o.1 c.fill_sizes.ensures
+    c.leases_place.ensures w.0 w.1)
 
 pub read_spec : {M : Type 1} → statement M
 read_spec =
     tie.close
-    (tie.spec (λ c κs. search rules) (λ c. search rules) returns (λ c. search rules)
+    (tie.spec (λ c κs. search rules) (λ c. search rules) returns-in-Faulty (λ c. search rules)
     (λ c κs. (whole c).head.frame.long)
-    (λ c κs. omega (arith, (whole c.before).head.few, c.header_of.ensures.n_is)) returns_2 fill_sizes_requires
-    fill_graph_requires leases_place_requires fill_starts_requires (λ c. search rules) (λ c. search rules) (λ c. search rules)
-    (λ c. search rules) returns_3)
+    (λ c κs. omega (arith, (whole c.before).head.few, c.header_of-head.ensures.n_is)) returns-then-lent_wrong fill_sizes-requires
+    fill_graph-requires leases_place-requires fill_starts-count-requires (λ c. search rules) (λ c. search rules) (λ c. search rules)
+    (λ c. search rules) returns)

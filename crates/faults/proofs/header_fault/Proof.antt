@@ -5,33 +5,33 @@ use Rattle.faults.proofs.Cases.{header_told}
 use Rattle.faults.proofs.header_fault.Statement.{statement}
 use Rattle.faults.proofs.header_fault.Tie as tie
 
-returns_2 : tie.Need-returns-2
-returns_2 c = rw (le-ltb _ _ c.before.if1.false, lt-ltb _ _ c.if2.true) at (header_told c.before.before.header_of.ensures)
+returns-then-n-gt-MOST_OBJECTS : tie.Need-returns-then-n-gt-MOST_OBJECTS
+returns-then-n-gt-MOST_OBJECTS c = rw (le-ltb _ _ c.if-n-lt1.false, lt-ltb _ _ c.if-n-gt-MOST_OBJECTS.true) at (header_told c.header_of-head.ensures)
 
-returns_3 : tie.Need-returns-3
-returns_3 c =
+returns-then-head-gt-MOST_REFERENCES : tie.Need-returns-then-head-gt-MOST_REFERENCES
+returns-then-head-gt-MOST_REFERENCES c =
     let two = c.before.before in
     let one = two.before in
-    rw (le-ltb _ _ one.if1.false, le-ltb _ _ two.if2.false, lt-ltb _ _ c.if3.true) at (header_told one.before.header_of.ensures)
+    rw (le-ltb _ _ one.if-n-lt1.false, le-ltb _ _ two.if-n-gt-MOST_OBJECTS.false, lt-ltb _ _ c.if-head-gt-MOST_REFERENCES.true) at (header_told one.header_of-head.ensures)
 
-returns_4 : tie.Need-returns-4
-returns_4 c =
+returns-then-head-n : tie.Need-returns-then-head-n
+returns-then-head-n c =
     let three = c.before.before in
     let two = three.before.before in
     let one = two.before in
-    rw (le-ltb _ _ one.if1.false, le-ltb _ _ two.if2.false, le-ltb _ _ three.if3.false, le-ltb _ _ c.if4.true)
-    at (header_told one.before.header_of.ensures)
+    rw (le-ltb _ _ one.if-n-lt1.false, le-ltb _ _ two.if-n-gt-MOST_OBJECTS.false, le-ltb _ _ three.if-head-gt-MOST_REFERENCES.false, le-ltb _ _ c.if-head-n.true)
+    at (header_told one.header_of-head.ensures)
 
-returns_5 : tie.Need-returns-5
-returns_5 c =
+returns : tie.Need-returns
+returns c =
     let three = c.before.before in
     let two = three.before.before in
     let one = two.before in
-    rw (le-ltb _ _ one.if1.false, le-ltb _ _ two.if2.false, le-ltb _ _ three.if3.false, lt-ltb _ _ c.if4.false)
-    at (header_told one.before.header_of.ensures)
+    rw (le-ltb _ _ one.if-n-lt1.false, le-ltb _ _ two.if-n-gt-MOST_OBJECTS.false, le-ltb _ _ three.if-head-gt-MOST_REFERENCES.false, lt-ltb _ _ c.if-head-n.false)
+    at (header_told one.header_of-head.ensures)
 
 pub header_fault_spec : {M : Type 1} → statement M
 header_fault_spec =
     tie.close
-    (tie.spec (λ c κs. search rules) (λ c. rw (lt-ltb _ _ c.if1.true) at (header_told c.before.header_of.ensures))
-    (λ c. search rules) returns_2 (λ c. search rules) returns_3 returns_4 returns_5)
+    (tie.spec (λ c κs. search rules) (λ c. rw (lt-ltb _ _ c.if-n-lt1.true) at (header_told c.header_of-head.ensures))
+    (λ c. search rules) returns-then-n-gt-MOST_OBJECTS (λ c. search rules) returns-then-head-gt-MOST_REFERENCES returns-then-head-n returns)

@@ -12,24 +12,24 @@ use Rattle.faults.proofs.lease_fault.Statement.{statement}
 use Rattle.faults.proofs.lease_fault.Tie as tie
 
 -- where a lease is due, its object decides
-module _ (c : tie.After-word4) where
+module _ (c : tie.After-word4-object) where
   abbrev start : tie.Start
   start = c.before.before.before.before
 
-  by_object : {below : Bool} → ltb c.word4.result start.args.n ≡ below
+  by_object : {below : Bool} → ltb c.word4-object.result start.args.n ≡ below
       → raise (not below) 5 0 ≡ placed lease_kind start.args.due start.args.n start.args.bytes.now
   by_object e =
-      rw (ne_eqb _ _ c.before.before.if1.false, eq-eqb _ _ c.before.if2.false)
-      (rw e at (lease_told start.args.n start.args.bytes.now c.word4.ensures.0))
+      rw (ne_eqb _ _ c.if-due-eq-NOTHING.false, eq-eqb _ _ c.if-due-ne-LEASE.false)
+      (rw e at (lease_told start.args.n start.args.bytes.now c.word4-object.ensures.0))
 
-returns_3 : tie.Need-returns-3
-returns_3 c = by_object c.before (le-ltb c.before.word4.result (start c.before).args.n (omega (arith, c.if3.true)))
+returns-then-object-n : tie.Need-returns-then-object-n
+returns-then-object-n c = by_object c.before (le-ltb c.word4-object.result (start c.before).args.n (omega (arith, c.if-object-n.true)))
 
-returns_4 : tie.Need-returns-4
-returns_4 c = by_object c.before (lt-ltb c.before.word4.result (start c.before).args.n (omega (arith, c.if3.false)))
+returns : tie.Need-returns
+returns c = by_object c.before (lt-ltb c.word4-object.result (start c.before).args.n (omega (arith, c.if-object-n.false)))
 
 pub lease_fault_spec : {M : Type 1} → statement M
 lease_fault_spec =
     tie.close
-    (tie.spec (λ c. simp (eq-eqb _ _ c.if1.true)) (λ c. simp (ne_eqb _ _ c.before.if1.false, ne_eqb _ _ c.if2.true))
-    (λ c κs. search rules) returns_3 returns_4)
+    (tie.spec (λ c. simp (eq-eqb _ _ c.if-due-eq-NOTHING.true)) (λ c. simp (ne_eqb _ _ c.if-due-eq-NOTHING.false, ne_eqb _ _ c.if-due-ne-LEASE.true))
+    (λ c κs. search rules) returns-then-object-n returns)

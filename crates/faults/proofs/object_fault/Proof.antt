@@ -8,10 +8,10 @@ use Rattle.faults.proofs.object_fault.Statement.{statement}
 use Rattle.faults.proofs.object_fault.Tie as tie
 
 abbrev bytes : tie.After-word8 → List ℕ
-bytes c = c.before.before.args.bytes.now
+bytes c = c.args.bytes.now
 
 pub object_fault_spec : {M : Type 1} → statement M
 object_fault_spec =
     tie.close
-    (tie.spec (λ c κs. search rules) (λ c. rw (lt-ltb _ _ c.if1.true) at (object_told (bytes c.before) c.before.word8.ensures.0))
-    (λ c. rw (le-ltb _ _ c.if1.false) at (object_told (bytes c.before) c.before.word8.ensures.0)))
+    (tie.spec (λ c κs. search rules) (λ c. rw (lt-ltb _ _ c.if-word8-gt-LARGEST_SIZE.true) at (object_told (bytes c.before) c.word8.ensures.0))
+    (λ c. rw (le-ltb _ _ c.if-word8-gt-LARGEST_SIZE.false) at (object_told (bytes c.before) c.word8.ensures.0)))

@@ -8,16 +8,16 @@ use borrow.Author.Rules.{rules}
 use Rattle.faults.proofs.record_fault.Statement.{statement}
 use Rattle.faults.proofs.record_fault.Tie as tie
 
-returns_3 : tie.Need-returns-3
-returns_3 c =
-    let a = c.before.before.before.before.before.before.args in
+returns : tie.Need-returns
+returns c =
+    let a = c.args in
     c.kind_fault.ensures
-    ∙ ap (λ (k : ℕ). contents_fault (kind_of k) a.due a.n a.bytes.now) c.before.word22.ensures.0
+    ∙ ap (λ (k : ℕ). contents_fault (kind_of k) a.due a.n a.bytes.now) c.word2.ensures.0
     ∙ sym (whole a.due a.n a.bytes.now (omega arith) (omega arith))
 
 pub record_fault_spec : {M : Type 1} → statement M
 record_fault_spec =
     tie.close
-    (tie.spec (λ c. too_short _ _ _ c.if1.true) (λ c κs. search rules) (λ c. search rules)
-    (λ c. cut_off _ _ _ c.before.before.if1.false (omega arith))
-    (λ c κs. search rules) (λ c κs. search rules) returns_3)
+    (tie.spec (λ c. too_short _ _ _ c.if-bytes-lt4.true) (λ c κs. search rules) (λ c. search rules)
+    (λ c. cut_off _ _ _ c.if-bytes-lt4.false (omega arith))
+    (λ c κs. search rules) (λ c κs. search rules) returns)

@@ -9,9 +9,7 @@ use Rattle.lines.proofs.put_counts.Tie as tie
 returns : tie.Need-returns
 unfolding count_lines
 returns c =
-    let workers = c.before.before in
-    let found = workers.before.before.before.before in
-    then_in found.put_found.ensures _ (omega arith) workers.put_workers.ensures
+    then_in c.put_found-end.ensures _ (omega arith) c.put_workers.ensures
 
 pub put_counts_spec : {M : Type 1} → statement M
 put_counts_spec = tie.close (tie.spec (λ c κs. search rules) (λ c κs. search rules) (λ c. search rules) returns)

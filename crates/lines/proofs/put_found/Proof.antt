@@ -10,14 +10,11 @@ use Rattle.lines.proofs.put_found.Tie as tie
 returns : tie.Need-returns
 unfolding found_lines
 returns c =
-    let followed = c.before.before in
-    let live = followed.before.before.before.before.before in
-    let state = live.before.before.before.before.before in
-    let a = then_in state.put_state.ensures _ (le_refl _) live.put_line.ensures in
-    then_in a _ (omega arith) followed.put_line2.ensures
+    let a = then_in c.put_state-end.ensures _ (le_refl _) c.put_line-end.ensures in
+    then_in a _ (omega arith) c.put_line.ensures
 
 pub put_found_spec : {M : Type 1} → statement M
 put_found_spec =
     tie.close
-    (tie.spec (λ c κs. search rules) (λ c. search rules) (λ c κs. search rules) (λ c. search rules)
+    (tie.spec (λ c κs. search rules) (λ c κs. search rules)
     (λ c κs. search rules) (λ c. search rules) returns)

@@ -7,9 +7,7 @@ use Rattle.lines.proofs.put_result.Tie as tie
 
 returns : tie.Need-returns
 returns c =
-    let tallies = c.before.before in
-    let counts = tallies.before.before.before.before in
-    then_in counts.put_counts.ensures _ (le_refl _) tallies.put_tallies.ensures
+    then_in c.put_counts-end.ensures _ (le_refl _) c.put_tallies.ensures
 
 pub put_result_spec : {M : Type 1} → statement M
 put_result_spec = tie.close (tie.spec (λ c κs. search rules) (λ c κs. search rules) (λ c. search rules) returns)

@@ -10,16 +10,12 @@ use Rattle.lines.proofs.put_workers.Tie as tie
 returns : tie.Need-returns
 unfolding worker_lines
 returns c =
-    let carrying = c.before.before in
-    let moved = carrying.before.before.before.before.before in
-    let refused = moved.before.before.before.before.before in
-    let handed = refused.before.before.before.before.before in
-    let a = then_in handed.put_line.ensures _ (le_refl _) refused.put_line2.ensures in
-    let b = then_in a _ (le_refl _) moved.put_line3.ensures in
-    then_in b _ (omega arith) carrying.put_line4.ensures
+    let a = then_in c.put_line-end.ensures _ (le_refl _) c.put_line-end-2.ensures in
+    let b = then_in a _ (le_refl _) c.put_line-end-3.ensures in
+    then_in b _ (omega arith) c.put_line.ensures
 
 pub put_workers_spec : {M : Type 1} → statement M
 put_workers_spec =
     tie.close
-    (tie.spec (λ c. search rules) (λ c κs. search rules) (λ c. search rules) (λ c κs. search rules)
-    (λ c. search rules) (λ c κs. search rules) (λ c. search rules) (λ c κs. search rules) (λ c. search rules) returns)
+    (tie.spec (λ c κs. search rules) (λ c κs. search rules)
+    (λ c κs. search rules) (λ c κs. search rules) (λ c. search rules) returns)

@@ -5,7 +5,7 @@ use Rattle.lookup.proofs.clear_index.Statement.{statement}
 use Rattle.lookup.proofs.clear_index.Tie as tie
 
 returns : tie.Need-returns
-returns c = let k = c.before.before in k.clear.ensures ∙ cleared_all k.before.before.before.args.index.now
+returns c = c.clear.ensures ∙ cleared_all c.args.index.now
 
 pub clear_index_spec : {M : Type 1} → statement M
 clear_index_spec = tie.close (tie.spec (λ c κs. search rules) (λ c. search rules) returns)

@@ -6,9 +6,9 @@ use Rattle.lookup.proofs.is_digit.Tie as tie
 
 returns : tie.Need-returns
 returns c =
-    let b = c.before.args.b in
+    let b = c.args.b in
     let f : b < 256 = search rules in
-    ⊎_elim (λ w. rw w.1 (digit_by_digit b f w.0.taken)) (λ w. rw w.1 (digit_by_letter b f w.0.left)) c.if1.branch
+    ⊎_elim (λ w. rw w.least-is (digit_by_digit b f w.if-digit-letter.true)) (λ w. rw w.least-is (digit_by_letter b f w.if-digit-letter.false)) c.if-digit-letter.branch-raw
 
 pub is_digit_spec : {M : Type 1} → statement M
 is_digit_spec =

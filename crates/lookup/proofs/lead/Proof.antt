@@ -4,18 +4,17 @@ use Rattle.lookup.specs.Index.{lead_in}
 use Rattle.lookup.proofs.lead.Statement.{statement}
 use Rattle.lookup.proofs.lead.Tie as tie
 
+returns-then-width-lt-LEAD : tie.Need-returns-then-width-lt-LEAD
+unfolding lead_in
+returns-then-width-lt-LEAD c = rw (lt-ltb _ _ c.if-width-lt-LEAD.true)
+
 returns : tie.Need-returns
 unfolding lead_in
-returns c = rw (lt-ltb _ _ c.if1.true)
-
-returns_2 : tie.Need-returns-2
-unfolding lead_in
-returns_2 c =
-    let f = c.before in
-    rw (le-ltb _ _ f.before.if1.false, f.four.ensures.0, c.four2.ensures.0)
+returns c =
+    rw (le-ltb _ _ c.if-width-lt-LEAD.false, c.four.ensures.0, c.four-2.ensures.0)
 
 pub lead_spec : {M : Type 1} → statement M
 lead_spec =
     tie.close
-    (tie.spec returns (λ c κs. search rules) (λ c. search rules) (λ c. search rules) (λ c. search rules)
-    (λ c κs. search rules) (λ c. search rules) (λ c. search rules) returns_2)
+    (tie.spec returns-then-width-lt-LEAD (λ c κs. search rules) (λ c. search rules) (λ c. search rules) (λ c. search rules)
+    (λ c κs. search rules) (λ c. search rules) (λ c. search rules) returns)

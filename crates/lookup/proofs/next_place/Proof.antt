@@ -4,71 +4,59 @@ use Rattle.lookup.proofs.Sliding.{Skipping, skipping_start, skip_other, skip_sli
 use Rattle.lookup.proofs.next_place.Statement.{statement}
 use Rattle.lookup.proofs.next_place.Tie as tie
 
-abbrev invariant_loop : tie.invariant-loop
+abbrev invariant_loop : tie.invariant-loop-at
 invariant_loop text from sure width index at₀ known₀ at known = Skipping width index text from at known
 
-abbrev decreases_loop : tie.decreases-loop
+abbrev decreases_loop : tie.decreases-loop-at
 decreases_loop text from sure width index at₀ known₀ at known = length text - at
 
-abbrev start : tie.At-loop invariant_loop decreases_loop → tie.Start invariant_loop decreases_loop
-start l = l.before.before.before
+loop-at-init : tie.Need-loop-at-init invariant_loop decreases_loop
+loop-at-init c = let p = c.requires in skipping_start p.0 p.1
 
-loop_holds : tie.Need-loop-init invariant_loop decreases_loop
-loop_holds c = let p = c.before.before.requires in skipping_start p.0 p.1
-
-sub_loop : tie.Need-overflow-sub-loop invariant_loop decreases_loop
-sub_loop c = c.loop.invariant.high
+overflow_sub-text : tie.Need-overflow_sub-text invariant_loop decreases_loop
+overflow_sub-text c = c.loop-at.invariant.high
 
 -- a window is left
-fits : (c : tie.In-loop invariant_loop decreases_loop) → let a = (start c.before).args in c.before.loop.at + a.width ≤ length a.text.now
-fits c = omega (arith, c.loop_test.true, c.before.loop.invariant.high)
+fits : (c : tie.In-loop-at invariant_loop decreases_loop) → let a = c.args in c.loop-at.at + a.width ≤ length a.text.now
+fits c = omega (arith, c.loop-at-test.true, c.loop-at.invariant.high)
 
-add_end : tie.Need-overflow-add-end invariant_loop decreases_loop
-add_end c = omega (arith, fits c)
+overflow_add-end : tie.Need-overflow_add-end invariant_loop decreases_loop
+overflow_add-end c = omega (arith, fits c)
 
-last_other_requires : tie.Need-last-other-requires invariant_loop decreases_loop
-last_other_requires c κs = fits c
+last_other-behind-requires : tie.Need-last_other-behind-requires invariant_loop decreases_loop
+last_other-behind-requires c κs = fits c
 
-loop_less : tie.Need-loop-smaller invariant_loop decreases_loop
-loop_less c =
-    let o = c.before in
-    let l = o.before.before in
-    omega (arith, c.if1.true, l.loop.invariant.sure, fits o.before, (start l).requires.3)
+loop-at-smaller-then-known-behind : tie.Need-loop-at-smaller-then-known-behind invariant_loop decreases_loop
+loop-at-smaller-then-known-behind c =
+    omega (arith, c.if-known-behind.true, c.loop-at.invariant.sure, fits c.before.before, c.requires.3)
 
-loop_again : tie.Need-loop-preserved invariant_loop decreases_loop
-loop_again c =
-    let o = c.before in
-    skip_other o.before.before.loop.invariant _ _ refl (fits o.before) o.last_other.ensures c.if1.true
+loop-at-preserved-then-known-behind : tie.Need-loop-at-preserved-then-known-behind invariant_loop decreases_loop
+loop-at-preserved-then-known-behind c =
+    skip_other c.loop-at.invariant _ _ refl (fits c.before.before) c.last_other-behind.ensures c.if-known-behind.true
 
-slide_requires : tie.Need-slide-requires invariant_loop decreases_loop
-slide_requires c κs =
-    let t = c.before.before in
-    let p = (start t.before).pre in
-    (fits t, p.2, p.3)
+slide-stop-requires : tie.Need-slide-stop-requires invariant_loop decreases_loop
+slide-stop-requires c κs =
+    let p = c.requires in
+    (fits c.before.before, p.2, p.3)
+
+returns-then-stop : tie.Need-returns-then-stop invariant_loop decreases_loop
+returns-then-stop c =
+    skip_hit c.loop-at.invariant c.requires.3 c.slide-stop.ensures c.if-stop.true
+
+loop-at-smaller : tie.Need-loop-at-smaller invariant_loop decreases_loop
+loop-at-smaller c =
+    let m = c.slide-stop.ensures.moves c.if-stop.false in
+    omega (arith, m.0, m.1, fits c.before.before.before.before, c.requires.3)
+
+loop-at-preserved : tie.Need-loop-at-preserved invariant_loop decreases_loop
+loop-at-preserved c =
+    skip_slid c.loop-at.invariant c.slide-stop.ensures c.if-stop.false
 
 returns : tie.Need-returns invariant_loop decreases_loop
-returns c =
-    let s = c.before in
-    let l = s.before.before.before.before in
-    skip_hit l.loop.invariant (start l).requires.3 s.slide.ensures c.if2.true
-
-loop_less_2 : tie.Need-loop-smaller-2 invariant_loop decreases_loop
-loop_less_2 c =
-    let s = c.before in
-    let m = s.slide.ensures.moves c.if2.false in
-    let t = s.before.before.before in
-    omega (arith, m.0, m.1, fits t, (start t.before).pre.3)
-
-loop_again_2 : tie.Need-loop-preserved-2 invariant_loop decreases_loop
-loop_again_2 c =
-    let s = c.before in
-    skip_slid s.before.before.before.before.loop.invariant s.slide.ensures c.if2.false
-
-returns_2 : tie.Need-returns-2 invariant_loop decreases_loop
-returns_2 c = skip_end c.before.loop.invariant c.loop_test.false
+returns c = skip_end c.loop-at.invariant c.loop-at-test.false
 
 pub next_place_spec : {M : Type 1} → statement M
 next_place_spec =
     tie.close
-    (tie.spec invariant_loop decreases_loop loop_holds sub_loop add_end last_other_requires loop_less loop_again slide_requires returns
-    loop_less_2 loop_again_2 returns_2)
+    (tie.spec invariant_loop decreases_loop loop-at-init overflow_sub-text overflow_add-end last_other-behind-requires loop-at-smaller-then-known-behind loop-at-preserved-then-known-behind slide-stop-requires returns-then-stop
+    loop-at-smaller loop-at-preserved returns)

@@ -5,40 +5,34 @@ use Rattle.names.proofs.Orders.{order_step, order_below, order_above, order_end}
 use Rattle.lookup.proofs.order_of.Statement.{statement}
 use Rattle.lookup.proofs.order_of.Tie as tie
 
-abbrev invariant_loop : tie.invariant-loop
+abbrev invariant_loop : tie.invariant-loop-i
 invariant_loop a b i₀ i_end i = (i ≤ length a) × (order (drop i a) (drop i b) ≡ order a b)
 
-abbrev decreases_loop : tie.decreases-loop
+abbrev decreases_loop : tie.decreases-loop-i
 decreases_loop a b i₀ i_end i = length a - i
 
 -- there is a byte of the other name too
-there : (l : tie.In-loop invariant_loop decreases_loop) → l.before.loop.i < length l.before.before.args.b.now
-there l = omega (arith, l.before.before.requires, l.loop_test.true)
+there : (l : tie.In-loop-i invariant_loop decreases_loop) → l.loop-i.i < length l.args.b.now
+there l = omega (arith, l.requires, l.loop-i-test.true)
+
+returns-then-a-i : tie.Need-returns-then-a-i invariant_loop decreases_loop
+returns-then-a-i c =
+    sym (order_below _ _ _ c.loop-i-test.true (there c.before.before.before) c.if-a-i.true) ∙ c.loop-i.invariant.1
+
+returns-then-b-i : tie.Need-returns-then-b-i invariant_loop decreases_loop
+returns-then-b-i c =
+    sym (order_above _ _ _ c.loop-i-test.true (there c.before.before.before.before.before.before) c.if-b-i.true) ∙ c.loop-i.invariant.1
+
+loop-i-preserved : tie.Need-loop-i-preserved invariant_loop decreases_loop
+loop-i-preserved c =
+    (omega (arith, c.loop-i-test.true), order_step _ _ _ c.loop-i-test.true (there c.before.before.before.before.before.before) (omega (arith, c.if-a-i.false, c.if-b-i.false)) ∙ c.loop-i.invariant.1)
 
 returns : tie.Need-returns invariant_loop decreases_loop
 returns c =
-    let t = c.before.before.before in
-    sym (order_below _ _ _ t.loop_test.true (there t) c.if1.true) ∙ t.before.loop.invariant.1
-
-returns_2 : tie.Need-returns-2 invariant_loop decreases_loop
-returns_2 c =
-    let e = c.before.before.before in
-    let t = e.before.before.before in
-    sym (order_above _ _ _ t.loop_test.true (there t) c.if2.true) ∙ t.before.loop.invariant.1
-
-loop_again : tie.Need-loop-preserved invariant_loop decreases_loop
-loop_again c =
-    let e = c.before.before.before in
-    let t = e.before.before.before in
-    (omega (arith, t.loop_test.true), order_step _ _ _ t.loop_test.true (there t) (omega (arith, e.if1.false, c.if2.false)) ∙ t.before.loop.invariant.1)
-
-returns_3 : tie.Need-returns-3 invariant_loop decreases_loop
-returns_3 c =
-    let l = c.before in
-    sym (order_end _ _ _ c.loop_test.false (omega (arith, l.before.requires, c.loop_test.false))) ∙ l.loop.invariant.1
+    sym (order_end _ _ _ c.loop-i-test.false (omega (arith, c.requires, c.loop-i-test.false))) ∙ c.loop-i.invariant.1
 
 pub order_of_spec : {M : Type 1} → statement M
 order_of_spec =
     tie.close
-    (tie.spec invariant_loop decreases_loop (λ c. search rules) (λ c. search rules) (λ c. search rules) returns (λ c. search rules)
-    (λ c. search rules) returns_2 (λ c. search rules) (λ c. search rules) loop_again returns_3)
+    (tie.spec invariant_loop decreases_loop (λ c. search rules) (λ c. search rules) (λ c. search rules) returns-then-a-i (λ c. search rules)
+    (λ c. search rules) returns-then-b-i (λ c. search rules) (λ c. search rules) loop-i-preserved returns)

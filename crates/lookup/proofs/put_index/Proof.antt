@@ -4,10 +4,10 @@ use Rattle.std.proofs.Common.{rules}
 use Rattle.lookup.proofs.put_index.Statement.{statement}
 use Rattle.lookup.proofs.put_index.Tie as tie
 
-returns_2 : tie.Need-returns-2
-returns_2 c = let f = c.before.before in filled f.before.before.before.before.put_names.ensures f.fill_hints.ensures
+returns : tie.Need-returns
+returns c = filled c.put_names.ensures c.fill_hints.ensures
 
 pub put_index_spec : {M : Type 1} → statement M
 put_index_spec =
     tie.close
-    (tie.spec (λ c. search rules) (λ c κs. search rules) (λ c κs. search rules) (λ c. search rules) returns_2)
+    (tie.spec (λ c. search rules) (λ c κs. search rules) (λ c κs. search rules) (λ c. search rules) returns)

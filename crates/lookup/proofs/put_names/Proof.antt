@@ -5,64 +5,58 @@ use Rattle.lookup.proofs.Gathering.{IndexedTo, indexed_none, indexed_next, index
 use Rattle.lookup.proofs.put_names.Statement.{statement}
 use Rattle.lookup.proofs.put_names.Tie as tie
 
-abbrev invariant_loop : tie.invariant-loop
+abbrev invariant_loop : tie.invariant-loop-k
 invariant_loop names width count index₀ k₀ index k = IndexedTo names width k index
 
-abbrev decreases_loop : tie.decreases-loop
+abbrev decreases_loop : tie.decreases-loop-k
 decreases_loop names width count index₀ k₀ index k = count - k
 
-loop_holds : tie.Need-loop-init invariant_loop decreases_loop
-loop_holds c = let s = c.before.before in indexed_none _ _ _ s.requires.1
+loop-k-init : tie.Need-loop-k-init invariant_loop decreases_loop
+loop-k-init c = indexed_none _ _ _ c.requires.1
 
-abbrev start : tie.At-loop invariant_loop decreases_loop → tie.Start invariant_loop decreases_loop
-start l = l.before.before.before
+fits : (c : tie.In-loop-k invariant_loop decreases_loop) → let a = c.args in c.loop-k.k * a.width + a.width ≤ length a.names.now
+fits c = name_fits c.loop-k.k c.args.width c.args.count c.loop-k-test.true c.requires.0
 
-fits : (c : tie.In-loop invariant_loop decreases_loop) → let a = (start c.before).args in c.before.loop.k * a.width + a.width ≤ length a.names.now
-fits c = let s = start c.before in name_fits c.before.loop.k s.args.width s.args.count c.loop_test.true s.pre.0
+overflow_mul-start : tie.Need-overflow_mul-start invariant_loop decreases_loop
+overflow_mul-start c = omega (arith, fits c)
 
-mul_start : tie.Need-overflow-mul-start invariant_loop decreases_loop
-mul_start c = omega (arith, fits c)
+three-requires : tie.Need-three-requires invariant_loop decreases_loop
+three-requires c κs = omega (arith, fits c, c.requires.2)
 
-three_requires : tie.Need-three-requires invariant_loop decreases_loop
-three_requires c κs = omega (arith, fits c, (start c.before).pre.2)
+overflow_add-index : tie.Need-overflow_add-index invariant_loop decreases_loop
+overflow_add-index c = omega (arith, fits c.before, c.requires.2)
 
-add_index : tie.Need-overflow-add-index invariant_loop decreases_loop
-add_index c = omega (arith, fits c.before, (start c.before.before).pre.2)
+offset_bounds-index-at : tie.Need-offset_bounds-index-at invariant_loop decreases_loop
+offset_bounds-index-at c = omega (arith, c.three.ensures)
 
-mul_index : tie.Need-overflow-mul-index invariant_loop decreases_loop
-mul_index c = omega (arith, c.three.ensures)
+bounds-index-at : tie.Need-bounds-index-at invariant_loop decreases_loop
+bounds-index-at c = omega (arith, c.three.ensures, c.loop-k.invariant.long)
 
-slice_write_index : tie.Need-slice-write-index invariant_loop decreases_loop
-slice_write_index c = omega (arith, c.three.ensures, c.before.before.loop.invariant.long)
+overflow_add-end : tie.Need-overflow_add-end invariant_loop decreases_loop
+overflow_add-end c = omega (arith, fits c.before)
 
-add_end : tie.Need-overflow-add-end invariant_loop decreases_loop
-add_end c = omega (arith, fits c.before)
+overflow_sub-end : tie.Need-overflow_sub-end invariant_loop decreases_loop
+overflow_sub-end c = omega (arith, c.requires.2)
 
-sub_tail : tie.Need-overflow-sub-tail invariant_loop decreases_loop
-sub_tail c = omega (arith, (start c.before.before.before).pre.2)
+tail-requires : tie.Need-tail-requires invariant_loop decreases_loop
+tail-requires c κs = omega (arith, fits c.before.before, c.requires.2)
 
-tail_requires : tie.Need-tail-requires invariant_loop decreases_loop
-tail_requires c κs = omega (arith, fits c.before.before, (start c.before.before.before).pre.2)
+insert-requires : tie.Need-insert-requires invariant_loop decreases_loop
+insert-requires c κs = simp length-set (omega (arith, c.tail.ensures.1, c.loop-k.invariant.long))
 
-insert_requires : tie.Need-insert-requires invariant_loop decreases_loop
-insert_requires c κs = simp length-set (omega (arith, c.tail.ensures.1, c.before.before.before.before.loop.invariant.long))
+loop-k-preserved : tie.Need-loop-k-preserved invariant_loop decreases_loop
+loop-k-preserved c =
+    indexed_next (hinted c.loop-k.invariant (131073 + c.three.result) _ (omega arith)) c.tail.ensures.0 c.insert.ensures c.insert.auto.words
 
-loop_again : tie.Need-loop-preserved invariant_loop decreases_loop
-loop_again c =
-    let i = c.before.before in
-    let t = i.before in
-    let h = t.before.before in
-    indexed_next (hinted h.before.before.loop.invariant (131073 + h.three.result) _ (omega arith)) t.tail.ensures.0 i.insert.ensures i.insert.auto.0
-
-same_length : tie.Need-same-length invariant_loop decreases_loop
-same_length c = omega (arith, c.before.loop.invariant.long, (start c.before).pre.1)
+shape_of-index : tie.Need-shape_of-index invariant_loop decreases_loop
+shape_of-index c = omega (arith, c.loop-k.invariant.long, c.requires.1)
 
 returns : tie.Need-returns invariant_loop decreases_loop
-returns c = indexed_all c.before.loop.invariant c.loop_test.false
+returns c = indexed_all c.loop-k.invariant c.loop-k-test.false
 
 pub put_names_spec : {M : Type 1} → statement M
 put_names_spec =
     tie.close
-    (tie.spec invariant_loop decreases_loop loop_holds mul_start (λ c. search rules) three_requires (λ c. search rules) (λ c. search rules)
-    add_index (λ c. search rules) mul_index slice_write_index add_end sub_tail tail_requires insert_requires
-    (λ c. search rules) (λ c. search rules) loop_again same_length returns)
+    (tie.spec invariant_loop decreases_loop loop-k-init overflow_mul-start (λ c. search rules) three-requires (λ c. search rules) (λ c. search rules)
+    overflow_add-index (λ c. search rules) offset_bounds-index-at bounds-index-at overflow_add-end overflow_sub-end tail-requires insert-requires
+    (λ c. search rules) (λ c. search rules) loop-k-preserved shape_of-index returns)

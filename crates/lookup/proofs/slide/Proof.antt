@@ -6,81 +6,65 @@ use Rattle.lookup.proofs.Sliding.{Sliding, sliding_start, slid_hit, slid_other, 
 use Rattle.lookup.proofs.slide.Statement.{statement}
 use Rattle.lookup.proofs.slide.Tie as tie
 
-abbrev invariant_loop : tie.invariant-loop
+abbrev invariant_loop : tie.invariant-loop-end
 invariant_loop text from width index end₀ h₀ end h = Sliding width index text from end h
 
-abbrev decreases_loop : tie.decreases-loop
+abbrev decreases_loop : tie.decreases-loop-end
 decreases_loop text from width index end₀ h₀ end h = length text - end
 
-returns : tie.Need-returns invariant_loop decreases_loop
-returns c = slid_short c.before.before.before.requires.0
+returns-then-width-lt-TAIL : tie.Need-returns-then-width-lt-TAIL invariant_loop decreases_loop
+returns-then-width-lt-TAIL c = slid_short c.requires.0
 
-loop_holds : tie.Need-loop-init invariant_loop decreases_loop
-loop_holds c =
-    let e = c.before in
-    let s = e.before.before.before in
-    sliding_start e.if1.false refl s.requires.0 c.tail.ensures.0
-
-abbrev start : tie.At-loop invariant_loop decreases_loop → tie.Start invariant_loop decreases_loop
-start l = l.before.before.before.before.before
+loop-end-init : tie.Need-loop-end-init invariant_loop decreases_loop
+loop-end-init c =
+    sliding_start c.if-width-lt-TAIL.false refl c.requires.0 c.tail-h.ensures.0
 
 -- the value of the tail has a bit
-in_index : (l : tie.At-loop invariant_loop decreases_loop) → l.loop.h < 32 * length (start l).args.index.now
-in_index l = let s = start l in omega (arith, l.loop.invariant.value, tail_low s.args.text.now (l.loop.end - 8), s.pre.1)
+in_index : (l : tie.At-loop-end invariant_loop decreases_loop) → l.loop-end.h < 32 * length l.args.index.now
+in_index l = omega (arith, l.loop-end.invariant.value, tail_low l.args.text.now (l.loop-end.end - 8), l.requires.1)
 
-contains_requires : tie.Need-contains-requires invariant_loop decreases_loop
-contains_requires c κs = in_index c.before
+contains-requires : tie.Need-contains-requires invariant_loop decreases_loop
+contains-requires c κs = in_index c.before
 
-sub_t13 : tie.Need-overflow-sub-t13 invariant_loop decreases_loop
-sub_t13 c = omega (arith, c.before.before.before.loop.invariant.low)
+overflow_sub-result : tie.Need-overflow_sub-result invariant_loop decreases_loop
+overflow_sub-result c = omega (arith, c.loop-end.invariant.low)
 
-returns_2 : tie.Need-returns-2 invariant_loop decreases_loop
-returns_2 c = slid_hit c.before.before.before.loop.invariant
+returns-then-contains : tie.Need-returns-then-contains invariant_loop decreases_loop
+returns-then-contains c = slid_hit c.loop-end.invariant
 
-returns_3 : tie.Need-returns-3 invariant_loop decreases_loop
-returns_3 c =
-    let d = c.before in
-    let e = d.before.before in
-    let k = e.before in
-    let t = k.before in
-    slid_other t.before.loop.invariant k.contains.ensures e.if2.false t.loop_test.true (sym d.is_row_digit.ensures ∙ not-true _ c.if3.true)
+returns-then-not-is_row_digit : tie.Need-returns-then-not-is_row_digit invariant_loop decreases_loop
+returns-then-not-is_row_digit c =
+    slid_other c.loop-end.invariant c.contains.ensures c.if-contains.false c.loop-end-test.true (sym c.is_row_digit.ensures ∙ not-true _ c.if-not-is_row_digit.true-raw)
 
-mul_h : tie.Need-overflow-mul-h invariant_loop decreases_loop
-mul_h c =
-    let l = c.before.before.before.before.before.before in
-    omega (arith, l.loop.invariant.value, tail_low (start l).args.text.now (l.loop.end - 8))
+overflow_mul-h : tie.Need-overflow_mul-h invariant_loop decreases_loop
+overflow_mul-h c =
+    omega (arith, c.loop-end.invariant.value, tail_low c.args.text.now (c.loop-end.end - 8))
 
-add_h : tie.Need-overflow-add-h invariant_loop decreases_loop
-add_h c =
-    let l = c.before.before.before.before.before.before.before in
-    omega (arith, c.wide.ensures.1, l.loop.invariant.value, tail_low (start l).args.text.now (l.loop.end - 8))
+overflow_add-h : tie.Need-overflow_add-h invariant_loop decreases_loop
+overflow_add-h c =
+    omega (arith, c.wide.ensures.1, c.loop-end.invariant.value, tail_low c.args.text.now (c.loop-end.end - 8))
 
-loop_again : tie.Need-loop-preserved invariant_loop decreases_loop
-loop_again c =
-    let e = c.before.before.before.before in
-    let k = e.before in
-    let t = k.before in
-    rw c.wide.ensures.0 (slid_on t.before.loop.invariant k.contains.ensures e.if2.false t.loop_test.true)
+loop-end-preserved : tie.Need-loop-end-preserved invariant_loop decreases_loop
+loop-end-preserved c =
+    rw c.wide.ensures.0 (slid_on c.loop-end.invariant c.contains.ensures c.if-contains.false c.loop-end-test.true)
 
-contains_requires_2 : tie.Need-contains-requires-2 invariant_loop decreases_loop
-contains_requires_2 c κs = in_index c.before
+contains-requires-2 : tie.Need-contains-requires-2 invariant_loop decreases_loop
+contains-requires-2 c κs = in_index c.before
 
-sub_t22 : tie.Need-overflow-sub-t22 invariant_loop decreases_loop
-sub_t22 c = omega (arith, c.before.before.before.loop.invariant.low)
+overflow_sub-result-then-contains-2 : tie.Need-overflow_sub-result-then-contains-2 invariant_loop decreases_loop
+overflow_sub-result-then-contains-2 c = omega (arith, c.loop-end.invariant.low)
 
-returns_4 : tie.Need-returns-4 invariant_loop decreases_loop
-returns_4 c = slid_hit c.before.before.before.loop.invariant
+returns-then-contains-2 : tie.Need-returns-then-contains-2 invariant_loop decreases_loop
+returns-then-contains-2 c = slid_hit c.loop-end.invariant
 
-returns_5 : tie.Need-returns-5 invariant_loop decreases_loop
-returns_5 c =
-    let k = c.before in
-    let t = k.before in
-    slid_end t.before.loop.invariant k.contains2.ensures c.if4.false t.loop_test.false
+returns : tie.Need-returns invariant_loop decreases_loop
+returns c =
+    slid_end c.loop-end.invariant c.contains-2.ensures c.if-contains-2.false c.loop-end-test.false
 
 pub slide_spec : {M : Type 1} → statement M
 slide_spec =
     tie.close
-    (tie.spec invariant_loop decreases_loop returns (λ c. search rules) (λ c. search rules) (λ c κs. search rules) loop_holds contains_requires
-    sub_t13 returns_2 (λ c. search rules) (λ c κs. search rules) (λ c. search rules) returns_3 mul_h
-    (λ c κs. search rules) add_h (λ c. search rules) (λ c. search rules) loop_again contains_requires_2 sub_t22 returns_4
-    returns_5)
+    (tie.spec invariant_loop decreases_loop returns-then-width-lt-TAIL (λ c. search rules) (λ c. search rules) (λ c κs. search rules) loop-end-init contains-requires
+    overflow_sub-result returns-then-contains (λ c. search rules) (λ c κs. search rules) (λ c. search rules) returns-then-not-is_row_digit overflow_mul-h
+    (λ c κs. search rules) overflow_add-h (λ c. search rules) (λ c. search rules) loop-end-preserved contains-requires-2 overflow_sub-result-then-contains-2 returns-then-contains-2
+    returns)

@@ -6,16 +6,9 @@ use Rattle.lookup.proofs.tail.Tie as tie
 
 returns : tie.Need-returns
 returns c =
-    let c7 = c.before.before in
-    let c6 = c7.before.before in
-    let c5 = c6.before.before in
-    let c4 = c5.before.before in
-    let c3 = c4.before.before in
-    let c2 = c3.before.before in
-    let c1 = c2.before.before in
-    let a = c1.before.before.before.args in (
-      tail_of a.bytes.now a.at c1.wide.ensures.0 c2.wide2.ensures.0 c3.wide3.ensures.0 c4.wide4.ensures.0 c5.wide5.ensures.0
-          c6.wide6.ensures.0 c7.wide7.ensures.0 c.wide8.ensures.0,
+    let a = c.args in (
+      tail_of a.bytes.now a.at c.wide.ensures.0 c.wide-2.ensures.0 c.wide-3.ensures.0 c.wide-4.ensures.0 c.wide-5.ensures.0
+          c.wide-6.ensures.0 c.wide-7.ensures.0 c.wide-8.ensures.0,
       omega arith,
     )
 

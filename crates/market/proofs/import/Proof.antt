@@ -23,132 +23,108 @@ promised : {t os ts ss : List ℕ} {r : Row} {os' ts' ss' : List ℕ} → Import
 promised a = (a, accepts a)
 
 -- the places on the way
-abbrev head : tie.Else1 → tie.After-head-of
+abbrev head : tie.Else-not-head → tie.After-head_of-head
 head c = c.before.before
 
-abbrev start : tie.After-head-of → tie.Start
+abbrev start : tie.After-head_of-head → tie.Start
 start c = c.before.before.before.before.before
 
-abbrev body : tie.Else2 → tie.After-body-at
+abbrev body : tie.Else-not-body → tie.After-body_at-body
 body c = c.before.before
 
-abbrev counts : tie.Else4 → tie.Else3
-counts c = c.before.before
-
 -- the first line, the counts and the lines are right
-begun : (c : tie.Else1) → (head c).head_of.result.good ≡ true
-begun c = not-false _ c.if1.false
+begun : (c : tie.Else-not-head) → c.head_of-head.result.good ≡ true
+begun c = not-false _ c.if-not-head.false
 
-lined : (c : tie.Else2) → (body c).body_at.result.good ≡ true
-lined c = not-false _ c.if2.false
+lined : (c : tie.Else-not-body) → c.body_at-body.result.good ≡ true
+lined c = not-false _ c.if-not-body.false
 
 -- the counts are in their range
-ranged : (c : tie.Else3) → let h = (head (body c.before.before).before).head_of.result in counts_outside h.rows h.entries ≡ false
-ranged c = sym c.before.counts_outside.ensures ∙ c.if3.false
+ranged : (c : tie.Else-counts_outside) → let h = c.head_of-head.result in counts_outside h.rows h.entries ≡ false
+ranged c = sym c.counts_outside.ensures ∙ c.if-counts_outside.false
 
-module _ (c : tie.Else4) where
-  abbrev e2 : tie.Else2
-  e2 = (counts c).before.before
+module _ (c : tie.Else-not-body-2) where
+  abbrev e2 : tie.Else-not-body
+  e2 = c.before.before.before.before
 
-  abbrev e1 : tie.Else1
+  abbrev e1 : tie.Else-not-head
   e1 = (body e2).before
 
-  abbrev h : tie.After-head-of
+  abbrev h : tie.After-head_of-head
   h = head e1
 
   abbrev text : List ℕ
   text = (start h).args.text.now
 
   none : fault text ≡ 0
-  none = fault_none h.head_of.ensures (begun e1) (body e2).body_at.ensures (lined e2) (ranged (counts c)) (not-false _ c.if4.false)
+  none = fault_none h.head_of-head.ensures (begun e1) (body e2).body_at-body.ensures (lined e2) (ranged c.before.before) (not-false _ c.if-not-body-2.false)
 
-  can_fill : Fillable text h.head_of.result.next h.head_of.result.rows h.head_of.result.entries
-  can_fill = fillable h.head_of.ensures (begun e1) (body e2).body_at.ensures (lined e2) (ranged (counts c)) (not-false _ c.if4.false)
+  can_fill : Fillable text h.head_of-head.result.next h.head_of-head.result.rows h.head_of-head.result.entries
+  can_fill = fillable h.head_of-head.ensures (begun e1) (body e2).body_at-body.ensures (lined e2) (ranged c.before.before) (not-false _ c.if-not-body-2.false)
 
 -- the lent lengths are right
-fitting : (c : tie.Else5) → let e4 = c.before.before in
-    let r = (h e4).head_of.result in
-    let a = (start (h e4)).args in
+fitting : (c : tie.Else-buffers_wrong) → let r = (h c.before.before).head_of-head.result in
+    let a = (start (h c.before.before)).args in
     misfits r.rows r.entries (length a.offsets.now) (length a.targets.now) (length a.sizes.now) ≡ false
-fitting c = sym c.before.buffers_wrong.ensures ∙ c.if5.false
+fitting c = sym c.buffers_wrong.ensures ∙ c.if-buffers_wrong.false
 
-abbrev filled : tie.After-clear-sizes → tie.After-fill-graph
-filled c = c.before.before.before.before.before.before
+returns-then-not-head : tie.Need-returns-then-not-head
+returns-then-not-head c =
+    promised (imports_refused c.args.text.now _ _ _ (fault_head c.head_of-head.ensures (not-true _ c.if-not-head.true)))
+
+body_at-body-requires : tie.Need-body_at-body-requires
+body_at-body-requires c κs = c.head_of-head.ensures.there
+
+returns-then-not-body : tie.Need-returns-then-not-body
+returns-then-not-body c =
+    promised (imports_refused c.args.text.now _ _ _
+    (fault_lines c.head_of-head.ensures (begun c.before.before.before) c.body_at-body.ensures (not-true _ c.if-not-body.true)))
+
+returns-then-counts_outside : tie.Need-returns-then-counts_outside
+returns-then-counts_outside c =
+    promised (imports_refused c.args.text.now _ _ _
+    (fault_counts c.head_of-head.ensures (begun c.before.before.before.before.before) c.body_at-body.ensures (lined c.before.before) (sym c.counts_outside.ensures ∙ c.if-counts_outside.true)))
+
+returns-then-not-body-2 : tie.Need-returns-then-not-body-2
+returns-then-not-body-2 c =
+    promised (imports_refused c.args.text.now _ _ _
+    (fault_objects c.head_of-head.ensures (begun c.before.before.before.before.before.before.before) c.body_at-body.ensures (lined c.before.before.before.before) (ranged c.before.before) (not-true _ c.if-not-body-2.true)))
+
+buffers_wrong-requires : tie.Need-buffers_wrong-requires
+buffers_wrong-requires c κs = (can_fill c).few
+
+returns-then-buffers_wrong : tie.Need-returns-then-buffers_wrong
+returns-then-buffers_wrong c =
+    let r = (h c.before.before).head_of-head.ensures in
+    promised (imports_unfit (text c.before.before) _ _ _ (none c.before.before) (r.rows_is (begun (e1 c.before.before))) (r.entries_is (begun (e1 c.before.before)))
+    (sym c.buffers_wrong.ensures ∙ c.if-buffers_wrong.true) refl)
+
+overflow_cast-n : tie.Need-overflow_cast-n
+overflow_cast-n c = omega (arith, (can_fill c.before.before).few)
+
+fill_graph-requires : tie.Need-fill_graph-requires
+fill_graph-requires c κs =
+    let r = (h c.before.before.before.before).head_of-head.result in
+    let l = lengths_are r.rows r.entries _ _ _ (fitting c.before.before) in
+    (l.0, rw l.1.0 (can_fill c.before.before.before.before))
+
+overflow_cast-result : tie.Need-overflow_cast-result
+overflow_cast-result c = omega (arith, (can_fill c.before.before.before.before.before.before.before.before.before.before.before.before.before).few)
+
+overflow_cast-result-2 : tie.Need-overflow_cast-result-2
+overflow_cast-result-2 c = omega (arith, (can_fill c.before.before.before.before.before.before.before.before.before.before.before.before.before).few_lines)
 
 returns : tie.Need-returns
 returns c =
-    let p = c.before.before in
-    promised (imports_refused (start p).args.text.now _ _ _ (fault_head p.head_of.ensures (not-true _ c.if1.true)))
-
-body_at_requires : tie.Need-body-at-requires
-body_at_requires c κs = (head c).head_of.ensures.there
-
-returns_2 : tie.Need-returns-2
-returns_2 c =
-    let b = c.before.before in
-    let p = head b.before in
-    promised (imports_refused (start p).args.text.now _ _ _
-    (fault_lines p.head_of.ensures (begun b.before) b.body_at.ensures (not-true _ c.if2.true)))
-
-returns_3 : tie.Need-returns-3
-returns_3 c =
-    let e = c.before.before in
-    let b = body e in
-    let p = head b.before in
-    promised (imports_refused (start p).args.text.now _ _ _
-    (fault_counts p.head_of.ensures (begun b.before) b.body_at.ensures (lined e) (sym c.before.counts_outside.ensures ∙ c.if3.true)))
-
-returns_4 : tie.Need-returns-4
-returns_4 c =
-    let e3 = c.before.before in
-    let e = e3.before.before in
-    let b = body e in
-    let p = head b.before in
-    promised (imports_refused (start p).args.text.now _ _ _
-    (fault_objects p.head_of.ensures (begun b.before) b.body_at.ensures (lined e) (ranged e3) (not-true _ c.if4.true)))
-
-buffers_wrong_requires : tie.Need-buffers-wrong-requires
-buffers_wrong_requires c κs = (can_fill c).few
-
-returns_5 : tie.Need-returns-5
-returns_5 c =
-    let e4 = c.before.before in
-    let r = (h e4).head_of.ensures in
-    promised (imports_unfit (text e4) _ _ _ (none e4) (r.rows_is (begun (e1 e4))) (r.entries_is (begun (e1 e4)))
-    (sym c.before.buffers_wrong.ensures ∙ c.if5.true) refl)
-
-cast_fill_graph : tie.Need-overflow-cast-fill-graph
-cast_fill_graph c = omega (arith, (can_fill c.before.before).few)
-
-fill_graph_requires : tie.Need-fill-graph-requires
-fill_graph_requires c κs =
-    let e5 = c.before.before in
-    let e4 = e5.before.before in
-    let r = (h e4).head_of.result in
-    let l = lengths_are r.rows r.entries _ _ _ (fitting e5) in
-    (l.0, rw l.1.0 (can_fill e4))
-
-cast_n : tie.Need-overflow-cast-t22
-cast_n c = let e5 = (filled c.before.before).before.before.before in omega (arith, (can_fill e5.before.before).few)
-
-cast_m : tie.Need-overflow-cast-t29
-cast_m c = let e5 = (filled c.before.before).before.before.before in omega (arith, (can_fill e5.before.before).few_lines)
-
-returns_6 : tie.Need-returns-6
-returns_6 c =
-    let z = c.before.before in
-    let g = filled z in
-    let e5 = g.before.before.before in
-    let e4 = e5.before.before in
-    let r = (h e4).head_of.ensures in
-    let n = (h e4).head_of.result in
-    let l = lengths_are n.rows n.entries _ _ _ (fitting e5) in
-    let ps = pairs_are r (begun (e1 e4)) (body (e2 e4)).body_at.ensures (lined (e2 e4)) ∙ ap (λ (k : ℕ). pairs_in k (drop n.next (text e4))) (sym l.1.0) in
-    promised (imports_filled (text e4) _ _ _ (none e4) (r.rows_is (begun (e1 e4))) (r.entries_is (begun (e1 e4))) (fitting e5) refl (ap (map from_zero) ps)
-    g.fill_graph.ensures.0 g.fill_graph.ensures.1 (z.clear_sizes.ensures ∙ ap (λ (k : ℕ). replicate k 0) l.1.1))
+    let r = (h c.before.before.before.before.before.before.before.before.before.before.before.before.before).head_of-head.ensures in
+    let n = (h c.before.before.before.before.before.before.before.before.before.before.before.before.before).head_of-head.result in
+    let l = lengths_are n.rows n.entries _ _ _ (fitting c.before.before.before.before.before.before.before.before.before.before.before) in
+    let ps = pairs_are r (begun (e1 c.before.before.before.before.before.before.before.before.before.before.before.before.before)) (body (e2 c.before.before.before.before.before.before.before.before.before.before.before.before.before)).body_at-body.ensures (lined (e2 c.before.before.before.before.before.before.before.before.before.before.before.before.before)) ∙ ap (λ (k : ℕ). pairs_in k (drop n.next (text c.before.before.before.before.before.before.before.before.before.before.before.before.before))) (sym l.1.0) in
+    promised (imports_filled (text c.before.before.before.before.before.before.before.before.before.before.before.before.before) _ _ _ (none c.before.before.before.before.before.before.before.before.before.before.before.before.before) (r.rows_is (begun (e1 c.before.before.before.before.before.before.before.before.before.before.before.before.before))) (r.entries_is (begun (e1 c.before.before.before.before.before.before.before.before.before.before.before.before.before))) (fitting c.before.before.before.before.before.before.before.before.before.before.before) refl (ap (map from_zero) ps)
+    c.fill_graph.ensures.0 c.fill_graph.ensures.1 (c.clear_sizes.ensures ∙ ap (λ (k : ℕ). replicate k 0) l.1.1))
 
 pub import_spec : {M : Type 1} → statement M
 import_spec =
     tie.close
-    (tie.spec (λ c κs. search rules) returns body_at_requires returns_2 (λ c κs. search rules) returns_3 returns_4 buffers_wrong_requires returns_5 cast_fill_graph
-    fill_graph_requires (λ c κs. search rules) cast_n cast_m (λ c. search rules) (λ c. search rules) (λ c. search rules) returns_6)
+    (tie.spec (λ c κs. search rules) returns-then-not-head body_at-body-requires returns-then-not-body (λ c κs. search rules) returns-then-counts_outside returns-then-not-body-2 buffers_wrong-requires returns-then-buffers_wrong overflow_cast-n
+    fill_graph-requires (λ c κs. search rules) overflow_cast-result overflow_cast-result-2 (λ c. search rules) (λ c. search rules) (λ c. search rules) returns)

@@ -8,32 +8,27 @@ use Rattle.matrix.proofs.Checks.{header_text, header_counts, header_read}
 use Rattle.market.proofs.market_header.Statement.{statement}
 use Rattle.market.proofs.market_header.Tie as tie
 
+returns-then-not-head : tie.Need-returns-then-not-head
+returns-then-not-head c = header_text c.head_of-head.ensures (not-true _ c.if-not-head.true)
+
+returns-then-counts_outside : tie.Need-returns-then-counts_outside
+returns-then-counts_outside c =
+    header_counts c.head_of-head.ensures (not-false _ c.if-not-head.false) (sym c.counts_outside.ensures ∙ c.if-counts_outside.true)
+
+overflow_cast-result : tie.Need-overflow_cast-result
+overflow_cast-result c =
+    let h = c.head_of-head.result in
+    omega (arith, (counts_low h.rows h.entries (sym c.counts_outside.ensures ∙ c.if-counts_outside.false)).1)
+
+overflow_cast-result-2 : tie.Need-overflow_cast-result-2
+overflow_cast-result-2 c =
+    let h = c.head_of-head.result in
+    omega (arith, (counts_low h.rows h.entries (sym c.counts_outside.ensures ∙ c.if-counts_outside.false)).2)
+
 returns : tie.Need-returns
-returns c = header_text c.before.before.head_of.ensures (not-true _ c.if1.true)
-
-returns_2 : tie.Need-returns-2
-returns_2 c =
-    let e = c.before.before in
-    header_counts e.before.before.head_of.ensures (not-false _ e.if1.false) (sym c.before.counts_outside.ensures ∙ c.if2.true)
-
-cast_n : tie.Need-overflow-cast-t9
-cast_n c =
-    let o = c.before.before in
-    let h = o.before.before.before.head_of.result in
-    omega (arith, (counts_low h.rows h.entries (sym o.counts_outside.ensures ∙ c.before.if2.false)).1)
-
-cast_m : tie.Need-overflow-cast-t10
-cast_m c =
-    let o = c.before.before.before in
-    let h = o.before.before.before.head_of.result in
-    omega (arith, (counts_low h.rows h.entries (sym o.counts_outside.ensures ∙ c.before.before.if2.false)).2)
-
-returns_3 : tie.Need-returns-3
-returns_3 c =
-    let o = c.before.before.before in
-    let e = o.before in
-    header_read e.before.before.head_of.ensures (not-false _ e.if1.false) (sym o.counts_outside.ensures ∙ c.before.before.if2.false)
+returns c =
+    header_read c.head_of-head.ensures (not-false _ c.if-not-head.false) (sym c.counts_outside.ensures ∙ c.if-counts_outside.false)
 
 pub market_header_spec : {M : Type 1} → statement M
 market_header_spec =
-    tie.close (tie.spec (λ c κs. search rules) returns (λ c κs. search rules) returns_2 cast_n cast_m returns_3)
+    tie.close (tie.spec (λ c κs. search rules) returns-then-not-head (λ c κs. search rules) returns-then-counts_outside overflow_cast-result overflow_cast-result-2 returns)

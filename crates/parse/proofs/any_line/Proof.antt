@@ -6,16 +6,15 @@ use Rattle.matrix.proofs.Heads.{line_bad, line_of}
 use Rattle.parse.proofs.any_line.Statement.{statement}
 use Rattle.parse.proofs.any_line.Tie as tie
 
+returns-then-not-from : tie.Need-returns-then-not-from
+returns-then-not-from c =
+    line_bad c.field_at-from.ensures (not-true _ c.if-not-from.true)
+
+field_at-to-requires : tie.Need-field_at-to-requires
+field_at-to-requires c κs = (c.field_at-from.ensures.there, (omega arith, omega arith))
+
 returns : tie.Need-returns
-returns c =
-    let f = c.before.before in
-    line_bad f.field_at.ensures (not-true _ c.if1.true)
-
-field_at_requires_2 : tie.Need-field-at-requires-2
-field_at_requires_2 c κs = (c.before.before.field_at.ensures.there, (omega arith, omega arith))
-
-returns_2 : tie.Need-returns-2
-returns_2 c = line_of c.before.before.before.field_at.ensures (not-false _ c.before.if1.false) c.field_at2.ensures
+returns c = line_of c.field_at-from.ensures (not-false _ c.if-not-from.false) c.field_at-to.ensures
 
 pub any_line_spec : {M : Type 1} → statement M
-any_line_spec = tie.close (tie.spec (λ c κs. search rules) returns field_at_requires_2 returns_2)
+any_line_spec = tie.close (tie.spec (λ c κs. search rules) returns-then-not-from field_at-to-requires returns)

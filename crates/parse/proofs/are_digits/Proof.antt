@@ -5,20 +5,17 @@ use Rattle.matrix.proofs.Fields.{never}
 use Rattle.parse.proofs.are_digits.Statement.{statement}
 use Rattle.parse.proofs.are_digits.Tie as tie
 
-returns_4 : tie.Need-returns-4
-returns_4 c z =
-    let third = c.before in
-    let second = third.before.before in
-    let first = second.before.before in
+returns : tie.Need-returns
+returns c z =
     record {
-      first = first.before.is_digit.ensures (not-false _ first.if1.false);
-      second = second.before.is_digit2.ensures (not-false _ second.if2.false);
-      third = third.before.is_digit3.ensures (not-false _ third.if3.false);
-      fourth = c.is_digit4.ensures z;
+      first = c.is_digit.ensures (not-false _ c.if-not-is_digit.false-raw);
+      second = c.is_digit-2.ensures (not-false _ c.if-not-is_digit-2.false-raw);
+      third = c.is_digit-3.ensures (not-false _ c.if-not-is_digit-3.false-raw);
+      fourth = c.is_digit-4.ensures z;
     }
 
 pub are_digits_spec : {M : Type 1} → statement M
 are_digits_spec =
     tie.close
     (tie.spec (λ c κs. search rules) (λ c z. never z) (λ c κs. search rules) (λ c z. never z) (λ c κs. search rules) (λ c z. never z)
-    (λ c κs. search rules) returns_4)
+    (λ c κs. search rules) returns)

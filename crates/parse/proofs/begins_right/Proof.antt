@@ -10,42 +10,38 @@ use Rattle.matrix.proofs.Heads.{begins_short, begins_same, begins_other, begins_
 use Rattle.parse.proofs.begins_right.Statement.{statement}
 use Rattle.parse.proofs.begins_right.Tie as tie
 
-abbrev invariant_loop : tie.invariant-loop
+abbrev invariant_loop : tie.invariant-loop-i
 invariant_loop text i₀ i = (i ≤ 49) × (begins banner text ≡ begins (drop i banner) (drop i text))
 
-abbrev decreases_loop : tie.decreases-loop
+abbrev decreases_loop : tie.decreases-loop-i
 decreases_loop text i₀ i = 49 - i
 
+returns-then-text-lt49 : tie.Need-returns-then-text-lt49 invariant_loop decreases_loop
+returns-then-text-lt49 c = sym (begins_short banner _ c.if-text-lt49.true)
+
+loop-i-init : tie.Need-loop-i-init invariant_loop decreases_loop
+loop-i-init c = (omega arith, refl)
+
+bounds-text-i : tie.Need-bounds-text-i invariant_loop decreases_loop
+bounds-text-i c = search rules
+
+bounds-i : tie.Need-bounds-i invariant_loop decreases_loop
+bounds-i c = search rules
+
+returns-then-text-i : tie.Need-returns-then-text-i invariant_loop decreases_loop
+returns-then-text-i c =
+    let h = c.if-text-lt49.false in
+    sym (c.loop-i.invariant.1 ∙ begins_other banner _ c.loop-i.i c.loop-i-test.true (omega (arith, h, c.loop-i-test.true)) c.if-text-i.true)
+
+loop-i-preserved : tie.Need-loop-i-preserved invariant_loop decreases_loop
+loop-i-preserved c =
+    let h = c.if-text-lt49.false in
+    (omega arith, c.loop-i.invariant.1 ∙ begins_same banner _ c.loop-i.i c.loop-i-test.true (omega (arith, h, c.loop-i-test.true)) c.if-text-i.false)
+
 returns : tie.Need-returns invariant_loop decreases_loop
-returns c = sym (begins_short banner _ c.if1.true)
-
-loop_holds : tie.Need-loop-init invariant_loop decreases_loop
-loop_holds c = (omega arith, refl)
-
-shared_slice_read_if2 : tie.Need-shared-slice-read-if2 invariant_loop decreases_loop
-shared_slice_read_if2 c = search rules
-
-array_read_if2 : tie.Need-array-read-if2 invariant_loop decreases_loop
-array_read_if2 c = search rules
-
-returns_2 : tie.Need-returns-2 invariant_loop decreases_loop
-returns_2 c =
-    let i = c.before.before in
-    let l = i.before in
-    let h = l.before.if1.false in
-    sym (l.loop.invariant.1 ∙ begins_other banner _ l.loop.i i.loop_test.true (omega (arith, h, i.loop_test.true)) c.if2.true)
-
-loop_again : tie.Need-loop-preserved invariant_loop decreases_loop
-loop_again c =
-    let i = c.before.before in
-    let l = i.before in
-    let h = l.before.if1.false in
-    (omega arith, l.loop.invariant.1 ∙ begins_same banner _ l.loop.i i.loop_test.true (omega (arith, h, i.loop_test.true)) c.if2.false)
-
-returns_3 : tie.Need-returns-3 invariant_loop decreases_loop
-returns_3 c = let l = c.before in sym (l.loop.invariant.1 ∙ begins_all banner _ l.loop.i c.loop_test.false)
+returns c = sym (c.loop-i.invariant.1 ∙ begins_all banner _ c.loop-i.i c.loop-i-test.false)
 
 pub begins_right_spec : {M : Type 1} → statement M
 begins_right_spec =
     tie.close
-    (tie.spec invariant_loop decreases_loop returns loop_holds shared_slice_read_if2 array_read_if2 returns_2 (λ c. search rules) (λ c. search rules) loop_again returns_3)
+    (tie.spec invariant_loop decreases_loop returns-then-text-lt49 loop-i-init bounds-text-i bounds-i returns-then-text-i (λ c. search rules) (λ c. search rules) loop-i-preserved returns)

@@ -10,82 +10,70 @@ use Rattle.matrix.proofs.Fields.{Scanning, scanning_start, scanning_next, ended_
 use Rattle.parse.proofs.field_at.Statement.{statement}
 use Rattle.parse.proofs.field_at.Tie as tie
 
-abbrev invariant_loop : tie.invariant-loop
+abbrev invariant_loop : tie.invariant-loop-i
 invariant_loop text at stop value₀ i₀ value i = Scanning text at i value
 
-abbrev decreases_loop : tie.decreases-loop
+abbrev decreases_loop : tie.decreases-loop-i
 decreases_loop text at stop value₀ i₀ value i = length text - i
 
-loop_holds : tie.Need-loop-init invariant_loop decreases_loop
-loop_holds c = scanning_start _ _ c.before.requires.0
+loop-i-init : tie.Need-loop-i-init invariant_loop decreases_loop
+loop-i-init c = scanning_start _ _ c.requires.0
 
 -- a byte below the digits: not the wanted one, or no digit before it, or a number
-returns : tie.Need-returns invariant_loop decreases_loop
-returns c =
-    let l = c.before.before.before.before in
-    let s = l.loop.invariant in
-    field_bad _ _ _ (field_other s (ended_low s refl c.before.if1.true) c.if2.true)
+returns-then-b-stop : tie.Need-returns-then-b-stop invariant_loop decreases_loop
+returns-then-b-stop c =
+    let s = c.loop-i.invariant in
+    field_bad _ _ _ (field_other s (ended_low s refl c.if-b-lt-ZERO.true) c.if-b-stop.true)
 
-returns_2 : tie.Need-returns-2 invariant_loop decreases_loop
-returns_2 c =
-    let l = c.before.before.before.before.before in
-    let s = l.loop.invariant in
-    field_bad _ _ _ (field_none s (ended_low s refl c.before.before.if1.true) _ c.if3.true)
+returns-then-i-at : tie.Need-returns-then-i-at invariant_loop decreases_loop
+returns-then-i-at c =
+    let s = c.loop-i.invariant in
+    field_bad _ _ _ (field_none s (ended_low s refl c.if-b-lt-ZERO.true) _ c.if-i-at.true)
 
-returns_3 : tie.Need-returns-3 invariant_loop decreases_loop
-returns_3 c =
-    let t = c.before.before in
-    let i = t.before.before in
-    let s = i.before.loop.invariant in
-    field_good s (ended_low s refl t.if1.true) (sym c.before.if2.false) i.loop_test.true c.if3.false
+returns-then-b-lt-ZERO : tie.Need-returns-then-b-lt-ZERO invariant_loop decreases_loop
+returns-then-b-lt-ZERO c =
+    let s = c.loop-i.invariant in
+    field_good s (ended_low s refl c.if-b-lt-ZERO.true) (sym c.if-b-stop.false) c.loop-i-test.true c.if-i-at.false
 
 -- a byte above the digits
-returns_4 : tie.Need-returns-4 invariant_loop decreases_loop
-returns_4 c =
-    let l = c.before.before.before.before in
-    let s = l.loop.invariant in
-    let start = l.before.before in
-    field_bad _ _ _ (field_other s (ended_high s refl c.if4.true) (λ z. omega (arith, z, c.if4.true, start.requires.1.1)))
+returns-then-b-gt-NINE : tie.Need-returns-then-b-gt-NINE invariant_loop decreases_loop
+returns-then-b-gt-NINE c =
+    let s = c.loop-i.invariant in
+    field_bad _ _ _ (field_other s (ended_high s refl c.if-b-gt-NINE.true) (λ z. omega (arith, z, c.if-b-gt-NINE.true, c.requires.1.1)))
 
-sub_if5 : tie.Need-overflow-sub-if5 invariant_loop decreases_loop
-sub_if5 c = omega (arith, c.before.before.before.before.loop.invariant.place)
+overflow_sub-i : tie.Need-overflow_sub-i invariant_loop decreases_loop
+overflow_sub-i c = omega (arith, c.loop-i.invariant.place)
 
 -- an eleventh digit
-returns_5 : tie.Need-returns-5 invariant_loop decreases_loop
-returns_5 c =
-    let l = c.before.before.before.before.before in
-    let s = l.loop.invariant in
-    let start = l.before.before in
-    field_bad _ _ _ (field_other s (ended_full s c.if5.true) (λ z. omega (arith, z, c.before.before.if1.false, start.requires.1.1)))
+returns-then-i-at-eq-MOST_DIGITS : tie.Need-returns-then-i-at-eq-MOST_DIGITS invariant_loop decreases_loop
+returns-then-i-at-eq-MOST_DIGITS c =
+    let s = c.loop-i.invariant in
+    field_bad _ _ _ (field_other s (ended_full s c.if-i-at-eq-MOST_DIGITS.true) (λ z. omega (arith, z, c.if-b-lt-ZERO.false, c.requires.1.1)))
 
 -- the value of so many digits
 low : {text : List ℕ} {at i value : ℕ} → Scanning text at i value → value < 10000000000
 low s = omega (arith, s.small, pow-le-pow_right {n = 10} (omega arith) {i = s.k} {j = 10} (omega (arith, s.sum)))
 
-mul_value : tie.Need-overflow-mul-value invariant_loop decreases_loop
-mul_value c = omega (arith, low c.before.before.before.before.before.loop.invariant)
+overflow_mul-value : tie.Need-overflow_mul-value invariant_loop decreases_loop
+overflow_mul-value c = omega (arith, low c.loop-i.invariant)
 
-add_value : tie.Need-overflow-add-value invariant_loop decreases_loop
-add_value c = omega (arith, low c.before.before.before.before.before.before.loop.invariant, c.wide.ensures, c.before.before.if4.false)
+overflow_add-value : tie.Need-overflow_add-value invariant_loop decreases_loop
+overflow_add-value c = omega (arith, low c.loop-i.invariant, c.wide.ensures, c.if-b-gt-NINE.false)
 
-loop_again : tie.Need-loop-preserved invariant_loop decreases_loop
-loop_again c =
-    let i = c.before.before.before.before.before in
-    let e4 = c.before.before in
+loop-i-preserved : tie.Need-loop-i-preserved invariant_loop decreases_loop
+loop-i-preserved c =
     rw c.wide.ensures
-    (scanning_next i.before.loop.invariant i.loop_test.true refl e4.before.if1.false e4.if4.false c.before.if5.false)
+    (scanning_next c.loop-i.invariant c.loop-i-test.true refl c.if-b-lt-ZERO.false c.if-b-gt-NINE.false c.if-i-at-eq-MOST_DIGITS.false)
 
 -- the text ends
-returns_6 : tie.Need-returns-6 invariant_loop decreases_loop
-returns_6 c =
-    let l = c.before in
-    let s = l.loop.invariant in
-    let start = l.before.before in
-    let d = get_or-eq_default start.args.text.now 0 c.loop_test.false in
-    field_bad _ _ _ (field_other s (ended_text s c.loop_test.false) (λ z. omega (arith, z, d, start.requires.1.0)))
+returns : tie.Need-returns invariant_loop decreases_loop
+returns c =
+    let s = c.loop-i.invariant in
+    let d = get_or-eq_default c.args.text.now 0 c.loop-i-test.false in
+    field_bad _ _ _ (field_other s (ended_text s c.loop-i-test.false) (λ z. omega (arith, z, d, c.requires.1.0)))
 
 pub field_at_spec : {M : Type 1} → statement M
 field_at_spec =
     tie.close
-    (tie.spec invariant_loop decreases_loop loop_holds (λ c. search rules) returns returns_2 (λ c. search rules) returns_3 returns_4 sub_if5 returns_5 mul_value
-    (λ c κs. search rules) add_value (λ c. search rules) (λ c. search rules) loop_again returns_6)
+    (tie.spec invariant_loop decreases_loop loop-i-init (λ c. search rules) returns-then-b-stop returns-then-i-at (λ c. search rules) returns-then-b-lt-ZERO returns-then-b-gt-NINE overflow_sub-i returns-then-i-at-eq-MOST_DIGITS overflow_mul-value
+    (λ c κs. search rules) overflow_add-value (λ c. search rules) (λ c. search rules) loop-i-preserved returns)

@@ -11,54 +11,44 @@ use Rattle.parse.proofs.head_of.Statement.{statement}
 use Rattle.parse.proofs.head_of.Tie as tie
 
 -- the first line is right
-begun : (c : tie.Else1) → begins banner c.before.before.before.args.text.now ≡ true
-begun c = sym c.before.begins_right.ensures ∙ not-false _ c.if1.false
+begun : (c : tie.Else-not-begins_right) → begins banner c.args.text.now ≡ true
+begun c = sym c.begins_right.ensures ∙ not-false _ c.if-not-begins_right.false-raw
+
+returns-then-not-begins_right : tie.Need-returns-then-not-begins_right
+returns-then-not-begins_right c = head_banner _ (sym c.begins_right.ensures ∙ not-true _ c.if-not-begins_right.true-raw)
+
+skip_lines-counts-requires : tie.Need-skip_lines-counts-requires
+skip_lines-counts-requires c κs = begins_long banner _ (begun c)
+
+field_at-rows-requires : tie.Need-field_at-rows-requires
+field_at-rows-requires c κs = (c.skip_lines-counts.ensures.1, (omega arith, omega arith))
+
+returns-then-not-rows : tie.Need-returns-then-not-rows
+returns-then-not-rows c =
+    head_rows (begun c.before.before.before.before) c.skip_lines-counts.ensures.0 c.field_at-rows.ensures (not-true _ c.if-not-rows.true)
+
+field_at-columns-requires : tie.Need-field_at-columns-requires
+field_at-columns-requires c κs = (c.field_at-rows.ensures.there, (omega arith, omega arith))
+
+returns-then-not-columns : tie.Need-returns-then-not-columns
+returns-then-not-columns c =
+    head_columns (begun c.before.before.before.before.before.before.before) c.skip_lines-counts.ensures.0 c.field_at-rows.ensures (not-false _ c.if-not-rows.false)
+    c.field_at-columns.ensures (not-true _ c.if-not-columns.true)
+
+field_at-entries-requires : tie.Need-field_at-entries-requires
+field_at-entries-requires c κs = (c.field_at-columns.ensures.there, (omega arith, omega arith))
+
+returns-then-not-entries : tie.Need-returns-then-not-entries
+returns-then-not-entries c =
+    head_entries (begun c.before.before.before.before.before.before.before.before.before.before) c.skip_lines-counts.ensures.0 c.field_at-rows.ensures (not-false _ c.if-not-rows.false)
+    c.field_at-columns.ensures (not-false _ c.if-not-columns.false) c.field_at-entries.ensures (not-true _ c.if-not-entries.true)
 
 returns : tie.Need-returns
-returns c = head_banner _ (sym c.before.begins_right.ensures ∙ not-true _ c.if1.true)
-
-skip_lines_requires : tie.Need-skip-lines-requires
-skip_lines_requires c κs = begins_long banner _ (begun c)
-
-field_at_requires : tie.Need-field-at-requires
-field_at_requires c κs = (c.skip_lines.ensures.1, (omega arith, omega arith))
-
-returns_2 : tie.Need-returns-2
-returns_2 c =
-    let f = c.before.before in
-    head_rows (begun f.before.before) f.before.skip_lines.ensures.0 f.field_at.ensures (not-true _ c.if2.true)
-
-field_at_requires_2 : tie.Need-field-at-requires-2
-field_at_requires_2 c κs = (c.before.before.field_at.ensures.there, (omega arith, omega arith))
-
-returns_3 : tie.Need-returns-3
-returns_3 c =
-    let g = c.before.before in
-    let f = g.before.before.before in
-    head_columns (begun f.before.before) f.before.skip_lines.ensures.0 f.field_at.ensures (not-false _ g.before.if2.false)
-    g.field_at2.ensures (not-true _ c.if3.true)
-
-field_at_requires_3 : tie.Need-field-at-requires-3
-field_at_requires_3 c κs = (c.before.before.field_at2.ensures.there, (omega arith, omega arith))
-
-returns_4 : tie.Need-returns-4
-returns_4 c =
-    let h = c.before.before in
-    let g = h.before.before.before in
-    let f = g.before.before.before in
-    head_entries (begun f.before.before) f.before.skip_lines.ensures.0 f.field_at.ensures (not-false _ g.before.if2.false)
-    g.field_at2.ensures (not-false _ h.before.if3.false) h.field_at3.ensures (not-true _ c.if4.true)
-
-returns_5 : tie.Need-returns-5
-returns_5 c =
-    let e = c.before.before in
-    let h = e.before.before in
-    let g = h.before.before.before in
-    let f = g.before.before.before in
-    head_of (begun f.before.before) f.before.skip_lines.ensures.0 f.field_at.ensures (not-false _ g.before.if2.false)
-    g.field_at2.ensures (not-false _ h.before.if3.false) h.field_at3.ensures (not-false _ e.if4.false)
+returns c =
+    head_of (begun c.before.before.before.before.before.before.before.before.before.before.before.before) c.skip_lines-counts.ensures.0 c.field_at-rows.ensures (not-false _ c.if-not-rows.false)
+    c.field_at-columns.ensures (not-false _ c.if-not-columns.false) c.field_at-entries.ensures (not-false _ c.if-not-entries.false)
 
 pub head_of_spec : {M : Type 1} → statement M
 head_of_spec =
     tie.close
-    (tie.spec (λ c κs. search rules) returns skip_lines_requires field_at_requires returns_2 field_at_requires_2 returns_3 field_at_requires_3 returns_4 returns_5)
+    (tie.spec (λ c κs. search rules) returns-then-not-begins_right skip_lines-counts-requires field_at-rows-requires returns-then-not-rows field_at-columns-requires returns-then-not-columns field_at-entries-requires returns-then-not-entries returns)

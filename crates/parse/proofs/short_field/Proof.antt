@@ -10,46 +10,30 @@ use Rattle.matrix.proofs.Fields.{never, four_field, five_field}
 use Rattle.parse.proofs.short_field.Statement.{statement}
 use Rattle.parse.proofs.short_field.Tie as tie
 
--- back from the four digits to the entry, from the fifth to the four
-abbrev entry : tie.After-are-digits → tie.Start
-entry c = c.before.before.before.before.before.before.before
+four_value-four-requires : tie.Need-four_value-four-requires
+four_value-four-requires c κs = c.are_digits.ensures (not-false _ c.if-not-are_digits.false-raw)
 
-abbrev fifth : tie.Else4 → tie.Else3
-fifth c = c.before.before
+returns-then-e-stop : tie.Need-returns-then-e-stop
+returns-then-e-stop c z = (
+  rw c.four_value-four.ensures.0
+      (four_field _ c.args.at c.requires.0 refl refl refl refl (four_value-four-requires c.before.before c.four_value-four.lifetimes) (sym c.if-e-stop.true) c.requires.1),
+  omega arith,
+)
 
-four_value_requires : tie.Need-four-value-requires
-four_value_requires c κs = c.before.are_digits.ensures (not-false _ c.if1.false)
+digit_five : (c : tie.Else-not-is_digit) → Digit (get_or c.args.text.now (c.args.at + 4) 0)
+digit_five c = c.is_digit.ensures (not-false _ c.if-not-is_digit.false-raw)
 
-returns_2 : tie.Need-returns-2
-returns_2 c z =
-    let v = c.before in
-    let s = entry v.before.before in (
-      rw v.four_value.ensures.0
-          (four_field _ s.args.at s.pre.0 refl refl refl refl (four_value_requires v.before v.four_value.lifetimes) (sym c.if2.true) s.pre.1),
-      omega arith,
-    )
-
--- the fifth byte is a digit
-abbrev four : tie.Else3 → tie.After-four-value
-four c = c.before.before.before
-
-digit_five : (c : tie.Else3) → let s = entry (four c).before.before in Digit (get_or s.args.text.now (s.args.at + 4) 0)
-digit_five c = c.before.is_digit.ensures (not-false _ c.if3.false)
-
-returns_5 : tie.Need-returns-5
-returns_5 c z =
-    let f = fifth c.before in
-    let v = four f in
-    let s = entry v.before.before in (
-      rw (v.four_value.ensures.0, c.wide.ensures)
-          (five_field _ s.args.at s.pre.0 refl refl refl refl (four_value_requires v.before v.four_value.lifetimes) refl (digit_five f) (sym c.before.if4.false) s.pre.1),
-      omega arith,
-    )
+returns : tie.Need-returns
+returns c z = (
+  rw (c.four_value-four.ensures.0, c.wide.ensures)
+      (five_field _ c.args.at c.requires.0 refl refl refl refl (four_value-four-requires c.before.before.before.before.before.before.before c.four_value-four.lifetimes) refl (digit_five c.before.before.before) (sym c.if-text-at.false) c.requires.1),
+  omega arith,
+)
 
 pub short_field_spec : {M : Type 1} → statement M
 short_field_spec =
     tie.close
     (tie.spec (λ c. search rules) (λ c. search rules) (λ c. search rules) (λ c. search rules) (λ c. search rules) (λ c. search rules) (λ c. search rules)
-    (λ c. search rules) (λ c. search rules) (λ c κs. search rules) (λ c z. never z) four_value_requires (λ c. search rules) returns_2
+    (λ c. search rules) (λ c. search rules) (λ c κs. search rules) (λ c z. never z) four_value-four-requires (λ c. search rules) returns-then-e-stop
     (λ c κs. search rules) (λ c z. never z) (λ c. search rules) (λ c. search rules) (λ c z. never z) (λ c. search rules)
-    (λ c. omega (arith, (digit_five (fifth c)).low)) (λ c κs. search rules) (λ c. omega (arith, c.wide.ensures, (digit_five (fifth c.before)).high, (four (fifth c.before)).four_value.ensures.1)) (λ c. search rules) returns_5)
+    (λ c. omega (arith, (digit_five c.before.before).low)) (λ c κs. search rules) (λ c. omega (arith, c.wide.ensures, (digit_five c.before.before.before).high, c.four_value-four.ensures.1)) (λ c. search rules) returns)

@@ -8,14 +8,13 @@ use Rattle.matrix.proofs.Heads.{line_of}
 use Rattle.parse.proofs.short_line.Statement.{statement}
 use Rattle.parse.proofs.short_line.Tie as tie
 
-short_field_requires_2 : tie.Need-short-field-requires-2
-short_field_requires_2 c κs =
-    let f = c.before.before in (omega (arith, (f.short_field.ensures (not-false _ c.if1.false)).1, f.before.before.requires), omega arith)
+short_field-to-requires : tie.Need-short_field-to-requires
+short_field-to-requires c κs =
+    (omega (arith, (c.short_field-from.ensures (not-false _ c.if-not-from.false)).1, c.requires), omega arith)
 
-returns_2 : tie.Need-returns-2
-returns_2 c z =
-    let e = c.before in
-    line_of (e.before.before.short_field.ensures (not-false _ e.if1.false)).0 refl (c.short_field2.ensures z).0
+returns : tie.Need-returns
+returns c z =
+    line_of (c.short_field-from.ensures (not-false _ c.if-not-from.false)).0 refl (c.short_field-to.ensures z).0
 
 pub short_line_spec : {M : Type 1} → statement M
-short_line_spec = tie.close (tie.spec (λ c κs. search rules) (λ c z. never z) short_field_requires_2 returns_2)
+short_line_spec = tie.close (tie.spec (λ c κs. search rules) (λ c z. never z) short_field-to-requires returns)

@@ -6,42 +6,28 @@ use Rattle.matrix.proofs.Texts.{head_length, room_one, room_two, room_three, hea
 use Rattle.print.proofs.put_head.Statement.{statement}
 use Rattle.print.proofs.put_head.Tie as tie
 
-put_requires : tie.Need-put-requires
-put_requires c κs = let s = c.before.before.before in omega (arith, s.requires.1.1, head_length s.args.n s.args.m)
+put-first-requires : tie.Need-put-first-requires
+put-first-requires c κs = omega (arith, c.requires.1.1, head_length c.args.n c.args.m)
 
-put_field_requires : tie.Need-put-field-requires
-put_field_requires c κs =
-    let p = c.before.before.before in
-    let s = p.before.before.before.before in
-    (s.requires.0, room_one s.args.n s.args.m s.requires.1.1 p.put.ensures)
+put_field-second-requires : tie.Need-put_field-second-requires
+put_field-second-requires c κs =
+    (c.requires.0, room_one c.args.n c.args.m c.requires.1.1 c.put-first.ensures)
 
-put_field_requires_2 : tie.Need-put-field-requires-2
-put_field_requires_2 c κs =
-    let q = c.before.before.before in
-    let p = q.before.before.before.before in
-    let s = p.before.before.before.before in
-    (s.requires.0, room_two s.args.n s.args.m s.requires.1.1 p.put.ensures q.put_field.ensures)
+put_field-third-requires : tie.Need-put_field-third-requires
+put_field-third-requires c κs =
+    (c.requires.0, room_two c.args.n c.args.m c.requires.1.1 c.put-first.ensures c.put_field-second.ensures)
 
-put_field_requires_3 : tie.Need-put-field-requires-3
-put_field_requires_3 c κs =
-    let r = c.before.before.before in
-    let q = r.before.before.before.before in
-    let p = q.before.before.before.before in
-    let s = p.before.before.before.before in
-    (s.requires.1.0, room_three s.args.n s.args.m s.requires.1.1 p.put.ensures q.put_field.ensures r.put_field2.ensures)
+put_field-requires : tie.Need-put_field-requires
+put_field-requires c κs =
+    (c.requires.1.0, room_three c.args.n c.args.m c.requires.1.1 c.put-first.ensures c.put_field-second.ensures c.put_field-third.ensures)
 
 returns : tie.Need-returns
 returns c =
-    let t = c.before.before in
-    let r = t.before.before.before.before in
-    let q = r.before.before.before.before in
-    let p = q.before.before.before.before in
-    let s = p.before.before.before.before in
-    head_put s.args.n s.args.m s.requires.1.1 p.put.ensures q.put_field.ensures r.put_field2.ensures t.put_field3.ensures
+    head_put c.args.n c.args.m c.requires.1.1 c.put-first.ensures c.put_field-second.ensures c.put_field-third.ensures c.put_field.ensures
 
-same_length : tie.Need-same-length
-same_length c = same_long (returns c)
+shape_of-out : tie.Need-shape_of-out
+shape_of-out c = same_long (returns c)
 
 pub put_head_spec : {M : Type 1} → statement M
 put_head_spec =
-    tie.close (tie.spec (λ c. search rules) put_requires put_field_requires put_field_requires_2 put_field_requires_3 same_length returns)
+    tie.close (tie.spec put-first-requires put_field-second-requires put_field-third-requires put_field-requires shape_of-out returns)

@@ -6,28 +6,23 @@ use Rattle.matrix.proofs.Texts.{line_length, line_room, line_put}
 use Rattle.print.proofs.put_line.Statement.{statement}
 use Rattle.print.proofs.put_line.Tie as tie
 
-put_field_requires : tie.Need-put-field-requires
-put_field_requires c κs =
-    let s = c.before.before in
-    let a = s.args in
-    (s.requires.0, omega (arith, s.requires.1.1, line_length a.from a.to))
+put_field-middle-requires : tie.Need-put_field-middle-requires
+put_field-middle-requires c κs =
+    let a = c.args in
+    (c.requires.0, omega (arith, c.requires.1.1, line_length a.from a.to))
 
-put_field_requires_2 : tie.Need-put-field-requires-2
-put_field_requires_2 c κs =
-    let p = c.before.before.before in
-    let s = p.before.before.before in
-    (s.requires.1.0, line_room s.args.from s.args.to p.put_field.ensures s.requires.1.1)
+put_field-requires : tie.Need-put_field-requires
+put_field-requires c κs =
+    (c.requires.1.0, line_room c.args.from c.args.to c.put_field-middle.ensures c.requires.1.1)
 
 returns : tie.Need-returns
 returns c =
-    let q = c.before.before in
-    let p = q.before.before.before.before in
-    let a = p.before.before.before.args in
-    line_put a.from a.to p.put_field.ensures q.put_field2.ensures
+    let a = c.args in
+    line_put a.from a.to c.put_field-middle.ensures c.put_field.ensures
 
-same_length : tie.Need-same-length
-same_length c = same_long (returns c)
+shape_of-out : tie.Need-shape_of-out
+shape_of-out c = same_long (returns c)
 
 pub put_line_spec : {M : Type 1} → statement M
 put_line_spec =
-    tie.close (tie.spec (λ c. search rules) put_field_requires (λ c. search rules) put_field_requires_2 same_length returns)
+    tie.close (tie.spec (λ c. search rules) put_field-middle-requires (λ c. search rules) put_field-requires shape_of-out returns)

@@ -9,27 +9,25 @@ use borrow.Author.Rules.{rules}
 use Rattle.scan.proofs.ends_right.Statement.{statement}
 use Rattle.scan.proofs.ends_right.Tie as tie
 
-abbrev invariant_loop : tie.invariant-loop
+abbrev invariant_loop : tie.invariant-loop-i
 invariant_loop ends long start₀ i₀ i_end start i = (i ≤ length ends) × (ends_right start (drop i ends) long ≡ ends_right 0 ends long)
 
-abbrev decreases_loop : tie.decreases-loop
+abbrev decreases_loop : tie.decreases-loop-i
 decreases_loop ends long start₀ i₀ i_end start i = length ends - i
 
+returns-then-end-start : tie.Need-returns-then-end-start invariant_loop decreases_loop
+returns-then-end-start c =
+    sym (ends_stop _ _ _ _ c.loop-i-test.true c.if-end-start.true) ∙ c.loop-i.invariant.1
+
+loop-i-preserved : tie.Need-loop-i-preserved invariant_loop decreases_loop
+loop-i-preserved c =
+    (omega (arith, c.loop-i-test.true), ends_step _ _ _ _ c.loop-i-test.true c.if-end-start.false ∙ c.loop-i.invariant.1)
+
 returns : tie.Need-returns invariant_loop decreases_loop
-returns c =
-    let t = c.before.before in
-    sym (ends_stop _ _ _ _ t.loop_test.true c.if1.true) ∙ t.before.loop.invariant.1
-
-loop_again : tie.Need-loop-preserved invariant_loop decreases_loop
-loop_again c =
-    let t = c.before.before in
-    (omega (arith, t.loop_test.true), ends_step _ _ _ _ t.loop_test.true c.if1.false ∙ t.before.loop.invariant.1)
-
-returns_2 : tie.Need-returns-2 invariant_loop decreases_loop
-returns_2 c = let l = c.before in sym (ends_end _ _ _ _ c.loop_test.false) ∙ l.loop.invariant.1
+returns c = sym (ends_end _ _ _ _ c.loop-i-test.false) ∙ c.loop-i.invariant.1
 
 pub ends_right_spec : {M : Type 1} → statement M
 ends_right_spec =
     tie.close
-    (tie.spec invariant_loop decreases_loop (λ c. search rules) (λ c. search rules) (λ c. search rules) returns (λ c. search rules)
-    (λ c. search rules) loop_again returns_2)
+    (tie.spec invariant_loop decreases_loop (λ c. search rules) (λ c. search rules) (λ c. search rules) returns-then-end-start (λ c. search rules)
+    (λ c. search rules) loop-i-preserved returns)

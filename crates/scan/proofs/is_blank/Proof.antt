@@ -4,11 +4,11 @@ use borrow.Author.Rules.{rules}
 use Rattle.scan.proofs.is_blank.Statement.{statement}
 use Rattle.scan.proofs.is_blank.Tie as tie
 
-returns : tie.Need-returns
-returns c = rw (ne_eqb _ _ c.if1.true)
+returns-then-work-ne-WORK : tie.Need-returns-then-work-ne-WORK
+returns-then-work-ne-WORK c = rw (ne_eqb _ _ c.if-work-ne-WORK.true)
 
-returns_2 : tie.Need-returns-2
-returns_2 c = rw (eq-eqb _ _ c.before.if1.false) c.is_below.ensures
+returns : tie.Need-returns
+returns c = rw (eq-eqb _ _ c.if-work-ne-WORK.false) c.is_below.ensures
 
 pub is_blank_spec : {M : Type 1} → statement M
-is_blank_spec = tie.close (tie.spec returns (λ c κs. search rules) returns_2)
+is_blank_spec = tie.close (tie.spec returns-then-work-ne-WORK (λ c κs. search rules) returns)

@@ -5,16 +5,16 @@ use borrow.Author.Rules.{rules}
 use Rattle.scan.proofs.names_misfit.Statement.{statement}
 use Rattle.scan.proofs.names_misfit.Tie as tie
 
+returns-then-width-eq0 : tie.Need-returns-then-width-eq0
+returns-then-width-eq0 c = misfit_none _ _ _ c.if-width-eq0.true
+
+returns-then-bytes-width : tie.Need-returns-then-bytes-width
+returns-then-bytes-width c = sym (misfit_quotient _ _ _ c.if-width-eq0.false c.if-bytes-width.true)
+
 returns : tie.Need-returns
-returns c = misfit_none _ _ _ c.if1.true
-
-returns_2 : tie.Need-returns-2
-returns_2 c = sym (misfit_quotient _ _ _ c.before.if1.false c.if2.true)
-
-returns_3 : tie.Need-returns-3
-returns_3 c = misfit_rest _ _ _ c.if2.false
+returns c = misfit_rest _ _ _ c.if-bytes-width.false
 
 pub names_misfit_spec : {M : Type 1} → statement M
 names_misfit_spec =
     tie.close
-    (tie.spec returns (λ c. search rules) returns_2 (λ c. search rules) returns_3)
+    (tie.spec returns-then-width-eq0 (λ c. search rules) returns-then-bytes-width (λ c. search rules) returns)

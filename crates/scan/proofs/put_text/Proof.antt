@@ -9,72 +9,67 @@ use borrow.Author.Rules.{rules}
 use Rattle.scan.proofs.put_text.Statement.{statement}
 use Rattle.scan.proofs.put_text.Tie as tie
 
-abbrev invariant_loop : tie.invariant-loop
+abbrev invariant_loop : tie.invariant-loop-at
 invariant_loop names named index text from₀ to₀ owner width next₀ at₀ sure₀ from to next at sure =
     PuttingAt (names_of width names named) text owner next₀ from₀ to₀ from to next at sure
 
-abbrev decreases_loop : tie.decreases-loop
+abbrev decreases_loop : tie.decreases-loop-at
 decreases_loop names named index text from₀ to₀ owner width next₀ at₀ sure₀ from to next at sure = length text - at
 
-abbrev start : tie.At-loop invariant_loop decreases_loop → tie.Start invariant_loop decreases_loop
-start l = l.before.before.before.before.before.before.before
+loop-at-init : tie.Need-loop-at-init invariant_loop decreases_loop
+loop-at-init c = putting_start c.args.put.owner c.requires.1
 
-loop_holds : tie.Need-loop-init invariant_loop decreases_loop
-loop_holds c = let s = c.before.before.before.before.before.before in putting_start s.args.put.owner s.requires.1
+next_mention-found-requires : tie.Need-next_mention-found-requires invariant_loop decreases_loop
+next_mention-found-requires c κs = let i = c.loop-at.invariant in (c.requires.0, i.high, i.known)
 
-next_mention_requires : tie.Need-next-mention-requires invariant_loop decreases_loop
-next_mention_requires c κs = let i = c.before.loop.invariant in ((start c.before).pre.0, i.high, i.known)
+shape_of-from-then-text-place : tie.Need-shape_of-from-then-text-place invariant_loop decreases_loop
+shape_of-from-then-text-place c = same_long c.loop-at.invariant.sources
 
-same_length : tie.Need-same-length invariant_loop decreases_loop
-same_length c = same_long c.before.before.before.loop.invariant.sources
+shape_of-to-then-text-place : tie.Need-shape_of-to-then-text-place invariant_loop decreases_loop
+shape_of-to-then-text-place c = same_long c.loop-at.invariant.targets
 
-same_length_2 : tie.Need-same-length-2 invariant_loop decreases_loop
-same_length_2 c = same_long c.before.before.before.loop.invariant.targets
+returns-then-text-place : tie.Need-returns-then-text-place invariant_loop decreases_loop
+returns-then-text-place c = put_end c.loop-at.invariant c.next_mention-found.ensures c.if-text-place.true
+
+room : (c : tie.Else-text-place invariant_loop decreases_loop) → let l = c.loop-at in (l.next < length l.from) × (l.next < length l.to)
+room c = put_room c.loop-at.invariant c.next_mention-found.ensures c.if-text-place.false
+
+bounds-from-next : tie.Need-bounds-from-next invariant_loop decreases_loop
+bounds-from-next c = (room c).0
+
+bounds-to-next : tie.Need-bounds-to-next invariant_loop decreases_loop
+bounds-to-next c = (room c).1
+
+offset_bounds-from-next : tie.Need-offset_bounds-from-next invariant_loop decreases_loop
+offset_bounds-from-next c = omega (arith, (room c).0, same_long c.loop-at.invariant.sources)
+
+offset_bounds-to-next : tie.Need-offset_bounds-to-next invariant_loop decreases_loop
+offset_bounds-to-next c = omega (arith, (room c).1, same_long c.loop-at.invariant.targets)
+
+overflow_add-next : tie.Need-overflow_add-next invariant_loop decreases_loop
+overflow_add-next c = omega (arith, (room c).0, same_long c.loop-at.invariant.sources)
+
+overflow_add-sure : tie.Need-overflow_add-sure invariant_loop decreases_loop
+overflow_add-sure c = omega (arith, c.next_mention-found.ensures.fits c.if-text-place.false)
+
+loop-at-smaller : tie.Need-loop-at-smaller invariant_loop decreases_loop
+loop-at-smaller c = omega (arith, c.if-text-place.false, c.next_mention-found.ensures.low, c.loop-at-test.true)
+
+loop-at-preserved : tie.Need-loop-at-preserved invariant_loop decreases_loop
+loop-at-preserved c =
+    put_on c.loop-at.invariant c.next_mention-found.ensures c.if-text-place.false c.requires.0.some
+
+shape_of-from : tie.Need-shape_of-from invariant_loop decreases_loop
+shape_of-from c = same_long c.loop-at.invariant.sources
+
+shape_of-to : tie.Need-shape_of-to invariant_loop decreases_loop
+shape_of-to c = same_long c.loop-at.invariant.targets
 
 returns : tie.Need-returns invariant_loop decreases_loop
-returns c = let n = c.before in put_end n.before.before.loop.invariant n.next_mention.ensures c.if1.true
-
-room : (c : tie.Else1 invariant_loop decreases_loop) → let l = c.before.before.before.loop in (l.next < length l.from) × (l.next < length l.to)
-room c = let n = c.before in put_room n.before.before.loop.invariant n.next_mention.ensures c.if1.false
-
-slice_write_from : tie.Need-slice-write-from invariant_loop decreases_loop
-slice_write_from c = (room c).0
-
-slice_write_to : tie.Need-slice-write-to invariant_loop decreases_loop
-slice_write_to c = (room c).1
-
-mul_from : tie.Need-overflow-mul-from invariant_loop decreases_loop
-mul_from c = omega (arith, (room c).0, same_long c.before.before.before.loop.invariant.sources)
-
-mul_to : tie.Need-overflow-mul-to invariant_loop decreases_loop
-mul_to c = omega (arith, (room c).1, same_long c.before.before.before.loop.invariant.targets)
-
-add_next : tie.Need-overflow-add-next invariant_loop decreases_loop
-add_next c = omega (arith, (room c).0, same_long c.before.before.before.loop.invariant.sources)
-
-add_sure : tie.Need-overflow-add-sure invariant_loop decreases_loop
-add_sure c = omega (arith, c.before.next_mention.ensures.fits c.if1.false)
-
-loop_less : tie.Need-loop-smaller invariant_loop decreases_loop
-loop_less c = let n = c.before in omega (arith, c.if1.false, n.next_mention.ensures.low, n.before.loop_test.true)
-
-loop_again : tie.Need-loop-preserved invariant_loop decreases_loop
-loop_again c =
-    let n = c.before in
-    let l = n.before.before in
-    put_on l.loop.invariant n.next_mention.ensures c.if1.false (start l).requires.0.some
-
-same_length_3 : tie.Need-same-length-3 invariant_loop decreases_loop
-same_length_3 c = same_long c.before.loop.invariant.sources
-
-same_length_4 : tie.Need-same-length-4 invariant_loop decreases_loop
-same_length_4 c = same_long c.before.loop.invariant.targets
-
-returns_2 : tie.Need-returns-2 invariant_loop decreases_loop
-returns_2 c = put_stop c.before.loop.invariant c.loop_test.false
+returns c = put_stop c.loop-at.invariant c.loop-at-test.false
 
 pub put_text_spec : {M : Type 1} → statement M
 put_text_spec =
     tie.close
-    (tie.spec invariant_loop decreases_loop loop_holds next_mention_requires same_length same_length_2 returns mul_from slice_write_from mul_to
-    slice_write_to add_next (λ c. search rules) add_sure loop_less loop_again same_length_3 same_length_4 returns_2)
+    (tie.spec invariant_loop decreases_loop loop-at-init next_mention-found-requires shape_of-from-then-text-place shape_of-to-then-text-place returns-then-text-place offset_bounds-from-next bounds-from-next offset_bounds-to-next
+    bounds-to-next overflow_add-next (λ c. search rules) overflow_add-sure loop-at-smaller loop-at-preserved shape_of-from shape_of-to returns)

@@ -13,47 +13,37 @@ use Rattle.hands.proofs.Deck.{card_right}
 use Rattle.seats.proofs.put_round.Statement.{statement}
 use Rattle.seats.proofs.put_round.Tie as tie
 
-abbrev invariant_loop : tie.invariant-loop
+abbrev invariant_loop : tie.invariant-loop-k
 invariant_loop deck card workers schedule₀ at order next₀ k₀ schedule next k = Sitting workers order schedule₀ at schedule next k
 
-abbrev decreases_loop : tie.decreases-loop
+abbrev decreases_loop : tie.decreases-loop-k
 decreases_loop deck card workers schedule₀ at order next₀ k₀ schedule next k = card_workers - k
 
-abbrev start : tie.After-digits-of invariant_loop decreases_loop → tie.Start invariant_loop decreases_loop
-start d = d.before.before.before
-
 -- the digits are those of the card, and an order
-order_is : (d : tie.After-digits-of invariant_loop decreases_loop) → d.digits_of.result ≡ digits (card (start d).args.card)
+order_is : (d : tie.After-digits_of-order invariant_loop decreases_loop) → d.digits_of-order.result ≡ digits (card d.args.card)
 order_is d =
-    let s = start d in
-    d.digits_of.ensures ∙ ap (λ (l : List ℕ). digits (get_or l s.args.card 0)) s.pre.0
+    d.digits_of-order.ensures ∙ ap (λ (l : List ℕ). digits (get_or l d.args.card 0)) d.requires.0
 
-order : (d : tie.After-digits-of invariant_loop decreases_loop) → Order d.digits_of.result
-order d = rw (order_is d) (card_right (start d).args.card (start d).requires.1.known).order
+order : (d : tie.After-digits_of-order invariant_loop decreases_loop) → Order d.digits_of-order.result
+order d = rw (order_is d) (card_right d.args.card d.requires.1.known).order
 
-seat_requires : tie.Need-seat-requires invariant_loop decreases_loop
-seat_requires c κs =
-    let t = c.before in
-    let d = t.before.before in
-    sit_ready (order d) (start d).requires.1.few t.before.loop.invariant t.loop_test.true (start d).requires.1.room
+seat-next-requires : tie.Need-seat-next-requires invariant_loop decreases_loop
+seat-next-requires c κs =
+    sit_ready (order c.before.before.before) c.requires.1.few c.loop-k.invariant c.loop-k-test.true c.requires.1.room
 
-loop_again : tie.Need-loop-preserved invariant_loop decreases_loop
-loop_again c =
-    let r = c.before.before in
-    let t = r.before.before in
-    let d = t.before.before in
-    sit_next (order d) (start d).requires.1.few t.before.loop.invariant t.loop_test.true r.seat.ensures
+loop-k-preserved : tie.Need-loop-k-preserved invariant_loop decreases_loop
+loop-k-preserved c =
+    sit_next (order c.before.before.before.before.before.before) c.requires.1.few c.loop-k.invariant c.loop-k-test.true c.seat-next.ensures
 
 returns : tie.Need-returns invariant_loop decreases_loop
 unfolding round_of
 returns c =
-    let d = c.before.before in
-    let e = sit_end (order d) (start d).requires.1.few c.before.loop.invariant c.loop_test.false in
-    record { put = rw (order_is d) at e.0; ends = e.1 }
+    let e = sit_end (order c.before.before) c.requires.1.few c.loop-k.invariant c.loop-k-test.false in
+    record { put = rw (order_is c.before.before) at e.0; ends = e.1 }
 
 pub put_round_spec : {M : Type 1} → statement M
 put_round_spec =
     tie.close
     (tie.spec invariant_loop decreases_loop (λ c. search rules) (λ c. search rules) (λ c κs. search rules)
-    (λ c. sit_start (omega (arith, (start c).requires.1.room))) (λ c. search rules) (λ c. search rules) seat_requires (λ c. search rules)
-    (λ c. search rules) loop_again (λ c. same_long c.before.loop.invariant.put) returns)
+    (λ c. sit_start (omega (arith, c.requires.1.room))) (λ c. search rules) (λ c. search rules) seat-next-requires (λ c. search rules)
+    (λ c. search rules) loop-k-preserved (λ c. same_long c.loop-k.invariant.put) returns)

@@ -11,36 +11,35 @@ use Rattle.seats.proofs.seat.Statement.{statement}
 use Rattle.seats.proofs.seat.Tie as tie
 
 -- room for an entry, where the worker takes part
-room : (e : tie.Else1) → e.before.args.next + 2 ≤ length e.before.args.schedule.now
-room e = e.before.requires.room (omega arith)
+room : (e : tie.Else-workers-b) → e.args.next + 2 ≤ length e.args.schedule.now
+room e = e.requires.room (omega arith)
 
-returns : tie.Need-returns
-returns c = record { more = λ before xs p. rw (skipped c.before.args.workers xs c.before.args.b c.if1.true) p }
+returns-then-workers-b : tie.Need-returns-then-workers-b
+returns-then-workers-b c = record { more = λ before xs p. rw (skipped c.args.workers xs c.args.b c.if-workers-b.true) p }
 
-returns_2 : tie.Need-returns-2
-returns_2 c =
-    let a = c.before.before.args in
+returns-then-next-at : tie.Need-returns-then-next-at
+returns-then-next-at c =
+    let a = c.args in
     record {
       more = λ before xs p.
-          rw (kept a.workers xs a.b c.before.if1.false)
-          (first_seated (dealt a.workers xs) before a.schedule.now a.at a.next a.b p c.if2.true (room c.before));
+          rw (kept a.workers xs a.b c.if-workers-b.false)
+          (first_seated (dealt a.workers xs) before a.schedule.now a.at a.next a.b p c.if-next-at.true (room c.before));
     }
 
-returns_3 : tie.Need-returns-3
-returns_3 c =
-    let e = c.before.before in
-    let a = e.before.args in
+returns : tie.Need-returns
+returns c =
+    let a = c.args in
     record {
       more = λ before xs p.
-          rw (kept a.workers xs a.b e.if1.false)
-          (more_seated (dealt a.workers xs) before a.schedule.now a.at a.next a.b p c.before.if2.false (room e));
+          rw (kept a.workers xs a.b c.if-workers-b.false)
+          (more_seated (dealt a.workers xs) before a.schedule.now a.at a.next a.b p c.if-next-at.false (room c.before.before));
     }
 
 pub seat_spec : {M : Type 1} → statement M
 seat_spec =
     tie.close
-    (tie.spec returns (λ c. search rules) (λ c. omega (arith, room c.before)) (λ c. search rules) (λ c. search rules)
-    (λ c. simp length-set (omega (arith, room c.before))) (λ c. search rules) (λ c. search rules) returns_2
+    (tie.spec returns-then-workers-b (λ c. search rules) (λ c. omega (arith, room c.before)) (λ c. search rules) (λ c. search rules)
+    (λ c. simp length-set (omega (arith, room c.before))) (λ c. search rules) (λ c. search rules) returns-then-next-at
     (λ c. search rules) (λ c. search rules) (λ c. search rules) (λ c. search rules) (λ c. search rules)
     (λ c. simp length-set (omega (arith, room c.before.before))) (λ c. search rules)
-    (λ c. simp length-set (omega (arith, room c.before.before))) (λ c. search rules) (λ c. search rules) returns_3)
+    (λ c. simp length-set (omega (arith, room c.before.before))) (λ c. search rules) (λ c. search rules) returns)

@@ -10,38 +10,38 @@ use Rattle.text.proofs.Decimal.{digit_last, digit_more, none_left}
 use Rattle.text.proofs.digits_of.Statement.{statement}
 use Rattle.text.proofs.digits_of.Tie as tie
 
-abbrev invariant_loop : tie.invariant-loop
+abbrev invariant_loop : tie.invariant-loop-k
 invariant_loop v bytes₀ left₀ k₀ bytes left k =
     (k ≤ 20) × ((length bytes ≡ 20) × (digits_in (20 - k) left ++ drop (20 - k) bytes ≡ decimal v))
 
-abbrev decreases_loop : tie.decreases-loop
+abbrev decreases_loop : tie.decreases-loop-k
 decreases_loop v bytes₀ left₀ k₀ bytes left k = 20 - k
 
-loop_holds : tie.Need-loop-init invariant_loop decreases_loop
+loop-k-init : tie.Need-loop-k-init invariant_loop decreases_loop
 unfolding decimal
-loop_holds c = (omega arith, (refl, append-nil (decimal c.args.v)))
+loop-k-init c = (omega arith, (refl, append-nil (decimal c.args.v)))
 
-returns : tie.Need-returns invariant_loop decreases_loop
-returns c =
-    let l = c.before.before.loop in
+returns-then-left-lt10 : tie.Need-returns-then-left-lt10 invariant_loop decreases_loop
+returns-then-left-lt10 c =
+    let l = c.loop-k in
     let n = l.invariant.1.0 in
     record {
       long = rw length-set n;
       inside = omega arith;
-      digits = digit_last (19 - l.k) (20 - l.k) l.left l.bytes (omega arith) (omega arith) c.if1.true ∙ l.invariant.1.1;
+      digits = digit_last (19 - l.k) (20 - l.k) l.left l.bytes (omega arith) (omega arith) c.if-left-lt10.true ∙ l.invariant.1.1;
     }
 
-loop_again : tie.Need-loop-preserved invariant_loop decreases_loop
-loop_again c =
-    let l = c.before.before.loop in
+loop-k-preserved : tie.Need-loop-k-preserved invariant_loop decreases_loop
+loop-k-preserved c =
+    let l = c.loop-k in
     let n = l.invariant.1.0 in
     let e : 20 - (l.k + 1) ≡ 19 - l.k = omega arith in
-    let d = digit_more (19 - l.k) (20 - l.k) l.left l.bytes (omega arith) (omega arith) c.if1.false in
+    let d = digit_more (19 - l.k) (20 - l.k) l.left l.bytes (omega arith) (omega arith) c.if-left-lt10.false in
     (omega arith, (rw length-set n, rw e (d ∙ l.invariant.1.1)))
 
-returns_2 : tie.Need-returns-2 invariant_loop decreases_loop
-returns_2 c =
-    let l = c.before.loop in
+returns : tie.Need-returns invariant_loop decreases_loop
+returns c =
+    let l = c.loop-k in
     record {
       long = l.invariant.1.0;
       inside = omega arith;
@@ -51,5 +51,5 @@ returns_2 c =
 pub digits_of_spec : {M : Type 1} → statement M
 digits_of_spec =
     tie.close
-    (tie.spec invariant_loop decreases_loop loop_holds (λ c. search rules) (λ c. search rules) (λ c. search rules)
-    (λ c. search rules) returns (λ c. search rules) (λ c. search rules) loop_again returns_2)
+    (tie.spec invariant_loop decreases_loop loop-k-init (λ c. search rules) (λ c. search rules) (λ c. search rules)
+    (λ c. search rules) returns-then-left-lt10 (λ c. search rules) (λ c. search rules) loop-k-preserved returns)

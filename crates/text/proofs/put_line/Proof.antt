@@ -7,10 +7,8 @@ use Rattle.text.proofs.put_line.Tie as tie
 
 returns : tie.Need-returns
 returns c =
-    let at_put = c.before.before in
-    let at_named = at_put.before.before.before.before.before in
-    then_in at_named.put_named.ensures _ (omega arith) (exactly at_put.put.ensures)
+    then_in c.put_named-next.ensures _ (omega arith) (exactly c.put.ensures)
 
 pub put_line_spec : {M : Type 1} → statement M
 put_line_spec =
-    tie.close (tie.spec (λ c κs. search rules) (λ c. search rules) (λ c κs. search rules) (λ c. search rules) returns)
+    tie.close (tie.spec (λ c κs. search rules) (λ c. search rules) (λ c. search rules) returns)

@@ -7,9 +7,7 @@ use Rattle.text.proofs.put_named.Tie as tie
 
 returns : tie.Need-returns
 returns c =
-    let at_spaced = c.before.before in
-    let at_put = at_spaced.before.before.before.before in
-    then_in (exactly at_put.put.ensures) _ (omega arith) at_spaced.put_spaced.ensures
+    then_in (exactly c.put-next.ensures) _ (omega arith) c.put_spaced.ensures
 
 pub put_named_spec : {M : Type 1} → statement M
 put_named_spec =

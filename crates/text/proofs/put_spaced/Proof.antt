@@ -7,10 +7,8 @@ use Rattle.text.proofs.put_spaced.Tie as tie
 
 returns : tie.Need-returns
 returns c =
-    let at_number = c.before.before in
-    let at_put = at_number.before.before.before.before in
-    then_in (exactly at_put.put.ensures) 21 (omega arith) at_number.put_number.ensures
+    then_in (exactly c.put-next.ensures) 21 (omega arith) c.put_number.ensures
 
 pub put_spaced_spec : {M : Type 1} → statement M
 put_spaced_spec =
-    tie.close (tie.spec (λ c. search rules) (λ c κs. search rules) (λ c κs. search rules) (λ c. search rules) returns)
+    tie.close (tie.spec (λ c. search rules) (λ c κs. search rules) (λ c. search rules) returns)

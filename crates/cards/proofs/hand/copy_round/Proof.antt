@@ -4,27 +4,18 @@ use Rattle.cards.proofs.Copying.{copies_front, copies_back, both_copied}
 use Rattle.cards.proofs.hand.copy_round.Statement.{statement}
 use Rattle.cards.proofs.hand.copy_round.Tie as tie
 
-abbrev start : tie.After-copy-part → tie.Start
-start p = p.before.before.before.before.before
+copy_part-next-requires : tie.Need-copy_part-next-requires
+copy_part-next-requires c κs =
+    copies_front c.args.schedule.now c.requires.0 c.requires.1
 
-copy_part_requires : tie.Need-copy-part-requires
-copy_part_requires c κs =
-    let s = c.before.before.before.before in
-    copies_front s.args.schedule.now s.requires.0 s.requires.1
-
-copy_part_requires_2 : tie.Need-copy-part-requires-2
-copy_part_requires_2 c κs =
-    let p = c.before.before.before in
-    let s = start p in
-    copies_back s.args.schedule.now s.pre.0 s.pre.1 p.copy_part.ensures
+copy_part-requires : tie.Need-copy_part-requires
+copy_part-requires c κs =
+    copies_back c.args.schedule.now c.requires.0 c.requires.1 c.copy_part-next.ensures
 
 returns : tie.Need-returns
 returns c =
-    let q = c.before.before in
-    let p = q.before.before.before.before in
-    let s = start p in
-    both_copied s.args.schedule.now s.pre.0 s.pre.1 p.copy_part.ensures q.copy_part2.ensures
+    both_copied c.args.schedule.now c.requires.0 c.requires.1 c.copy_part-next.ensures c.copy_part.ensures
 
 pub copy_round_spec : {M : Type 1} → statement M
 copy_round_spec =
-    tie.close (tie.spec copy_part_requires (λ c. search rules) (λ c. search rules) copy_part_requires_2 (λ c. search rules) returns)
+    tie.close (tie.spec copy_part-next-requires (λ c. search rules) (λ c. search rules) copy_part-requires (λ c. search rules) returns)

@@ -10,16 +10,16 @@ use Rattle.hands.proofs.Lengths.{other_rounds, rounds_fit}
 use Rattle.cards.proofs.hand.is_schedule_of.Statement.{statement}
 use Rattle.cards.proofs.hand.is_schedule_of.Tie as tie
 
-returns : tie.Need-returns
-returns c = let a = c.before.before.args in sym (other_rounds a.bytes a.cards a.workers (omega arith) c.if2.true)
+returns-then-bytes-round : tie.Need-returns-then-bytes-round
+returns-then-bytes-round c = let a = c.args in sym (other_rounds a.bytes a.cards a.workers (omega arith) c.if-bytes-round.true)
 
-mul_result : tie.Need-overflow-mul-result
-mul_result c =
-    let a = c.before.args in
+overflow_mul-result : tie.Need-overflow_mul-result
+overflow_mul-result c =
+    let a = c.args in
     let round : 2 * a.workers ≤ 12 = omega arith in
-    ⊎_elim (λ w. omega (arith, rounds_fit a.bytes a.cards a.workers w.1.left))
-    (λ w. omega (arith, mul-le-mul {n₁ = a.cards} {m₁ = 2 * a.workers} {n₂ = 1537228672809129301} {m₂ = 12} w.left round))
-    c.if1.branch
+    ⊎_elim (λ w. omega (arith, rounds_fit a.bytes a.cards a.workers w.if-bytes-round.false))
+    (λ w. omega (arith, mul-le-mul {n₁ = a.cards} {m₁ = 2 * a.workers} {n₂ = 1537228672809129301} {m₂ = 12} w.if-cards-gt-FEW_CARDS.false round))
+    c.if-cards-gt-FEW_CARDS.branch-raw
 
 pub is_schedule_of_spec : {M : Type 1} → statement M
-is_schedule_of_spec = tie.close (tie.spec (λ c. search rules) (λ c. search rules) returns mul_result (λ c. refl))
+is_schedule_of_spec = tie.close (tie.spec (λ c. search rules) (λ c. search rules) returns-then-bytes-round overflow_mul-result (λ c. refl))

@@ -4,4 +4,4 @@ use Rattle.catalogue.proofs.check.due_at.Statement.{statement}
 use Rattle.catalogue.proofs.check.due_at.Tie as tie
 
 pub due_at_spec : {M : Type 1} → statement M
-due_at_spec = tie.close (tie.spec (λ c. simp (lt-ltb _ _ c.if1.true)) (λ c. simp (le-ltb _ _ c.if1.false)))
+due_at_spec = tie.close (tie.spec (λ c. simp (lt-ltb _ _ c.if-i-n.true)) (λ c. simp (le-ltb _ _ c.if-i-n.false)))

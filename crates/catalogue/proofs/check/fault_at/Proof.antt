@@ -11,7 +11,7 @@ use Rattle.catalogue.proofs.check.fault_at.Tie as tie
 
 returns : tie.Need-returns
 returns c =
-    let a = c.before.before.before.args in
+    let a = c.args in
     c.record_fault.ensures
     ∙ ap (record_fault a.due a.n)
     (take_all (length a.bytes.now - a.at) (drop a.at a.bytes.now) (rw length-drop (omega arith)))

@@ -11,45 +11,42 @@ use native.Mathlib.Omega.{arith}
 use Rattle.catalogue.proofs.check.first_fault.Statement.{statement}
 use Rattle.catalogue.proofs.check.first_fault.Tie as tie
 
-abbrev invariant_loop : tie.invariant-loop
+abbrev invariant_loop : tie.invariant-loop-i
 invariant_loop bytes n m at₀ i₀ at i = Checking n m bytes i at
 
-abbrev decreases_loop : tie.decreases-loop
+abbrev decreases_loop : tie.decreases-loop-i
 decreases_loop bytes n m at₀ i₀ at i = n + m - i
 
 -- the record at the place, checked
-module _ (c : tie.After-fault-at invariant_loop decreases_loop) where
-  abbrev turn : tie.In-loop invariant_loop decreases_loop
+module _ (c : tie.After-fault_at invariant_loop decreases_loop) where
+  abbrev turn : tie.In-loop-i invariant_loop decreases_loop
   turn = c.before.before
 
-  abbrev l : tie.At-loop invariant_loop decreases_loop
+  abbrev l : tie.At-loop-i invariant_loop decreases_loop
   l = turn.before
 
   abbrev start : tie.Start invariant_loop decreases_loop
   start = l.before.before
 
   abbrev fault : ℕ → ℕ
-  fault due = record_fault due start.args.n (drop l.loop.at start.args.bytes.now)
+  fault due = record_fault due start.args.n (drop l.loop-i.at start.args.bytes.now)
 
-  found : number_of c.fault_at.result ≡ fault (due_at start.args.n l.loop.i)
-  found = c.fault_at.ensures ∙ ap fault c.before.due_at.ensures
+  found : number_of c.fault_at.result ≡ fault (due_at start.args.n l.loop-i.i)
+  found = c.fault_at.ensures ∙ ap fault c.due_at-due.ensures
 
-loop_again : tie.Need-loop-preserved invariant_loop decreases_loop
-loop_again c =
-    let s = c.before.before in
-    checking_next (l s).loop.invariant (turn s).loop_test.true (when_fine (found s) c.enum_told.given.1)
+loop-i-preserved : tie.Need-loop-i-preserved invariant_loop decreases_loop
+loop-i-preserved c =
+    checking_next (l c.before).loop-i.invariant (turn c.before).loop-i-test.true (when_fine (found c.before) c.in_default.is)
 
-returns : tie.Need-returns invariant_loop decreases_loop
-returns c =
-    let s = c.before.before.before in
-    let f = c.before.refusal.given in
-    checking_fault (l s).loop.invariant (turn s).loop_test.true f.0.0 (when_faulty (found s) f.1)
+returns-in-Faulty : tie.Need-returns-in-Faulty invariant_loop decreases_loop
+returns-in-Faulty c =
+    checking_fault (l c.before).loop-i.invariant (turn c.before).loop-i-test.true c.in-Faulty.refusal (when_faulty (found c.before) c.in-Faulty.is)
 
 pub first_fault_spec : {M : Type 1} → statement M
 first_fault_spec =
     tie.close
-    (tie.spec invariant_loop decreases_loop (λ c. checking_none _ _ _ c.before.requires.0) (λ c. search rules)
-    (λ c κs. search rules) (λ c κs. c.before.before.loop.invariant.there) (λ c. search rules) returns
-    (λ c. search rules) (λ c. omega (arith, (loop_again c).there)) (λ c. omega arith) (λ c. omega arith) loop_again
-    (λ c κs. c.before.loop.invariant.there)
-    (λ c. c.leases_fault.ensures ∙ checking_end c.before.before.loop.invariant c.before.loop_test.false))
+    (tie.spec invariant_loop decreases_loop (λ c. checking_none _ _ _ c.requires.0) (λ c. search rules)
+    (λ c κs. search rules) (λ c κs. c.loop-i.invariant.there) (λ c. search rules) returns-in-Faulty
+    (λ c. search rules) (λ c. omega (arith, (loop-i-preserved c).there)) (λ c. omega arith) (λ c. omega arith) loop-i-preserved
+    (λ c κs. c.loop-i.invariant.there)
+    (λ c. c.leases_fault.ensures ∙ checking_end c.loop-i.invariant c.loop-i-test.false))

@@ -10,23 +10,19 @@ use borrow.Author.Rules.{rules}
 use Rattle.catalogue.proofs.check.records_fault.Statement.{statement}
 use Rattle.catalogue.proofs.check.records_fault.Tie as tie
 
-abbrev start : tie.Then1 → tie.Start
-start c = c.before.before.before
+listed : (c : tie.Then-records_right) → let a = c.args in Listed a.n a.m a.bytes.now
+listed c = c.records_right.ensures c.if-records_right.true
 
-listed : (c : tie.Then1) → let a = (start c).args in Listed a.n a.m a.bytes.now
-listed c = c.before.records_right.ensures c.if1.true
+leases_fault-requires : tie.Need-leases_fault-requires
+leases_fault-requires c κs = omega (arith, c.leases_place.ensures, (listed c.before).there)
 
-leases_fault_requires : tie.Need-leases-fault-requires
-leases_fault_requires c κs = omega (arith, c.leases_place.ensures, (listed c.before).there)
-
-returns : tie.Need-returns
-returns c =
-    let p = c.before in
-    let a = (start p.before).args in
+returns-then-records_right : tie.Need-returns-then-records_right
+returns-then-records_right c =
+    let a = c.args in
     c.leases_fault.ensures
-    ∙ ap (λ (at : ℕ). lease_faults a.n most_leases (drop at a.bytes.now)) p.leases_place.ensures ∙ sym (listed p.before).left
+    ∙ ap (λ (at : ℕ). lease_faults a.n most_leases (drop at a.bytes.now)) c.leases_place.ensures ∙ sym (listed c.before.before).left
 
 pub records_fault_spec : {M : Type 1} → statement M
 records_fault_spec =
     tie.close
-    (tie.spec (λ c κs. search rules) (λ c κs. search rules) leases_fault_requires returns (λ c κs. search rules) (λ c. search rules))
+    (tie.spec (λ c κs. search rules) (λ c κs. search rules) leases_fault-requires returns-then-records_right (λ c κs. search rules) (λ c. search rules))

@@ -7,14 +7,12 @@ use borrow.Author.Rules.{rules}
 use Rattle.catalogue.proofs.check.records_right.Statement.{statement}
 use Rattle.catalogue.proofs.check.records_right.Tie as tie
 
-returns_3 : tie.Need-returns-3
-returns_3 c e =
-    let two = c.before in
-    let one = two.before.before in
-    clear_listed _ _ _ one.if1.false (two.before.objects_right.ensures (not-false _ two.if2.false)) (c.references_right.ensures e)
+returns : tie.Need-returns
+returns c e =
+    clear_listed _ _ _ c.if-bytes-end.false (c.objects_right.ensures (not-false _ c.if-not-objects_right.false-raw)) (c.references_right.ensures e)
 
 pub records_right_spec : {M : Type 1} → statement M
 records_right_spec =
     tie.close
     (tie.spec (λ c. search rules) (λ c. search rules) (λ c. search rules) (λ c e. absurd (true≢false (sym e))) (λ c κs. search rules)
-    (λ c e. absurd (true≢false (sym e))) (λ c κs. search rules) returns_3)
+    (λ c e. absurd (true≢false (sym e))) (λ c κs. search rules) returns)

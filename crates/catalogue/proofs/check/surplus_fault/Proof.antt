@@ -6,10 +6,10 @@ use borrow.Author.Rules.{rules}
 use Rattle.catalogue.proofs.check.surplus_fault.Statement.{statement}
 use Rattle.catalogue.proofs.check.surplus_fault.Tie as tie
 
-returns_2 : tie.Need-returns-2
-returns_2 c =
-    let a = c.before.before.before.args in
-    c.fault_at.ensures ∙ surplus_some a.n a.at a.bytes.now (omega (arith, c.before.if1.false))
+returns : tie.Need-returns
+returns c =
+    let a = c.args in
+    c.fault_at.ensures ∙ surplus_some a.n a.at a.bytes.now (omega (arith, c.if-at-bytes.false))
 
 pub surplus_fault_spec : {M : Type 1} → statement M
-surplus_fault_spec = tie.close (tie.spec (λ c. surplus_none _ _ _ c.if1.true) (λ c κs. search rules) returns_2)
+surplus_fault_spec = tie.close (tie.spec (λ c. surplus_none _ _ _ c.if-at-bytes.true) (λ c κs. search rules) returns)
