@@ -57,6 +57,7 @@ raised_next x k clear =
 
 -- bit k, then those above it
 doubled : (x p q : ℕ) → 1 ≤ q → x + (q + q - 1) * p ≡ x + p + (q - 1) * (p + p)
+doubled x p zero h = absurd (omega arith)
 doubled x p (suc r) h =
     let less : suc r + suc r - 1 ≡ suc (r + r) = omega arith in
     let one : suc r - 1 ≡ r = omega arith in

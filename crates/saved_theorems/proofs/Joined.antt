@@ -71,7 +71,7 @@ module _ (c : Call) (A : Accepted (graph_of c) c.starts c.workers (setting_of c)
   reached_by_lem {s} S (l ∷ ls) fs =
       let t = both_true (schedule_fits c.workers l) (all_fit c.workers ls) fs in
       rw (told_back A S, entries_append c.workers l (whole ls) t.0)
-      (reached_by_lem (sound_turns A S (entries l)) ls t.1 ∙ sym (turns_append (graph_of c) (setting_of c) s (entries l) (entries (whole ls))))
+      (reached_by_lem {s = turns (graph_of c) (setting_of c) s (entries l)} (sound_turns A S (entries l)) ls t.1 ∙ sym (turns_append (graph_of c) (setting_of c) s (entries l) (entries (whole ls))))
 
   pub joined : {s : State} → Sound (graph_of c) c.starts c.workers (setting_of c) s → schedule_fits c.workers c.schedule ≡ true
       → Joined c (λ (l : List ℕ). turns (graph_of c) (setting_of c) s (entries l))

@@ -1,6 +1,6 @@
 -- What follows from a saved collection: its state is sound, so every turn keeps it so; what a collection begun afresh saves is
 -- sound; and the test finds exactly the words that hold a sound state.
-use mathlib.Core.Path.{◌≡◌, refl}
+use mathlib.Core.Path.{◌≡◌, refl, sym, subst}
 use mathlib.Core.Bool.{true}
 use mathlib.Core.List.{List}
 use Prim.Native.Nat.{ℕ}
@@ -76,4 +76,4 @@ module _ {G : Graph} {starts : List ℕ} {W : ℕ} {g : Setting} (A : Accepted G
   to_saved {w} {s} X =
       both_is
       (equal_same w (saved_words (objects G) (state_of (objects G) W w)) (rw (run_told X) X.words_are))
-      (rw (run_told X) (to_test A.formed starts W g s X.saved.sound.sized X.saved))
+      (subst (λ (x : State). sound? G starts W g x ≡ true) (sym (run_told X)) (to_test A.formed starts W g s X.saved.sound.sized X.saved))

@@ -1,5 +1,5 @@
 -- Where the marks are the live set, the dead objects are those to which no chain leads.
-use mathlib.Core.Path.{◌≡◌, refl}
+use mathlib.Core.Path.{◌≡◌, refl, sym, subst}
 use mathlib.Core.List.{List, [], ◌∷◌}
 use mathlib.Core.Logic.{by_cases, ◌↔◌}
 use native.Mathlib.Decide.{dec_le}
@@ -48,7 +48,7 @@ place_dead b (zero ∷ ms) zero h z =
     rw e (omega (arith, hit_same b))
 place_dead b (zero ∷ ms) (suc i) h z =
     let e : b + suc i ≡ suc b + i = omega arith in
-    rw e (omega (arith, place_dead (suc b) ms i (omega arith) z))
+    subst (λ (k : ℕ). 0 < hit k b + sum (hit k) (dead_from (suc b) ms)) (sym e) (omega (arith, place_dead (suc b) ms i (omega arith) z))
 place_dead b (suc x ∷ ms) zero h z = absurd (omega arith)
 place_dead b (suc x ∷ ms) (suc i) h z =
     let e : b + suc i ≡ suc b + i = omega arith in

@@ -5,40 +5,33 @@ use lib.ListN.{length-set}
 use Rattle.alone.proofs.follow_one.Statement.{statement}
 use Rattle.alone.proofs.follow_one.Tie as tie
 
-abbrev start : tie.Else1 → tie.Start
-start c = c.before.before.before.before.before
+returns-then-seen-ne0 : tie.Need-returns-then-seen-ne0
+returns-then-seen-ne0 c =
+    record {
+      seen = λ h. (refl, refl, refl);
+      claimed = λ z. absurd (c.if-seen-ne0.true z);
+      pushed = λ z rs h. absurd (c.if-seen-ne0.true z);
+    }
 
-abbrev unmarked : tie.After-push → tie.Else1
-unmarked c = c.before.before.before.before
+push-used-requires : tie.Need-push-used-requires
+push-used-requires c κs = let p = c.requires in (p.room, p.used_fits, p.rises)
+
+abbrev pushed : tie.After-struct_known-2-1 → tie.After-push-used
+pushed c = c.before.before.before.before
 
 returns : tie.Need-returns
 returns c =
     record {
-      seen = λ h. (refl, refl, refl);
-      claimed = λ z. absurd (c.if1.true z);
-      pushed = λ z rs h. absurd (c.if1.true z);
-    }
-
-push_requires : tie.Need-push-requires
-push_requires c κs = let p = (start c.before.before.before).requires in (p.room, p.used_fits, p.rises)
-
-abbrev pushed : tie.After-struct-known2 → tie.After-push
-pushed c = c.before.before.before.before
-
-returns_2 : tie.Need-returns-2
-returns_2 c =
-    let q = pushed c in
-    record {
-      seen = λ h. absurd (omega (arith, h, (unmarked q).if1.left));
+      seen = λ h. absurd (omega (arith, h, c.if-seen-ne0.false));
       claimed = λ z. (refl, refl, refl);
-      pushed = λ z rs h. q.push.ensures rs h;
+      pushed = λ z rs h. c.push-used.ensures rs h;
     }
 
 pub follow_one_spec : {M : Type 1} → statement M
 follow_one_spec =
     tie.close
-    (tie.spec (λ c. c.before.before.before.before.requires.marked_there) returns (λ c. (start c).requires.marked_there) (λ c. omega arith)
-    (λ c. omega (arith, (start c.before).requires.run_there)) (λ c. omega arith) (λ c. omega arith)
-    (λ c. omega (arith, (start c.before.before).requires.run_there)) push_requires
-    (λ c. omega (arith, (start (unmarked c.before.before.before)).requires.won_fits)) (λ c. (start (unmarked c.before.before.before)).requires.rises)
-    (λ c. omega (arith, (start (unmarked (pushed c))).requires.opened_fits)) (λ c. simp length-set refl) (λ c. (pushed c).push.auto.0) returns_2)
+    (tie.spec (λ c. c.requires.marked_there) returns-then-seen-ne0 (λ c. c.requires.marked_there) (λ c. omega arith)
+    (λ c. omega (arith, c.requires.run_there)) (λ c. omega arith) (λ c. omega arith)
+    (λ c. omega (arith, c.requires.run_there)) push-used-requires
+    (λ c. omega (arith, c.requires.won_fits)) (λ c. c.requires.rises)
+    (λ c. omega (arith, c.requires.opened_fits)) (λ c. simp length-set refl) (λ c. c.push-used.auto.s) returns)

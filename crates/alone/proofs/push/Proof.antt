@@ -6,14 +6,14 @@ use Rattle.alone.proofs.Parts.{pushed, not_pushed}
 use Rattle.alone.proofs.push.Statement.{statement}
 use Rattle.alone.proofs.push.Tie as tie
 
-returns : tie.Need-returns
-returns c = λ rs h. not_pushed h c.if1.true
+returns-then-end-first : tie.Need-returns-then-end-first
+returns-then-end-first c = λ rs h. not_pushed h c.if-end-first.true
 
-returns_2 : tie.Need-returns-2
-returns_2 c = λ rs h. pushed h (omega (arith, c.if1.false)) c.before.requires.0
+returns : tie.Need-returns
+returns c = λ rs h. pushed h (omega (arith, c.if-end-first.false)) c.requires.0
 
 pub push_spec : {M : Type 1} → statement M
 push_spec =
     tie.close
-    (tie.spec returns (λ c. omega arith) (λ c. omega (arith, c.before.requires.0)) (λ c. omega arith) (λ c. omega arith)
-    (λ c. simp length-set (omega (arith, c.before.requires.0))) (λ c. omega (arith, c.before.requires.1)) (λ c. simp length-set refl) returns_2)
+    (tie.spec returns-then-end-first (λ c. omega arith) (λ c. omega (arith, c.requires.0)) (λ c. omega arith) (λ c. omega arith)
+    (λ c. simp length-set (omega (arith, c.requires.0))) (λ c. omega (arith, c.requires.1)) (λ c. simp length-set refl) returns)

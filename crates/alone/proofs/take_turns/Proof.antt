@@ -16,17 +16,17 @@ use Rattle.alone.proofs.Ending.{going_begins, endable, holds_ended}
 use Rattle.alone.proofs.take_turns.Statement.{statement}
 use Rattle.alone.proofs.take_turns.Tie as tie
 
-abbrev invariant_loop : tie.invariant-loop
+abbrev invariant_loop : tie.invariant-loop-top
 invariant_loop offsets targets marks₀ work₀ tallies regs begun most top₀ load₀ followed₀ won₀ marks work top load followed won =
     (length marks ≡ length marks₀) × (length work ≡ length work₀)
     × ((x : Ready (IsStart begun.setup offsets targets) begun.setup (memory marks₀ work₀ tallies regs begun.progress))
     → Going (graph offsets targets) x.here.starts (setting_of begun.setup) marks work top load followed won)
 
-abbrev decreases_loop : tie.decreases-loop
+abbrev decreases_loop : tie.decreases-loop-top
 decreases_loop offsets targets marks₀ work₀ tallies regs begun most top₀ load₀ followed₀ won₀ marks work top load followed won =
     7 * length targets + 2 - (followed + won + load.polls)
 
-abbrev entry : tie.At-loop invariant_loop decreases_loop → tie.Start invariant_loop decreases_loop
+abbrev entry : tie.At-loop-top invariant_loop decreases_loop → tie.Start invariant_loop decreases_loop
 entry c = c.before.before.before.before.before.before.before.before.before.before.before
 
 abbrev Given : tie.Start invariant_loop decreases_loop → Type 0
@@ -34,127 +34,127 @@ Given s =
     Ready (IsStart s.args.begun.setup s.args.offsets.now s.args.targets.now) s.args.begun.setup
     (memory s.args.marks.now s.args.work.now s.args.tallies.now s.args.regs.now s.args.begun.progress)
 
-loop_holds : tie.Need-loop-init invariant_loop decreases_loop
-loop_holds c =
+loop-top-init : tie.Need-loop-top-init invariant_loop decreases_loop
+loop-top-init c =
     let t = c.before in
     let r = t.before in
     let s = r.before.before.before.before.before.before.before.before in
-    (refl, refl, λ x. rw (c.load_of.ensures, t.top_of.ensures, r.load.ensures) (going_begins s.requires.0 x))
+    (refl, refl, λ x. rw (c.load_of-load.ensures, t.top_of-top.ensures, r.load-block.ensures) (going_begins s.requires.0 x))
 
 -- a part of the run, with the batch that it lies within
-module _ (c : tie.After-smaller invariant_loop decreases_loop) where
-  abbrev test : tie.Then1 invariant_loop decreases_loop
+module _ (c : tie.After-smaller-size invariant_loop decreases_loop) where
+  abbrev test : tie.In-loop-top invariant_loop decreases_loop
   test = c.before.before.before
 
-  abbrev at : tie.At-loop invariant_loop decreases_loop
+  abbrev at : tie.At-loop-top invariant_loop decreases_loop
   at = test.before.before
 
   abbrev load : Load
-  load = c.before.before.poll.result
+  load = c.poll-l.result
 
   module _ (x : Given (entry at)) where
     going_on : Going (graph (entry at).args.offsets.now (entry at).args.targets.now) x.here.starts (setting_of (entry at).args.begun.setup)
-        at.loop.marks at.loop.work at.loop.top load at.loop.followed at.loop.won
-    going_on = polled_as (at.loop.inv.2 x) test.if1.taken c.before.before.poll.ensures
+        at.loop-top.marks at.loop-top.work at.loop-top.top load at.loop-top.followed at.loop-top.won
+    going_on = polled_as (at.loop-top.invariant.2 x) test.loop-top-test.true c.poll-l.ensures
 
     batch_on : 1 ≤ load.batch
-    batch_on = batch_as (at.loop.inv.2 x) test.if1.taken c.before.before.poll.ensures
+    batch_on = batch_as (at.loop-top.invariant.2 x) test.loop-top-test.true c.poll-l.ensures
 
-    polls_on : at.loop.load.polls ≤ load.polls
-    polls_on = polls_as (at.loop.inv.2 x) test.if1.taken c.before.before.poll.ensures
+    polls_on : at.loop-top.load.polls ≤ load.polls
+    polls_on = polls_as (at.loop-top.invariant.2 x) test.loop-top-test.true c.poll-l.ensures
 
 -- what is carried behind it
-module _ (n : tie.After-next invariant_loop decreases_loop) where
-  abbrev f : tie.After-follow invariant_loop decreases_loop
+module _ (n : tie.After-next-top invariant_loop decreases_loop) where
+  abbrev f : tie.After-follow-found invariant_loop decreases_loop
   f = n.before.before.before.before.before.before.before
 
-  abbrev sized : tie.After-smaller invariant_loop decreases_loop
+  abbrev sized : tie.After-smaller-size invariant_loop decreases_loop
   sized = f.before.before.before
 
-  abbrev loop : tie.At-loop invariant_loop decreases_loop
+  abbrev loop : tie.At-loop-top invariant_loop decreases_loop
   loop = at sized
 
   module _ (x : Given (entry loop)) where
     going_done : Going (graph (entry loop).args.offsets.now (entry loop).args.targets.now) x.here.starts (setting_of (entry loop).args.begun.setup)
-        f.follow.last.1.1.0 f.follow.last.1.1.1.0 n.next.result
-        (load_with ((load sized).batch - sized.smaller.result) ((load sized).carried + f.follow.result.opened) (load sized).polls)
-        (loop.loop.followed + sized.smaller.result) (loop.loop.won + f.follow.result.won)
+        f.follow-found.new.1.1.0 f.follow-found.new.1.1.1.0 n.next-top.result
+        (load_with ((load sized).batch - sized.smaller-size.result) ((load sized).carried + f.follow-found.result.opened) (load sized).polls)
+        (loop.loop-top.followed + sized.smaller-size.result) (loop.loop-top.won + f.follow-found.result.won)
     going_done =
         let g = going_on sized x in
-        let h = (test sized).if1.taken in
+        let h = (test sized).loop-top-test.true in
         let b = batch_on sized x in
-        let is = sized.smaller.ensures in
-        let y = f.follow.ensures (part_of g h b is) in
-        going_next g h b is y (n.next.ensures (loop.loop.top.end - loop.loop.top.first - sized.smaller.result) y.below (omega (arith, (size_some g h b is).1)) y.holds)
+        let is = sized.smaller-size.ensures in
+        let y = f.follow-found.ensures (part_of g h b is) in
+        going_next g h b is y (n.next-top.ensures (loop.loop-top.top.end - loop.loop-top.top.first - sized.smaller-size.result) y.below (omega (arith, (size_some g h b is).1)) y.holds)
 
-    size_done : (1 ≤ sized.smaller.result) × (loop.loop.top.first + sized.smaller.result ≤ loop.loop.top.end) × (sized.smaller.result ≤ (load sized).batch)
-    size_done = size_some (going_on sized x) (test sized).if1.taken (batch_on sized x) sized.smaller.ensures
+    size_done : (1 ≤ sized.smaller-size.result) × (loop.loop-top.top.first + sized.smaller-size.result ≤ loop.loop-top.top.end) × (sized.smaller-size.result ≤ (load sized).batch)
+    size_done = size_some (going_on sized x) (test sized).loop-top-test.true (batch_on sized x) sized.smaller-size.ensures
 
     -- what is counted comes nearer to its bound, which no word is beyond
-    counted : (loop.loop.followed + sized.smaller.result + (loop.loop.won + f.follow.result.won) + (load sized).polls ≤ 7 * length (entry loop).args.targets.now + 1)
+    counted : (loop.loop-top.followed + sized.smaller-size.result + (loop.loop-top.won + f.follow-found.result.won) + (load sized).polls ≤ 7 * length (entry loop).args.targets.now + 1)
         × (length (entry loop).args.targets.now ≤ most_references)
     counted = (counts_few going_done, going_done.here.references_limit)
 
-load_requires : tie.Need-load-requires invariant_loop decreases_loop
-load_requires c κs =
-    let p = c.before.before.before.before.before.before.before.requires in
+load-block-requires : tie.Need-load-block-requires invariant_loop decreases_loop
+load-block-requires c κs =
+    let p = c.requires in
     record { low = omega arith; long = omega (arith, p.0, p.1.holds.regs_long) }
 
-poll_requires : tie.Need-poll-requires invariant_loop decreases_loop
-poll_requires c κs =
+poll-l-requires : tie.Need-poll-l-requires invariant_loop decreases_loop
+poll-l-requires c κs =
     let l = c.before.before in
-    let g = l.loop.invariant.2 (entry l).requires.1 in
+    let g = l.loop-top.invariant.2 (entry l).requires.1 in
     omega (arith, counts_few g, g.here.references_limit)
 
-follow_requires : tie.Need-follow-requires invariant_loop decreases_loop
-follow_requires c κs =
+follow-found-requires : tie.Need-follow-found-requires invariant_loop decreases_loop
+follow-found-requires c κs =
     let s = c.before.before in
-    let x = (entry (at s)).pre.1 in
-    part_of (going_on s x) (test s).if1.true (batch_on s x) s.smaller.ensures
+    let x = (entry (at s)).requires.1 in
+    part_of (going_on s x) (test s).loop-top-test.true (batch_on s x) s.smaller-size.ensures
 
-add_t22 : tie.Need-overflow-add-t22 invariant_loop decreases_loop
-add_t22 c =
+overflow_add-rest : tie.Need-overflow_add-rest invariant_loop decreases_loop
+overflow_add-rest c =
     let s = c.before.before.before.before.before.before.before.before in
-    let x = (entry (at s)).pre.1 in
-    omega (arith, (size_some (going_on s x) (test s).if1.true (batch_on s x) s.smaller.ensures).1)
+    let x = (entry (at s)).requires.1 in
+    omega (arith, (size_some (going_on s x) (test s).loop-top-test.true (batch_on s x) s.smaller-size.ensures).1)
 
-next_requires : tie.Need-next-requires invariant_loop decreases_loop
-next_requires c κs =
+next-top-requires : tie.Need-next-top-requires invariant_loop decreases_loop
+next-top-requires c κs =
     let q = c.before.before.before.before.before.before in
     let s = q.before.before.before in
-    let x = (entry (at s)).pre.1 in
-    (q.follow.ensures (part_of (going_on s x) (test s).if1.true (batch_on s x) s.smaller.ensures)).holds.room
+    let x = (entry (at s)).requires.1 in
+    (q.follow-found.ensures (part_of (going_on s x) (test s).loop-top-test.true (batch_on s x) s.smaller-size.ensures)).holds.room
 
 -- behind the next run
-abbrev behind : tie.After-struct-known7 invariant_loop decreases_loop → tie.After-next invariant_loop decreases_loop
+abbrev behind : tie.After-struct_known-in-loop-top-6-1 invariant_loop decreases_loop → tie.After-next-top invariant_loop decreases_loop
 behind c = c.before.before.before.before
 
-given : (n : tie.After-next invariant_loop decreases_loop) → Given (entry (loop n))
-given n = (entry (loop n)).pre.1
+given : (n : tie.After-next-top invariant_loop decreases_loop) → Given (entry (loop n))
+given n = (entry (loop n)).requires.1
 
-loop_less : tie.Need-loop-smaller invariant_loop decreases_loop
-loop_less c =
+loop-top-smaller : tie.Need-loop-top-smaller invariant_loop decreases_loop
+loop-top-smaller c =
     let n = behind c in
     let x = given n in
     omega (arith, (counted n x).0, (size_done n x).0, polls_on (sized n) x)
 
-loop_again : tie.Need-loop-preserved invariant_loop decreases_loop
-loop_again c =
+loop-top-preserved : tie.Need-loop-top-preserved invariant_loop decreases_loop
+loop-top-preserved c =
     let n = behind c in
-    let i = (loop n).loop.inv in
-    ((f n).follow.kept.1.1.0 ∙ i.0, (f n).follow.kept.1.1.1.0 ∙ i.1, λ x. going_done n x)
+    let i = (loop n).loop-top.invariant in
+    ((f n).follow-found.auto.1.1.0 ∙ i.0, (f n).follow-found.auto.1.1.1.0 ∙ i.1, λ x. going_done n x)
 
 -- nothing is left
-abbrev left : tie.After-end-arg2 invariant_loop decreases_loop → tie.Else1 invariant_loop decreases_loop
+abbrev left : tie.After-end-arg-2-1 invariant_loop decreases_loop → tie.After-loop-top invariant_loop decreases_loop
 left c = c.before.before
 
-end_requires : tie.Need-end-requires invariant_loop decreases_loop
-end_requires c κs =
+end-requires : tie.Need-end-requires invariant_loop decreases_loop
+end-requires c κs =
     let l = (left c).before.before in
     let s = entry l in
-    endable s.pre.0 s.pre.1 (l.loop.inv.2 s.pre.1) (omega (arith, (left c).if1.false))
+    endable s.requires.0 s.requires.1 (l.loop-top.invariant.2 s.requires.1) (omega (arith, (left c).loop-top-test.false))
 
-abbrev ended : tie.After-slice-known8 invariant_loop decreases_loop → tie.After-end invariant_loop decreases_loop
+abbrev ended : tie.After-slice_known-6-1 invariant_loop decreases_loop → tie.After-end invariant_loop decreases_loop
 ended c = c.before.before.before.before
 
 returns : tie.Need-returns invariant_loop decreases_loop
@@ -162,16 +162,16 @@ returns c =
     let e = ended c in
     let l = (left e.before).before.before in
     let s = entry l in
-    λ x. holds_ended s.pre.0 x (l.loop.inv.2 x) (omega (arith, (left e.before).if1.left)) e.end.ensures e.end.kept.1.0
+    λ x. holds_ended s.requires.0 x (l.loop-top.invariant.2 x) (omega (arith, (left e.before).loop-top-test.false)) e.end.ensures e.end.auto.1.0
 
 pub take_turns_spec : {M : Type 1} → statement M
 take_turns_spec =
     tie.close
-    (tie.spec invariant_loop decreases_loop load_requires (λ c κs. search rules) (λ c κs. search rules) loop_holds poll_requires
-    (λ c. omega (arith, c.before.before.if1.true)) (λ c κs. search rules) follow_requires add_t22 next_requires
+    (tie.spec invariant_loop decreases_loop load-block-requires (λ c κs. search rules) (λ c κs. search rules) loop-top-init poll-l-requires
+    (λ c. omega (arith, c.loop-top-test.true)) (λ c κs. search rules) follow-found-requires overflow_add-rest next-top-requires
     (λ c. (size_done c.before (given c.before)).2)
     (λ c. let n = c.before.before.before in omega (arith, load_few (going_done n (given n)), (counted n (given n)).1))
     (λ c. let n = c.before.before.before in omega (arith, counted n (given n)))
     (λ c. let n = behind c in omega (arith, counted n (given n)))
-    loop_less loop_again end_requires (λ c. (left (ended c).before).before.before.loop.inv.0)
-    (λ c. (left (ended c).before).before.before.loop.inv.1) (λ c. (ended c).end.auto.0) (λ c. (ended c).end.auto.1.0) returns)
+    loop-top-smaller loop-top-preserved end-requires (λ c. (left (ended c).before).loop-top.invariant.0)
+    (λ c. (left (ended c).before).loop-top.invariant.1) (λ c. (ended c).end.auto.0) (λ c. (ended c).end.auto.1.0) returns)

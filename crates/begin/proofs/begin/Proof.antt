@@ -18,28 +18,6 @@ use Rattle.begin.proofs.Calling.{begin_savable, begun_refused, begun_fine}
 use Rattle.begin.proofs.begin.Statement.{statement}
 use Rattle.begin.proofs.begin.Tie as tie
 
--- back from the answer to what is saved, from there to the stretches, to the turns, to the tallies, to the start, and to the setup
-abbrev kept : tie.After-answer → tie.After-save
-kept c = c.before.before.before.before.before
-
-abbrev settled : tie.After-save-arg4 → tie.After-settle
-settled c = c.before.before.before.before.before.before.before
-
-abbrev turned : tie.After-settle-arg2 → tie.After-take-turns
-turned c = let tallied = c.before.before.before.before.before in tallied.before.before.before.before.before
-
-abbrev cleared : tie.After-take-turns-arg4 → tie.After-clear-u64s
-cleared c = c.before.before.before.before.before.before
-
-abbrev started : tie.After-clear-u64s → tie.After-start
-started c = c.before.before.before.before.before.before.before.before
-
-abbrev made : tie.After-start → tie.After-setup-of
-made c = c.before.before.before.before.before
-
-abbrev entry : tie.After-check → tie.Start
-entry c = let lent = c.before.before.before.before.before in lent.before.before.before.before.before
-
 -- what the checks found of the call and of the lengths of its buffers
 abbrev call : tie.Start → Call
 call c = call_of c.args.offsets.now c.args.targets.now c.args.starts.now c.args.settings c.args.schedule.now
@@ -47,72 +25,59 @@ call c = call_of c.args.offsets.now c.args.targets.now c.args.starts.now c.args.
 abbrev lengths : tie.Start → Lengths
 lengths c = saving_lengths (length c.args.marks.now) (length c.args.work.now) (length c.args.tallies.now) (length c.args.saved.now)
 
-found : (c : tie.After-check) → Finds c.check.result (call (entry c)) (lengths (entry c))
-found c = subst (λ (l : Lengths). Finds c.check.result (call (entry c)) l) c.before.lent.ensures c.check.ensures
+found : (c : tie.After-check-verdict) → Finds c.check-verdict.result (call c.before.before.before.before.before.before.before.before.before.before) (lengths c.before.before.before.before.before.before.before.before.before.before)
+found c = subst (λ (l : Lengths). Finds c.check-verdict.result (call c.before.before.before.before.before.before.before.before.before.before) l) c.lent-lengths.ensures c.check-verdict.ensures
 
 -- a call that the checks let through
-module _ (c : tie.After-enum-told) where
+module _ (c : tie.In_default) where
   abbrev at : tie.Start
-  at = entry c.before.before
+  at = c.before.before.before.before.before.before.before.before.before.before.before
 
   ok : Checked (call at) (lengths at)
-  ok = passed (found c.before.before) c.enum_told.given.1
+  ok = passed (found c.before) c.in_default.is
 
   run : Runnable (call at) at.args.marks.now at.args.work.now at.args.tallies.now
       (take (block_words * at.args.settings.workers) (replicate register_words 0))
   run = runnable _ _ _ ok
 
-returns : tie.Need-returns
-returns c = let t = c.before in begun_refused (found t.before.before) t.verdict.given.1
+returns-in-Faulty : tie.Need-returns-in-Faulty
+returns-in-Faulty c = begun_refused (found c.before) c.in-Faulty.is
 
-start_requires : tie.Need-start-requires
-start_requires c κs =
-    let m = c.before.before.before.before in
-    (start_ready (run m.before) m.setup_of.ensures, work_long (run m.before) m.setup_of.ensures)
+start-begun-requires : tie.Need-start-begun-requires
+start-begun-requires c κs =
+    (start_ready (run c.before.before.before.before.before) c.setup_of-setup.ensures, work_long (run c.before.before.before.before.before) c.setup_of-setup.ensures)
 
-take_turns_requires : tie.Need-take-turns-requires
-take_turns_requires c κs =
-    let z = cleared c in
-    let s = started z in
-    let m = made s in
-    turns_ready (run m.before) m.setup_of.ensures s.start.ensures z.clear_u64s.ensures (omega (arith, (at m.before).good))
+take_turns-p-requires : tie.Need-take_turns-p-requires
+take_turns-p-requires c κs =
+    turns_ready (run c.before.before.before.before.before.before.before.before.before.before.before.before.before.before.before.before.before.before.before.before) c.setup_of-setup.ensures c.start-begun.ensures c.clear_u64s.ensures (omega (arith, (at c.before.before.before.before.before.before.before.before.before.before.before.before.before.before.before.before.before.before.before.before).well_formed))
 
-settle_requires : tie.Need-settle-requires
-settle_requires c κs =
-    let t = turned c in
-    let r = take_turns_requires t.before t.take_turns.lifetimes in
-    settle_ready r (t.take_turns.ensures r)
+settle-requires : tie.Need-settle-requires
+settle-requires c κs =
+    let r = take_turns-p-requires c.before.before.before.before.before.before.before.before.before.before c.take_turns-p.lifetimes in
+    settle_ready r (c.take_turns-p.ensures r)
 
-runs : (c : tie.After-settle) → let t = turned c.before in let m = made (started (cleared t.before)) in Runs (call (at m.before))
-    (memory t.take_turns.last.1.1.1.1.0 c.settle.new.1.0 t.take_turns.last.1.1.1.1.1.1.0 t.take_turns.last.1.1.1.1.1.1.1.0 t.take_turns.result)
-unfolding turns_ready take_turns_requires
+runs : (c : tie.After-settle) → Runs (call (at c.before.before.before.before.before.before.before.before.before.before.before.before.before.before.before.before.before.before.before.before.before.before.before.before.before.before.before.before.before.before.before))
+    (memory c.take_turns-p.new.marks c.settle.new.work c.take_turns-p.new.tallies c.take_turns-p.new.regs c.take_turns-p.result)
+unfolding turns_ready take_turns-p-requires
 runs c =
-    let t = turned c.before in
-    let m = made (started (cleared t.before)) in
-    let r = take_turns_requires t.before t.take_turns.lifetimes in
-    run_leaves (run m.before) m.setup_of.ensures (leaves r (t.take_turns.ensures r) c.settle.ensures)
+    let r = take_turns-p-requires c.before.before.before.before.before.before.before.before.before.before.before c.take_turns-p.lifetimes in
+    run_leaves (run c.before.before.before.before.before.before.before.before.before.before.before.before.before.before.before.before.before.before.before.before.before.before.before.before.before.before.before.before.before.before.before) c.setup_of-setup.ensures (leaves r (c.take_turns-p.ensures r) c.settle.ensures)
 
-save_requires : tie.Need-save-requires
-save_requires c κs =
-    let q = settled c in
-    let m = made (started (cleared (turned q.before).before)) in
-    begin_savable (ok m.before) (runs q)
+save-requires : tie.Need-save-requires
+save-requires c κs =
+    begin_savable (ok c.before.before.before.before.before.before.before.before.before.before.before.before.before.before.before.before.before.before.before.before.before.before.before.before.before.before.before.before.before.before.before.before.before.before) (runs c.before.before.before)
 
-returns_2 : tie.Need-returns-2
-returns_2 c =
-    let v = kept c in
-    let q = settled v.before in
-    let m = made (started (cleared (turned q.before).before)) in
-    begun_fine (found m.before.before.before) m.before.enum_told.given.1 (runs q) v.save.ensures c.answer.result c.answer.ensures
+returns : tie.Need-returns
+returns c =
+    begun_fine (found c.before.before.before.before.before.before.before.before.before.before.before.before.before.before.before.before.before.before.before.before.before.before.before.before.before.before.before.before.before.before.before.before.before.before.before.before.before.before.before.before) c.in_default.is (runs c.before.before.before.before.before.before.before.before) c.save.ensures c.answer.result c.answer.ensures
 
 pub begin_spec : {M : Type 1} → statement M
 begin_spec =
     tie.close
-    (tie.spec (λ c κs. search rules) (λ c κs. search rules) (λ c. search rules) returns (λ c. search rules) (λ c. omega (arith, (ok c).offsets_some))
+    (tie.spec (λ c κs. search rules) (λ c κs. search rules) (λ c. search rules) returns-in-Faulty (λ c. search rules) (λ c. omega (arith, (ok c).offsets_some))
     (λ c κs. (ok c).objects_limit) (λ c. omega (arith, workers_few (ok c.before))) (λ c. omega (arith, workers_few (ok c.before))) (λ c. omega (arith, workers_few (ok c.before)))
-    (λ c. sym (registers_long (ok c.before.before))) start_requires (λ c κs. search rules) take_turns_requires settle_requires save_requires
-    (λ c κs. (runs (settled c.before.before.before.before.before)).countable)
-    (λ c. let t = turned (settled (kept c).before).before in t.take_turns.kept.1.1.1.1.0 ∙ (started (cleared t.before)).start.auto.1.1.1.1.0)
-    (λ c. let q = settled (kept c).before in let t = turned q.before in
-    q.settle.kept.1.0 ∙ t.take_turns.kept.1.1.1.1.1.0 ∙ (started (cleared t.before)).start.auto.1.1.1.1.1.0)
-    (λ c. search rules) (λ c. search rules) returns_2)
+    (λ c. sym (registers_long (ok c.before.before))) start-begun-requires (λ c κs. search rules) take_turns-p-requires settle-requires save-requires
+    (λ c κs. (runs c.before.before.before.before.before.before.before).countable)
+    (λ c. c.take_turns-p.auto.marks ∙ c.start-begun.auto.marks)
+    (λ c. c.settle.auto.work ∙ c.take_turns-p.auto.work ∙ c.start-begun.auto.work)
+    (λ c. search rules) (λ c. search rules) returns)

@@ -5,11 +5,11 @@ use Rattle.frontier.proofs.RunLaws.{indexable}
 use Rattle.frontier.proofs.check_each.Statement.{statement}
 use Rattle.frontier.proofs.check_each.Tie as tie
 
-fill_requires : tie.Need-fill-requires
-fill_requires c κs = (indexable c.before.before.before.before.before.before.requires, refl)
+fill-requires : tie.Need-fill-requires
+fill-requires c κs = (indexable c.requires, refl)
 
 pub check_each_spec : {M : Type 1} → statement M
 check_each_spec =
     tie.close
-    (tie.spec (λ c. search rules) (λ c κs. search rules) (λ c. search rules) (λ c. search rules) fill_requires (λ c. search rules)
+    (tie.spec (λ c. search rules) (λ c κs. search rules) (λ c. search rules) (λ c. search rules) fill-requires (λ c. search rules)
     (λ c κs. search rules) (λ c. search rules))

@@ -4,11 +4,11 @@ use borrow.Author.Tests.{eq-eqb, ne_eqb}
 use Rattle.hops.proofs.buffers_wrong.Statement.{statement}
 use Rattle.hops.proofs.buffers_wrong.Tie as tie
 
-returns : tie.Need-returns
-returns c = simp (ne_eqb _ _ c.if1.true)
+returns-then-hops-n : tie.Need-returns-then-hops-n
+returns-then-hops-n c = simp (ne_eqb _ _ c.if-hops-n.true)
 
-returns_2 : tie.Need-returns-2
-returns_2 c = simp (eq-eqb _ _ c.if1.false)
+returns : tie.Need-returns
+returns c = simp (eq-eqb _ _ c.if-hops-n.false)
 
 pub buffers_wrong_spec : {M : Type 1} → statement M
-buffers_wrong_spec = tie.close (tie.spec returns (λ c. search rules) returns_2)
+buffers_wrong_spec = tie.close (tie.spec returns-then-hops-n (λ c. search rules) returns)

@@ -8,35 +8,29 @@ use Rattle.hops.proofs.Checks.{finds_4, finds_7, finds_store}
 use Rattle.hops.proofs.check.Statement.{statement}
 use Rattle.hops.proofs.check.Tie as tie
 
-abbrev entry : tie.Else1 → tie.Start
-entry c = c.before.before.before.before.before
+returns-then-graph_outside : tie.Need-returns-then-graph_outside
+returns-then-graph_outside c = finds_4 (so c.graph_outside.ensures c.if-graph_outside.true)
+
+overflow_sub-offsets : tie.Need-overflow_sub-offsets
+overflow_sub-offsets c =
+    let a = c.args in
+    omega (arith, counts_low (objects (graph a.offsets.now a.targets.now)) (length a.targets.now) (so c.graph_outside.ensures c.if-graph_outside.false))
+
+buffers_wrong-requires : tie.Need-buffers_wrong-requires
+buffers_wrong-requires c κs =
+    let a = c.args in
+    (counts_low (objects (graph a.offsets.now a.targets.now)) (length a.targets.now) (so c.graph_outside.ensures c.if-graph_outside.false)).1
+
+returns-then-buffers_wrong : tie.Need-returns-then-buffers_wrong
+returns-then-buffers_wrong c =
+    finds_7 (so c.graph_outside.ensures c.if-graph_outside.false) (so c.buffers_wrong.ensures c.if-buffers_wrong.true)
 
 returns : tie.Need-returns
-returns c = finds_4 (so c.before.graph_outside.ensures c.if1.true)
-
-sub_buffers_wrong : tie.Need-overflow-sub-buffers-wrong
-sub_buffers_wrong c =
-    let a = (entry c).args in
-    omega (arith, counts_low (objects (graph a.offsets.now a.targets.now)) (length a.targets.now) (so c.before.graph_outside.ensures c.if1.false))
-
-buffers_wrong_requires : tie.Need-buffers-wrong-requires
-buffers_wrong_requires c κs =
-    let a = (entry c).args in
-    (counts_low (objects (graph a.offsets.now a.targets.now)) (length a.targets.now) (so c.before.graph_outside.ensures c.if1.false)).1
-
-returns_2 : tie.Need-returns-2
-returns_2 c =
-    let counted = c.before.before in
-    finds_7 (so counted.before.graph_outside.ensures counted.if1.false) (so c.before.buffers_wrong.ensures c.if2.true)
-
-returns_3 : tie.Need-returns-3
-returns_3 c =
-    let fitting = c.before in
-    let counted = fitting.before.before in
-    finds_store (so counted.before.graph_outside.ensures counted.if1.false) (so fitting.before.buffers_wrong.ensures fitting.if2.false)
+returns c =
+    finds_store (so c.graph_outside.ensures c.if-graph_outside.false) (so c.buffers_wrong.ensures c.if-buffers_wrong.false)
     c.check_store.ensures
 
 pub check_spec : {M : Type 1} → statement M
 check_spec =
     tie.close
-    (tie.spec (λ c κs. search rules) returns sub_buffers_wrong buffers_wrong_requires returns_2 (λ c κs. search rules) returns_3)
+    (tie.spec (λ c κs. search rules) returns-then-graph_outside overflow_sub-offsets buffers_wrong-requires returns-then-buffers_wrong (λ c κs. search rules) returns)

@@ -5,11 +5,11 @@ use Rattle.desk.proofs.Checks.{so}
 use Rattle.hops.proofs.hop_words.Statement.{statement}
 use Rattle.hops.proofs.hop_words.Tie as tie
 
-returns : tie.Need-returns
-returns c = rw (so c.before.objects_outside.ensures c.if1.true) refl
+returns-then-objects_outside : tie.Need-returns-then-objects_outside
+returns-then-objects_outside c = rw (so c.objects_outside.ensures c.if-objects_outside.true) refl
 
-returns_2 : tie.Need-returns-2
-returns_2 c = rw (so c.before.objects_outside.ensures c.if1.false) refl
+returns : tie.Need-returns
+returns c = rw (so c.objects_outside.ensures c.if-objects_outside.false) refl
 
 pub hop_words_spec : {M : Type 1} → statement M
-hop_words_spec = tie.close (tie.spec (λ c κs. search rules) returns (λ c. search rules) returns_2)
+hop_words_spec = tie.close (tie.spec (λ c κs. search rules) returns-then-objects_outside (λ c. search rules) returns)

@@ -4,23 +4,19 @@ use Rattle.hops.proofs.Checks.{answered_refused, found_searchable, answered_fine
 use Rattle.hops.proofs.hops.Statement.{statement}
 use Rattle.hops.proofs.hops.Tie as tie
 
-search_requires : tie.Need-search-requires
-search_requires c κs =
-    let told = c.before.before in
-    found_searchable _ _ told.before.before.check.ensures told.enum_told.given.1
+search-requires : tie.Need-search-requires
+search-requires c κs =
+    found_searchable _ _ c.check-verdict.ensures c.in-Fine.is
 
-returns : tie.Need-returns
-returns c =
-    let told = c.before in
-    answered_refused _ _ told.before.before.check.ensures told.verdict.given.1
+returns-in-Faulty : tie.Need-returns-in-Faulty
+returns-in-Faulty c =
+    answered_refused _ _ c.check-verdict.ensures c.in-Faulty.is
 
-returns_2 : tie.Need-returns-2
-returns_2 c =
-    let done = c.before.before.before.before in
-    let told = done.before.before.before in
-    answered_fine _ _ told.before.before.check.ensures told.enum_told.given.1 done.search.ensures
+returns-in-Fine : tie.Need-returns-in-Fine
+returns-in-Fine c =
+    answered_fine _ _ c.check-verdict.ensures c.in-Fine.is c.search.ensures
 
 pub hops_spec : {M : Type 1} → statement M
 hops_spec =
     tie.close
-    (tie.spec (λ c κs. search rules) (λ c. search rules) (λ c. search rules) search_requires returns (λ c. search rules) (λ c. search rules) returns_2)
+    (tie.spec (λ c κs. search rules) (λ c. search rules) (λ c. search rules) search-requires returns-in-Faulty (λ c. search rules) (λ c. search rules) returns-in-Fine)

@@ -7,13 +7,13 @@ use Rattle.marks.proofs.MarkLaws.{marks_right, marks_wrong}
 use Rattle.marks.proofs.check_marks.Statement.{statement}
 use Rattle.marks.proofs.check_marks.Tie as tie
 
-returns : tie.Need-returns
-returns c = marks_wrong (sym c.before.is_below.ensures ∙ not-true _ c.if1.true)
+returns-then-not-is_below : tie.Need-returns-then-not-is_below
+returns-then-not-is_below c = marks_wrong (sym c.is_below.ensures ∙ not-true _ c.if-not-is_below.true-raw)
 
-returns_2 : tie.Need-returns-2
-returns_2 c = let e = c.before in marks_right (sym e.before.is_below.ensures ∙ not-false _ e.if1.false) c.count_marks.ensures
+returns : tie.Need-returns
+returns c = marks_right (sym c.is_below.ensures ∙ not-false _ c.if-not-is_below.false-raw) c.count_marks-counted.ensures
 
 pub check_marks_spec : {M : Type 1} → statement M
 check_marks_spec =
     tie.close
-    (tie.spec (λ c. omega arith) (λ c κs. search rules) returns (λ c κs. c.before.before.before.before.requires) returns_2)
+    (tie.spec (λ c. omega arith) (λ c κs. search rules) returns-then-not-is_below (λ c κs. c.requires) returns)

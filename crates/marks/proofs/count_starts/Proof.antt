@@ -8,63 +8,54 @@ use Rattle.marks.proofs.MarkLaws.{StartsAt, starts_start, new_next, again_next, 
 use Rattle.marks.proofs.count_starts.Statement.{statement}
 use Rattle.marks.proofs.count_starts.Tie as tie
 
-abbrev invariant_loop : tie.invariant-loop
+abbrev invariant_loop : tie.invariant-loop-i
 invariant_loop starts marks seen₀ distinct₀ i₀ i_end seen distinct i =
     StartsAt starts marks seen₀ seen distinct i
 
-abbrev decreases_loop : tie.decreases-loop
+abbrev decreases_loop : tie.decreases-loop-i
 decreases_loop starts marks seen₀ distinct₀ i₀ i_end seen distinct i = length starts - i
 
-cast_if1 : tie.Need-overflow-cast-if1 invariant_loop decreases_loop
-cast_if1 c =
-    omega (arith, c.shared_slice_known3.given c.before.before.loop.i)
+overflow_cast-v : tie.Need-overflow_cast-v invariant_loop decreases_loop
+overflow_cast-v c =
+    omega (arith, c.shared_slice_known-in-loop-i-1.given c.loop-i.i)
 
-mul_if1 : tie.Need-overflow-mul-if1 invariant_loop decreases_loop
-mul_if1 c =
-    omega (arith, c.shared_slice_known3.given c.before.before.loop.i)
+offset_bounds-marks-v : tie.Need-offset_bounds-marks-v invariant_loop decreases_loop
+offset_bounds-marks-v c =
+    omega (arith, c.shared_slice_known-in-loop-i-1.given c.loop-i.i)
 
-shared_slice_read_if1 : tie.Need-shared-slice-read-if1 invariant_loop decreases_loop
-shared_slice_read_if1 c =
-    let l = c.before.before.before in
-    l.before.before.before.before.requires.below l.loop.i c.before.before.loop_test.true
+bounds-marks-v : tie.Need-bounds-marks-v invariant_loop decreases_loop
+bounds-marks-v c =
+    c.requires.below c.loop-i.i c.loop-i-test.true
+
+returns-then-marks-v-eq0 : tie.Need-returns-then-marks-v-eq0 invariant_loop decreases_loop
+returns-then-marks-v-eq0 c =
+    starts_wrong (λ h. omega (arith, h c.loop-i.i c.loop-i-test.true, c.if-marks-v-eq0.true))
+
+insert-requires : tie.Need-insert-requires invariant_loop decreases_loop
+insert-requires c κs =
+    let there = c.requires in
+    omega (arith, there.below c.loop-i.i c.loop-i-test.true, there.room, c.loop-i.invariant.long)
+
+overflow_add-distinct : tie.Need-overflow_add-distinct invariant_loop decreases_loop
+overflow_add-distinct c =
+    omega (arith, c.loop-i.invariant.low, c.loop-i.invariant.high)
+
+loop-i-preserved : tie.Need-loop-i-preserved invariant_loop decreases_loop
+loop-i-preserved c =
+    let there = c.requires in
+    let below = there.below c.loop-i.i c.loop-i-test.true in
+    ⊎_elim
+    (λ t. new_next c.loop-i.invariant c.loop-i-test.true below (omega (arith, c.if-marks-v-eq0.false)) c.insert.auto.words c.insert.ensures t.if-insert.true t.distinct-is)
+    (λ t. again_next c.loop-i.invariant c.loop-i-test.true below (omega (arith, c.if-marks-v-eq0.false)) c.insert.auto.words c.insert.ensures t.if-insert.false t.distinct-is)
+    c.if-insert.branch-raw
 
 returns : tie.Need-returns invariant_loop decreases_loop
-returns c =
-    let tested = c.before.before.before in
-    starts_wrong (λ h. omega (arith, h tested.before.loop.i tested.loop_test.true, c.if1.true))
-
-insert_requires : tie.Need-insert-requires invariant_loop decreases_loop
-insert_requires c κs =
-    let tested = c.before.before.before.before in
-    let l = tested.before in
-    let there = l.before.before.before.before.requires in
-    omega (arith, there.below l.loop.i tested.loop_test.true, there.room, l.loop.invariant.long)
-
-add_distinct : tie.Need-overflow-add-distinct invariant_loop decreases_loop
-add_distinct c =
-    let done = c.before.before.before in
-    let l = done.before.before.before.before.before.before in
-    omega (arith, l.loop.invariant.low, l.loop.invariant.high)
-
-loop_again : tie.Need-loop-preserved invariant_loop decreases_loop
-loop_again c =
-    let done = c.before.before.before in
-    let tested = done.before.before.before.before.before in
-    let l = tested.before in
-    let there = l.before.before.before.before.requires in
-    let below = there.below l.loop.i tested.loop_test.true in
-    ⊎_elim
-    (λ t. new_next l.loop.invariant tested.loop_test.true below (omega (arith, done.before.before.if1.false)) done.insert.auto.0 done.insert.ensures t.0.taken t.1)
-    (λ t. again_next l.loop.invariant tested.loop_test.true below (omega (arith, done.before.before.if1.false)) done.insert.auto.0 done.insert.ensures t.0.left t.1)
-    c.if2.branch
-
-returns_2 : tie.Need-returns-2 invariant_loop decreases_loop
-returns_2 c = starts_end c.before.loop.invariant c.loop_test.false
+returns c = starts_end c.loop-i.invariant c.loop-i-test.false
 
 pub count_starts_spec : {M : Type 1} → statement M
 count_starts_spec =
     tie.close
-    (tie.spec invariant_loop decreases_loop (λ c. starts_start c.before.before.before.requires) (λ c. search rules)
-    (λ c. search rules) cast_if1 mul_if1 shared_slice_read_if1
-    (λ c. c.before.before.before.before.loop.invariant.long) returns insert_requires add_distinct (λ c. search rules)
-    (λ c. search rules) loop_again (λ c. c.before.loop.invariant.long) returns_2)
+    (tie.spec invariant_loop decreases_loop (λ c. starts_start c.requires) (λ c. search rules)
+    (λ c. search rules) overflow_cast-v offset_bounds-marks-v bounds-marks-v
+    (λ c. c.loop-i.invariant.long) returns-then-marks-v-eq0 insert-requires overflow_add-distinct (λ c. search rules)
+    (λ c. search rules) loop-i-preserved (λ c. c.loop-i.invariant.long) returns)

@@ -9,71 +9,57 @@ use Rattle.marks.proofs.MarkLaws.{row_there, part_there, parts_join}
 use Rattle.marks.proofs.rows_marked.Statement.{statement}
 use Rattle.marks.proofs.rows_marked.Tie as tie
 
-abbrev invariant_loop : tie.invariant-loop
+abbrev invariant_loop : tie.invariant-loop-e
 invariant_loop targets marks carried base from to e₀ e = (from ≤ e) × PartMarked targets marks carried base from e
 
-abbrev decreases_loop : tie.decreases-loop
+abbrev decreases_loop : tie.decreases-loop-e
 decreases_loop targets marks carried base from to e₀ e = to - e
 
--- the row from e, and the entry, from the loop
-abbrev entry : tie.At-loop invariant_loop decreases_loop → tie.Start invariant_loop decreases_loop
-entry c = c.before.before.before.before
+overflow_add-next : tie.Need-overflow_add-next invariant_loop decreases_loop
+overflow_add-next c = omega (arith, c.smaller.ensures, c.loop-e-test.true, c.well_formed)
 
-add_next : tie.Need-overflow-add-next invariant_loop decreases_loop
-add_next c = let l = c.before.before in omega (arith, c.smaller.ensures, c.before.loop_test.true, (entry l).well_formed)
+row_marked-requires : tie.Need-row_marked-requires invariant_loop decreases_loop
+row_marked-requires c κs =
+    row_there c.requires.0.targets (omega (arith, c.smaller.ensures, c.loop-e-test.true))
 
-row_marked_requires : tie.Need-row-marked-requires invariant_loop decreases_loop
-row_marked_requires c κs =
-    let l = c.before.before in
-    row_there (entry l).requires.0.targets (omega (arith, c.smaller.ensures, c.before.loop_test.true))
+part_marked-requires : tie.Need-part_marked-requires invariant_loop decreases_loop
+part_marked-requires c κs =
+    let p = c.requires in
+    (part_there p.0 (omega (arith, c.smaller.ensures, c.loop-e-test.true)), omega (arith, c.loop-e.invariant.0, p.1))
 
-part_marked_requires : tie.Need-part-marked-requires invariant_loop decreases_loop
-part_marked_requires c κs =
-    let s = c.before.before in
-    let l = s.before.before in
-    let p = (entry l).requires in
-    (part_there p.0 (omega (arith, s.smaller.ensures, s.before.loop_test.true)), omega (arith, l.loop.invariant.0, p.1))
+returns-then-not-part_marked : tie.Need-returns-then-not-part_marked invariant_loop decreases_loop
+returns-then-not-part_marked c =
+    decides_no (λ h. refuted c.part_marked.ensures (not-true _ c.if-not-part_marked.true-raw)
+    (λ x q r z. h x (omega (arith, c.loop-e.invariant.0)) (omega (arith, c.smaller.ensures, c.loop-e-test.true)) z))
+
+loop-e-smaller-else-not-part_marked : tie.Need-loop-e-smaller-else-not-part_marked invariant_loop decreases_loop
+loop-e-smaller-else-not-part_marked c = omega (arith, c.smaller.ensures, c.loop-e-test.true)
+
+loop-e-preserved-else-not-part_marked : tie.Need-loop-e-preserved-else-not-part_marked invariant_loop decreases_loop
+loop-e-preserved-else-not-part_marked c =
+    let a = c.args in (
+      omega (arith, c.loop-e.invariant.0),
+      parts_join a.targets.now a.marks.now a.carried.now a.base a.from c.loop-e.e _ c.loop-e.invariant.1
+          (c.part_marked.ensures.right (not-false _ c.if-not-part_marked.false-raw)),
+    )
+
+loop-e-smaller : tie.Need-loop-e-smaller invariant_loop decreases_loop
+loop-e-smaller c = omega (arith, c.smaller.ensures, c.loop-e-test.true)
+
+loop-e-preserved : tie.Need-loop-e-preserved invariant_loop decreases_loop
+loop-e-preserved c =
+    let a = c.args in (
+      omega (arith, c.loop-e.invariant.0),
+      parts_join a.targets.now a.marks.now a.carried.now a.base a.from c.loop-e.e _ c.loop-e.invariant.1
+          (λ x h q z. c.row_marked.ensures (not-false _ c.if-not-row_marked.false-raw) x h q),
+    )
 
 returns : tie.Need-returns invariant_loop decreases_loop
 returns c =
-    let s = c.before.before.before.before in
-    let l = s.before.before in
-    decides_no (λ h. refuted c.before.part_marked.ensures (not-true _ c.if2.true)
-    (λ x q r z. h x (omega (arith, l.loop.invariant.0)) (omega (arith, s.smaller.ensures, s.before.loop_test.true)) z))
-
-loop_less : tie.Need-loop-smaller invariant_loop decreases_loop
-loop_less c = let s = c.before.before.before.before in omega (arith, s.smaller.ensures, s.before.loop_test.true)
-
-loop_again : tie.Need-loop-preserved invariant_loop decreases_loop
-loop_again c =
-    let s = c.before.before.before.before in
-    let l = s.before.before in
-    let a = (entry l).args in (
-      omega (arith, l.loop.invariant.0),
-      parts_join a.targets.now a.marks.now a.carried.now a.base a.from l.loop.e _ l.loop.invariant.1
-          (c.before.part_marked.ensures.right (not-false _ c.if2.false)),
-    )
-
-loop_less_2 : tie.Need-loop-smaller-2 invariant_loop decreases_loop
-loop_less_2 c = let s = c.before.before in omega (arith, s.smaller.ensures, s.before.loop_test.true)
-
-loop_again_2 : tie.Need-loop-preserved-2 invariant_loop decreases_loop
-loop_again_2 c =
-    let s = c.before.before in
-    let l = s.before.before in
-    let a = (entry l).args in (
-      omega (arith, l.loop.invariant.0),
-      parts_join a.targets.now a.marks.now a.carried.now a.base a.from l.loop.e _ l.loop.invariant.1
-          (λ x h q z. c.before.row_marked.ensures (not-false _ c.if1.false) x h q),
-    )
-
-returns_2 : tie.Need-returns-2 invariant_loop decreases_loop
-returns_2 c =
-    let l = c.before in
-    decides_yes (λ x h q z. l.loop.invariant.1 x h (omega arith) z)
+    decides_yes (λ x h q z. c.loop-e.invariant.1 x h (omega arith) z)
 
 pub rows_marked_spec : {M : Type 1} → statement M
 rows_marked_spec =
     tie.close
-    (tie.spec invariant_loop decreases_loop (λ c. (omega arith, (λ x h q z. absurd (omega arith)))) (λ c. search rules) (λ c κs. search rules) add_next
-    row_marked_requires part_marked_requires returns loop_less loop_again loop_less_2 loop_again_2 returns_2)
+    (tie.spec invariant_loop decreases_loop (λ c. (omega arith, (λ x h q z. absurd (omega arith)))) (λ c. search rules) (λ c κs. search rules) overflow_add-next
+    row_marked-requires part_marked-requires returns-then-not-part_marked loop-e-smaller-else-not-part_marked loop-e-preserved-else-not-part_marked loop-e-smaller loop-e-preserved returns)

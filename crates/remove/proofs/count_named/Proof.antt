@@ -10,7 +10,7 @@ pub count_named_spec : {M : Type 1} → statement M
 count_named_spec =
     tie.close
     (tie.spec (λ c. search rules)
-    (λ c κs. let w = some_words few_words (omega arith) (omega arith) in (c.before.before.before.requires, w.0, w.1))
-    (λ c. c.before.count_by.ensures) (λ c. search rules)
-    (λ c κs. let w = some_words many_words (omega arith) (omega arith) in (c.before.before.before.requires, w.0, w.1))
-    (λ c. c.before.count_by2.ensures))
+    (λ c κs. let w = some_words few_words (omega arith) (omega arith) in (c.requires, w.0, w.1))
+    (λ c. c.count_by.ensures) (λ c. search rules)
+    (λ c κs. let w = some_words many_words (omega arith) (omega arith) in (c.requires, w.0, w.1))
+    (λ c. c.count_by-2.ensures))

@@ -14,120 +14,94 @@ use Rattle.changes.proofs.Keeping.{offsets_climb, kept_none, window_ready, windo
 use Rattle.remove.proofs.keep_by.Statement.{statement}
 use Rattle.remove.proofs.keep_by.Tie as tie
 
-abbrev invariant_loop : tie.invariant-loop
+abbrev invariant_loop : tie.invariant-loop-done
 invariant_loop offsets targets numbers taken₀ bounds₀ places₀ all size done₀ taken bounds places done =
     (length taken ≡ length taken₀) × (length bounds ≡ length bounds₀) × (length places ≡ length places₀)
     × KeptTo (stays numbers) offsets targets bounds places done.reference done.object done.place
 
-abbrev decreases_loop : tie.decreases-loop
+abbrev decreases_loop : tie.decreases-loop-done
 decreases_loop offsets targets numbers taken₀ bounds₀ places₀ all size done₀ taken bounds places done =
     length targets - done.reference + (length offsets - done.object)
 
-abbrev entry : tie.At-loop invariant_loop decreases_loop → tie.Start invariant_loop decreases_loop
+abbrev entry : tie.At-loop-done invariant_loop decreases_loop → tie.Start invariant_loop decreases_loop
 entry l = l.before.before.before.before.before.before.before
-
--- where the window's end is known, and the loop before it
-abbrev at_end : tie.After-gather invariant_loop decreases_loop → tie.After-smaller invariant_loop decreases_loop
-at_end c = c.before.before
-
-abbrev at_loop : tie.After-smaller invariant_loop decreases_loop → tie.At-loop invariant_loop decreases_loop
-at_loop c = c.before.before.before.before
-
-abbrev gathered : tie.After-keep-objects-arg3 invariant_loop decreases_loop → tie.After-gather invariant_loop decreases_loop
-gathered c = c.before.before.before.before.before
-
-abbrev kept : tie.After-slice-known6 invariant_loop decreases_loop → tie.After-keep-objects invariant_loop decreases_loop
-kept c = c.before.before.before.before
 
 -- the window that is looked at
 module _ (c : tie.After-gather invariant_loop decreases_loop) where
-  abbrev l : tie.At-loop invariant_loop decreases_loop
-  l = at_loop (at_end c)
+  abbrev l : tie.At-loop-done invariant_loop decreases_loop
+  l = c.before.before.before.before.before.before
 
   abbrev pre : tie.Start invariant_loop decreases_loop
   pre = entry l
 
-  low : l.loop.done.reference ≤ (at_end c).smaller.result
-  low = omega (arith, (at_end c).smaller.ensures, l.loop.inv.3.targets.within)
+  low : l.loop-done.done.reference ≤ c.smaller-to.result
+  low = omega (arith, c.smaller-to.ensures, l.loop-done.invariant.3.targets.within)
 
-  inside : (at_end c).smaller.result ≤ length pre.args.targets.now
-  inside = omega (arith, (at_end c).smaller.ensures)
+  inside : c.smaller-to.result ≤ length pre.args.targets.now
+  inside = omega (arith, c.smaller-to.ensures)
 
-  room : (at_end c).smaller.result ≤ l.loop.done.reference + word_bits * length c.gather.new.1.0
-  room = omega (arith, (at_end c).smaller.ensures, c.gather.auto.1.0, l.loop.inv.0)
+  room : c.smaller-to.result ≤ l.loop-done.done.reference + word_bits * length c.gather.new.taken
+  room = omega (arith, c.smaller-to.ensures, c.gather.auto.taken, l.loop-done.invariant.0)
 
-cast_from : tie.Need-overflow-cast-from invariant_loop decreases_loop
-cast_from c =
-    let k = c.before.before.before in
-    omega (arith, k.loop.invariant.3.targets.within, (entry k).requires.1)
+overflow_cast-from : tie.Need-overflow_cast-from invariant_loop decreases_loop
+overflow_cast-from c =
+    omega (arith, c.loop-done.invariant.3.targets.within, c.requires.1)
 
-add_smaller : tie.Need-overflow-add-smaller invariant_loop decreases_loop
-add_smaller c =
-    let k = c.before.before.before in
-    let p = (entry k).requires in
-    omega (arith, k.loop.invariant.3.targets.within, p.1, p.5)
+overflow_add-from : tie.Need-overflow_add-from invariant_loop decreases_loop
+overflow_add-from c =
+    let p = c.requires in
+    omega (arith, c.loop-done.invariant.3.targets.within, p.1, p.5)
 
-gather_requires : tie.Need-gather-requires invariant_loop decreases_loop
-gather_requires c κs =
-    let s = c.before in
-    let k = at_loop s in
-    (omega (arith, s.smaller.ensures, k.loop.inv.3.targets.within), omega (arith, s.smaller.ensures, k.loop.inv.0))
+gather-requires : tie.Need-gather-requires invariant_loop decreases_loop
+gather-requires c κs =
+    (omega (arith, c.smaller-to.ensures, c.loop-done.invariant.3.targets.within), omega (arith, c.smaller-to.ensures, c.loop-done.invariant.0))
 
-keep_objects_requires : tie.Need-keep-objects-requires invariant_loop decreases_loop
-keep_objects_requires c κs =
-    let g = gathered c in
-    let p = (pre g).pre in
-    window_ready (pre g).args.numbers.now (graph (pre g).args.offsets.now (pre g).args.targets.now) p.0 (l g).loop.inv.3
-    g.gather.ensures (low g) (inside g) p.1 (room g)
+keep_objects-done-requires : tie.Need-keep_objects-done-requires invariant_loop decreases_loop
+keep_objects-done-requires c κs =
+    let p = (pre c.before.before.before.before).requires in
+    window_ready (pre c.before.before.before.before).args.numbers.now (graph (pre c.before.before.before.before).args.offsets.now (pre c.before.before.before.before).args.targets.now) p.0 (l c.before.before.before.before).loop-done.invariant.3
+    c.gather.ensures (low c.before.before.before.before) (inside c.before.before.before.before) p.1 (room c.before.before.before.before)
 
-loop_less : tie.Need-loop-smaller invariant_loop decreases_loop
-loop_less c =
-    let k = kept c in
-    let g = gathered k.before in
-    let s = at_end g in
-    let p = (pre g).pre in
-    let o = k.keep_objects.ensures in
-    let more : (l g).loop.done.object < length (pre g).args.offsets.now = s.before.before.if1.taken in
-    by_cases (dec_lt k.keep_objects.result.object (length (pre g).args.offsets.now))
-    (λ (h : k.keep_objects.result.object < length (pre g).args.offsets.now).
+loop-done-smaller : tie.Need-loop-done-smaller invariant_loop decreases_loop
+loop-done-smaller c =
+    let p = (pre c.before.before.before.before.before.before.before.before.before).requires in
+    let o = c.keep_objects-done.ensures in
+    let more : (l c.before.before.before.before.before.before.before.before.before).loop-done.done.object < length (pre c.before.before.before.before.before.before.before.before.before).args.offsets.now = c.loop-done-test.true in
+    by_cases (dec_lt c.keep_objects-done.result.object (length (pre c.before.before.before.before.before.before.before.before.before).args.offsets.now))
+    (λ (h : c.keep_objects-done.result.object < length (pre c.before.before.before.before.before.before.before.before.before).args.offsets.now).
     omega (
       arith,
       o.reached h,
-      (offsets_climb (pre g).args.numbers.now (graph (pre g).args.offsets.now (pre g).args.targets.now) p.0).top k.keep_objects.result.object h,
-      s.smaller.ensures,
+      (offsets_climb (pre c.before.before.before.before.before.before.before.before.before).args.numbers.now (graph (pre c.before.before.before.before.before.before.before.before.before).args.offsets.now (pre c.before.before.before.before.before.before.before.before.before).args.targets.now) p.0).top c.keep_objects-done.result.object h,
+      c.smaller-to.ensures,
       p.4,
       o.forth,
     ))
-    (λ (h : ¬ (k.keep_objects.result.object < length (pre g).args.offsets.now)). omega (arith, o.onward, more))
+    (λ (h : ¬ (c.keep_objects-done.result.object < length (pre c.before.before.before.before.before.before.before.before.before).args.offsets.now)). omega (arith, o.onward, more))
 
-loop_again : tie.Need-loop-preserved invariant_loop decreases_loop
-loop_again c =
-    let k = kept c in
-    let g = gathered k.before in
-    let p = (pre g).pre in (
-      g.gather.kept.1.0 ∙ (l g).loop.inv.0,
-      k.keep_objects.kept.1.1.1.0 ∙ (l g).loop.inv.1,
-      k.keep_objects.kept.1.1.1.1.0 ∙ (l g).loop.inv.2,
-      window_kept (pre g).args.numbers.now (graph (pre g).args.offsets.now (pre g).args.targets.now) p.0 (l g).loop.inv.3
-          g.gather.ensures (low g) (inside g) p.1 (room g) k.keep_objects.ensures,
+loop-done-preserved : tie.Need-loop-done-preserved invariant_loop decreases_loop
+loop-done-preserved c =
+    let p = (pre c.before.before.before.before.before.before.before.before.before).requires in (
+      c.gather.auto.taken ∙ (l c.before.before.before.before.before.before.before.before.before).loop-done.invariant.0,
+      c.keep_objects-done.auto.bounds ∙ (l c.before.before.before.before.before.before.before.before.before).loop-done.invariant.1,
+      c.keep_objects-done.auto.places ∙ (l c.before.before.before.before.before.before.before.before.before).loop-done.invariant.2,
+      window_kept (pre c.before.before.before.before.before.before.before.before.before).args.numbers.now (graph (pre c.before.before.before.before.before.before.before.before.before).args.offsets.now (pre c.before.before.before.before.before.before.before.before.before).args.targets.now) p.0 (l c.before.before.before.before.before.before.before.before.before).loop-done.invariant.3
+          c.gather.ensures (low c.before.before.before.before.before.before.before.before.before) (inside c.before.before.before.before.before.before.before.before.before) p.1 (room c.before.before.before.before.before.before.before.before.before) c.keep_objects-done.ensures,
     )
 
 returns : tie.Need-returns invariant_loop decreases_loop
 returns c =
-    let k = c.before.before in
-    let start = entry k in
-    let n = start.args.numbers.now in
-    let G = graph start.args.offsets.now start.args.targets.now in
-    let i = k.loop.invariant.3 in
-    (bounds_all n G start.pre.0 i (omega (arith, c.if1.false)), places_all n G start.pre.0 i (omega (arith, c.if1.false)))
+    let n = c.args.numbers.now in
+    let G = graph c.args.offsets.now c.args.targets.now in
+    let i = c.loop-done.invariant.3 in
+    (bounds_all n G c.requires.0 i (omega (arith, c.loop-done-test.false)), places_all n G c.requires.0 i (omega (arith, c.loop-done-test.false)))
 
 pub keep_by_spec : {M : Type 1} → statement M
 keep_by_spec =
     tie.close
-    (tie.spec invariant_loop decreases_loop (λ c. let p = c.before.before.before.before.before.before.requires in omega (arith, p.1))
-    (λ c. let p = c.before.before.before.before.before.before.requires in omega (arith, p.5))
-    (λ c. let p = c.before.before.before.before.before.before.requires in omega (arith, p.5))
-    (λ c. let s = c.before.before.before.before.before.before in
-    (refl, refl, refl, kept_none s.args.numbers.now (graph s.args.offsets.now s.args.targets.now) s.requires.0 s.requires.2 s.requires.3))
-    cast_from add_smaller (λ c κs. search rules) gather_requires (λ c. search rules) keep_objects_requires loop_less loop_again
-    (λ c. c.before.before.loop.invariant.0) (λ c. c.before.before.loop.invariant.1) (λ c. c.before.before.loop.invariant.2) returns)
+    (tie.spec invariant_loop decreases_loop (λ c. let p = c.requires in omega (arith, p.1))
+    (λ c. let p = c.requires in omega (arith, p.5))
+    (λ c. let p = c.requires in omega (arith, p.5))
+    (λ c. (refl, refl, refl, kept_none c.args.numbers.now (graph c.args.offsets.now c.args.targets.now) c.requires.0 c.requires.2 c.requires.3))
+    overflow_cast-from overflow_add-from (λ c κs. search rules) gather-requires (λ c. search rules) keep_objects-done-requires loop-done-smaller loop-done-preserved
+    (λ c. c.loop-done.invariant.0) (λ c. c.loop-done.invariant.1) (λ c. c.loop-done.invariant.2) returns)

@@ -8,77 +8,51 @@ use Rattle.changes.proofs.Keeping.{ObjectsTo, objects_none, part_ready, next_ord
 use Rattle.remove.proofs.keep_objects.Statement.{statement}
 use Rattle.remove.proofs.keep_objects.Tie as tie
 
-abbrev invariant_loop : tie.invariant-loop
+abbrev invariant_loop : tie.invariant-loop-v
 invariant_loop offsets targets taken bounds₀ places₀ end base object e₀ at₀ v₀ v_end bounds places e at v =
     ObjectsTo offsets targets taken bounds₀ places₀ base object at₀ end bounds places e v at
 
-abbrev decreases_loop : tie.decreases-loop
+abbrev decreases_loop : tie.decreases-loop-v
 decreases_loop offsets targets taken bounds₀ places₀ end base object e₀ at₀ v₀ v_end bounds places e at v = length offsets - v
 
-abbrev entry : tie.At-loop invariant_loop decreases_loop → tie.Start invariant_loop decreases_loop
-entry l = l.before.before.before.before.before.before
+keep_part-place-requires : tie.Need-keep_part-place-requires invariant_loop decreases_loop
+keep_part-place-requires c κs =
+    part_ready c.loop-v.invariant c.loop-v-test.true c.requires c.loop-v.invariant.high (omega arith)
 
--- the turn, from where the object's offset is read, and from where its part is written
-abbrev turn : tie.Else1 invariant_loop decreases_loop → tie.In-loop invariant_loop decreases_loop
-turn c = c.before.before
+shape_of-places-then-end-next : tie.Need-shape_of-places-then-end-next invariant_loop decreases_loop
+shape_of-places-then-end-next c =
+    c.keep_part-place.auto.places ∙ c.loop-v.invariant.places_long
 
-abbrev written : tie.After-slice-known4 invariant_loop decreases_loop → tie.After-keep-part2 invariant_loop decreases_loop
-written c = c.before.before
+returns-then-end-next : tie.Need-returns-then-end-next invariant_loop decreases_loop
+returns-then-end-next c =
+    objects_stop c.loop-v.invariant c.loop-v-test.true c.keep_part-place.auto.places c.if-end-next.true c.keep_part-place.ensures
 
-abbrev passed : tie.After-slice-known4 invariant_loop decreases_loop → tie.Else1 invariant_loop decreases_loop
-passed c = (written c).before.before
+keep_part-at-requires : tie.Need-keep_part-at-requires invariant_loop decreases_loop
+keep_part-at-requires c κs =
+    let x = c.requires in
+    part_ready c.loop-v.invariant c.loop-v-test.true x (next_order c.loop-v.invariant c.loop-v-test.true x) c.if-end-next.false
 
-keep_part_requires : tie.Need-keep-part-requires invariant_loop decreases_loop
-keep_part_requires c κs =
-    let t = c.before.before.before in
-    let l = t.before in
-    part_ready l.loop.invariant t.loop_test.true (entry l).requires l.loop.invariant.high (omega arith)
+overflow_cast-bounds : tie.Need-overflow_cast-bounds invariant_loop decreases_loop
+overflow_cast-bounds c =
+    omega (arith, place_low c.loop-v.invariant c.loop-v-test.true c.if-end-next.false c.keep_part-at.ensures c.requires)
 
-same_length_2 : tie.Need-same-length-2 invariant_loop decreases_loop
-same_length_2 c =
-    let k = c.before.before in
-    k.keep_part.auto.1.1.0 ∙ k.before.before.before.before.before.loop.invariant.places_long
+bounds-bounds-v : tie.Need-bounds-bounds-v invariant_loop decreases_loop
+bounds-bounds-v c =
+    omega (arith, c.loop-v-test.true, (c.loop-v.invariant.kept c.requires).long)
+
+loop-v-preserved : tie.Need-loop-v-preserved invariant_loop decreases_loop
+loop-v-preserved c =
+    objects_next c.loop-v.invariant c.loop-v-test.true c.if-end-next.false c.keep_part-at.ensures c.requires c.keep_part-at.auto.places
 
 returns : tie.Need-returns invariant_loop decreases_loop
 returns c =
-    let k = c.before.before in
-    let i = k.before.before in
-    let t = i.before.before in
-    objects_stop t.before.loop.invariant t.loop_test.true k.keep_part.auto.1.1.0 i.if1.true k.keep_part.ensures
-
-keep_part_requires_2 : tie.Need-keep-part-requires-2 invariant_loop decreases_loop
-keep_part_requires_2 c κs =
-    let t = turn c.before in
-    let l = t.before in
-    let x = (entry l).pre in
-    part_ready l.loop.inv t.loop_test.taken x (next_order l.loop.inv t.loop_test.taken x) c.before.if1.false
-
-cast_bounds : tie.Need-overflow-cast-bounds invariant_loop decreases_loop
-cast_bounds c =
-    let t = turn (passed c) in
-    omega (arith, place_low t.before.loop.inv t.loop_test.taken (passed c).if1.false (written c).keep_part2.ensures (entry t.before).pre)
-
-slice_write_bounds : tie.Need-slice-write-bounds invariant_loop decreases_loop
-slice_write_bounds c =
-    let t = turn (passed c) in
-    omega (arith, t.loop_test.taken, (t.before.loop.inv.kept (entry t.before).pre).long)
-
-loop_again : tie.Need-loop-preserved invariant_loop decreases_loop
-loop_again c =
-    let k = (written c).keep_part2 in
-    let t = turn (passed c) in
-    objects_next t.before.loop.inv t.loop_test.taken (passed c).if1.false k.ensures (entry t.before).pre k.kept.1.1.0
-
-returns_2 : tie.Need-returns-2 invariant_loop decreases_loop
-returns_2 c =
-    let l = c.before in
-    objects_end l.loop.invariant (omega (arith, (l.loop.invariant.kept (entry l).requires).within, c.loop_test.false)) c.loop_test.false
+    objects_end c.loop-v.invariant (omega (arith, (c.loop-v.invariant.kept c.requires).within, c.loop-v-test.false)) c.loop-v-test.false
 
 pub keep_objects_spec : {M : Type 1} → statement M
 keep_objects_spec =
     tie.close
-    (tie.spec invariant_loop decreases_loop (λ c. objects_none c.before.before.before.before.before.requires.order) (λ c. search rules) (λ c. search rules)
-    (λ c. omega (arith, c.shared_slice_known4.given c.before.before.loop.v)) keep_part_requires
-    (λ c. c.before.before.before.before.before.before.before.loop.invariant.bounds_long) same_length_2 returns keep_part_requires_2 cast_bounds
-    (λ c. search rules) slice_write_bounds (λ c. search rules) (λ c. search rules) loop_again (λ c. c.before.loop.invariant.bounds_long)
-    (λ c. c.before.loop.invariant.places_long) returns_2)
+    (tie.spec invariant_loop decreases_loop (λ c. objects_none c.requires.order) (λ c. search rules) (λ c. search rules)
+    (λ c. omega (arith, c.shared_slice_known-in-loop-v-1.given c.loop-v.v)) keep_part-place-requires
+    (λ c. c.loop-v.invariant.bounds_long) shape_of-places-then-end-next returns-then-end-next keep_part-at-requires overflow_cast-bounds
+    (λ c. search rules) bounds-bounds-v (λ c. search rules) (λ c. search rules) loop-v-preserved (λ c. c.loop-v.invariant.bounds_long)
+    (λ c. c.loop-v.invariant.places_long) returns)

@@ -9,74 +9,61 @@ use Rattle.changes.proofs.Keeping.{PartTo, part_none, part_room, part_more, part
 use Rattle.remove.proofs.keep_part.Statement.{statement}
 use Rattle.remove.proofs.keep_part.Tie as tie
 
-abbrev invariant_loop : tie.invariant-loop
+abbrev invariant_loop : tie.invariant-loop-e
 invariant_loop targets taken places₀ base from to place at₀ e₀ places at e = PartTo targets taken places₀ base from to place places at e
 
-abbrev decreases_loop : tie.decreases-loop
+abbrev decreases_loop : tie.decreases-loop-e
 decreases_loop targets taken places₀ base from to place at₀ e₀ places at e = to - e
 
-abbrev start : tie.At-loop invariant_loop decreases_loop → tie.Start invariant_loop decreases_loop
-start l = l.before.before.before.before
+overflow_sub-e : tie.Need-overflow_sub-e invariant_loop decreases_loop
+overflow_sub-e c = omega (arith, c.loop-e.invariant.low, c.requires.low)
 
-sub_contains : tie.Need-overflow-sub-contains invariant_loop decreases_loop
-sub_contains c = omega (arith, c.before.loop.invariant.low, (start c.before).pre.low)
+overflow_cast-e : tie.Need-overflow_cast-e invariant_loop decreases_loop
+overflow_cast-e c =
+    let t = c.requires.tells in
+    omega (arith, c.loop-e-test.true, t.inside, t.few)
 
-cast_contains : tie.Need-overflow-cast-contains invariant_loop decreases_loop
-cast_contains c =
-    let t = (start c.before).pre.tells in
-    omega (arith, c.loop_test.true, t.inside, t.few)
+contains-requires : tie.Need-contains-requires invariant_loop decreases_loop
+contains-requires c κs =
+    let p = c.requires in
+    omega (arith, c.loop-e-test.true, p.tells.covered, p.low, c.loop-e.invariant.low)
 
-contains_requires : tie.Need-contains-requires invariant_loop decreases_loop
-contains_requires c κs =
-    let p = (start c.before).pre in
-    omega (arith, c.loop_test.true, p.tells.covered, p.low, c.before.loop.invariant.low)
+offset_bounds-targets-e : tie.Need-offset_bounds-targets-e invariant_loop decreases_loop
+offset_bounds-targets-e c =
+    let p = c.requires.tells in
+    omega (arith, c.loop-e-test.true, p.inside, p.few)
 
-mul_places : tie.Need-overflow-mul-places invariant_loop decreases_loop
-mul_places c =
-    let t = c.before.before in
-    let p = (start t.before).pre.tells in
-    omega (arith, t.loop_test.true, p.inside, p.few)
+bounds-targets-e : tie.Need-bounds-targets-e invariant_loop decreases_loop
+bounds-targets-e c =
+    omega (arith, c.loop-e-test.true, c.requires.tells.inside)
 
-shared_slice_read_places : tie.Need-shared-slice-read-places invariant_loop decreases_loop
-shared_slice_read_places c =
-    let t = c.before.before.before in
-    omega (arith, t.loop_test.true, (start t.before).pre.tells.inside)
+offset_bounds-places-at : tie.Need-offset_bounds-places-at invariant_loop decreases_loop
+offset_bounds-places-at c =
+    let x = c.requires in
+    omega (arith, (c.loop-e.invariant.kept x).low, c.loop-e-test.true, x.tells.inside, x.tells.few)
 
-mul_places_2 : tie.Need-overflow-mul-places-2 invariant_loop decreases_loop
-mul_places_2 c =
-    let i = c.before in
-    let t = i.before.before in
-    let x = (start t.before).pre in
-    omega (arith, (t.before.loop.invariant.kept x).low, t.loop_test.true, x.tells.inside, x.tells.few)
+bounds-places-at : tie.Need-bounds-places-at invariant_loop decreases_loop
+bounds-places-at c =
+    part_room c.loop-e.invariant c.loop-e-test.true (so c.contains.ensures (not-true _ c.if-not-contains.true-raw)) c.requires
 
-slice_write_places : tie.Need-slice-write-places invariant_loop decreases_loop
-slice_write_places c =
-    let i = c.before in
-    let t = i.before.before in
-    part_room t.before.loop.invariant t.loop_test.true (so i.before.contains.ensures (not-true _ i.if1.true)) (start t.before).pre
+overflow_add-at : tie.Need-overflow_add-at invariant_loop decreases_loop
+overflow_add-at c =
+    let x = c.requires in
+    omega (arith, (c.loop-e.invariant.kept x).low, c.loop-e-test.true, x.tells.inside, x.tells.few)
 
-add_at : tie.Need-overflow-add-at invariant_loop decreases_loop
-add_at c =
-    let i = c.before in
-    let t = i.before.before in
-    let x = (start t.before).pre in
-    omega (arith, (t.before.loop.invariant.kept x).low, t.loop_test.true, x.tells.inside, x.tells.few)
-
-loop_again : tie.Need-loop-preserved invariant_loop decreases_loop
-loop_again c =
-    let k = c.before in
-    let t = k.before in
+loop-e-preserved : tie.Need-loop-e-preserved invariant_loop decreases_loop
+loop-e-preserved c =
     ⊎_elim
-    (λ w. rw (w.2, w.3) (part_more t.before.loop.invariant t.loop_test.true (so k.contains.ensures (not-true _ w.0.taken))))
-    (λ w. rw (w.1, w.2) (part_over t.before.loop.invariant t.loop_test.true (so k.contains.ensures (not-false _ w.0.left))))
-    c.if1.branch
+    (λ w. rw (w.places-is, w.at-is) (part_more c.loop-e.invariant c.loop-e-test.true (so c.contains.ensures (not-true _ w.if-not-contains.true-raw))))
+    (λ w. rw (w.places-is, w.at-is) (part_over c.loop-e.invariant c.loop-e-test.true (so c.contains.ensures (not-false _ w.if-not-contains.false-raw))))
+    c.if-not-contains.branch-raw
 
 returns : tie.Need-returns invariant_loop decreases_loop
-returns c = part_end c.before.loop.invariant c.loop_test.false
+returns c = part_end c.loop-e.invariant c.loop-e-test.false
 
 pub keep_part_spec : {M : Type 1} → statement M
 keep_part_spec =
     tie.close
-    (tie.spec invariant_loop decreases_loop (λ c. part_none c.before.before.before.requires.order) sub_contains cast_contains contains_requires mul_places
-    shared_slice_read_places mul_places_2 slice_write_places add_at (λ c. search rules) (λ c. search rules) loop_again
-    (λ c. c.before.loop.invariant.long) returns)
+    (tie.spec invariant_loop decreases_loop (λ c. part_none c.requires.order) overflow_sub-e overflow_cast-e contains-requires offset_bounds-targets-e
+    bounds-targets-e offset_bounds-places-at bounds-places-at overflow_add-at (λ c. search rules) (λ c. search rules) loop-e-preserved
+    (λ c. c.loop-e.invariant.long) returns)

@@ -5,16 +5,16 @@ use Rattle.laws.proofs.Decides.{decides_yes}
 use Rattle.resume.proofs.answer_low.Statement.{statement}
 use Rattle.resume.proofs.answer_low.Tie as tie
 
-returns : tie.Need-returns
-returns c = rw c.before.before.answer.given.1 c.counts_low.ensures
+returns-in-Finished : tie.Need-returns-in-Finished
+returns-in-Finished c = rw c.in-Finished.is c.counts_low.ensures
 
-returns_2 : tie.Need-returns-2
-returns_2 c = rw c.before.before.answer2.given.1 c.counts_low2.ensures
+returns-in-Unfinished : tie.Need-returns-in-Unfinished
+returns-in-Unfinished c = rw c.in-Unfinished.is c.counts_low-in-Unfinished.ensures
 
-returns_3 : tie.Need-returns-3
-returns_3 c = rw c.enum_told.given.1 (decides_yes (record { moved_limit = omega arith; handed_limit = omega arith }))
+returns-in-Refused : tie.Need-returns-in-Refused
+returns-in-Refused c = rw c.in-Refused.is (decides_yes (record { moved_limit = omega arith; handed_limit = omega arith }))
 
 pub answer_low_spec : {M : Type 1} → statement M
 answer_low_spec =
     tie.close
-    (tie.spec (λ c. search rules) (λ c κs. search rules) (λ c. search rules) (λ c κs. search rules) (λ c. search rules) returns returns_2 returns_3)
+    (tie.spec (λ c. search rules) (λ c κs. search rules) (λ c. search rules) (λ c κs. search rules) (λ c. search rules) returns-in-Finished returns-in-Unfinished returns-in-Refused)

@@ -14,106 +14,74 @@ use Rattle.layers.proofs.Layers.{begin_ready, begun, layer_low, layer_end, pass_
 use Rattle.search.proofs.search.Statement.{statement}
 use Rattle.search.proofs.search.Tie as tie
 
-abbrev invariant_loop : tie.invariant-loop
+abbrev invariant_loop : tie.invariant-loop-layer
 invariant_loop offsets targets starts hops₀ links₀ layer₀ next₀ hop₀ hops links layer next hop =
     Layer (graph offsets targets) starts hop hops links layer × (next ≡ empty)
     × ((L : List ℕ) → LinksLeft hops₀ L links₀ → LinksLeft hops L links)
 
-abbrev decreases_loop : tie.decreases-loop
+abbrev decreases_loop : tie.decreases-loop-layer
 decreases_loop offsets targets starts hops₀ links₀ layer₀ next₀ hop₀ hops links layer next hop = length (contents links layer) + unknown hops
 
-abbrev entered : tie.After-forget invariant_loop decreases_loop → tie.Start invariant_loop decreases_loop
-entered f = f.before.before.before.before.before.before.before
-
-abbrev start : tie.At-loop invariant_loop decreases_loop → tie.Start invariant_loop decreases_loop
-start l = entered l.before.before.before.before.before.before.before.before.before.before.before
-
--- the turn of the first pass, and the one before the second
-abbrev turn : tie.After-pass invariant_loop decreases_loop → tie.In-loop invariant_loop decreases_loop
-turn v = v.before.before.before.before.before
-
-abbrev between : tie.After-pass2 invariant_loop decreases_loop → tie.Else1 invariant_loop decreases_loop
-between v = v.before.before.before.before.before
-
 -- layer `hop + 1`, after the first pass
-first : (v : tie.After-pass invariant_loop decreases_loop) → let l = (turn v).before in let a = (start l).args in let z = v.pass.new in
-    Layer (graph a.offsets.now a.targets.now) a.starts.now (l.loop.hop + 1) z.1.1.0 z.1.1.1.0 z.1.1.1.1.1.0
+first : (v : tie.After-pass invariant_loop decreases_loop) → let a = v.args in Layer (graph a.offsets.now a.targets.now) a.starts.now (v.loop-layer.hop + 1) v.pass.new.hops v.pass.new.links v.pass.new.next
 first v =
-    let t = turn v in
-    let l = t.before in
-    passed (start l).pre l.loop.inv.0 l.loop.inv.1 v.pass.ensures t.loop_test.taken
+    passed v.requires v.loop-layer.invariant.0 v.loop-layer.invariant.1 v.pass.ensures v.loop-layer-test.true
 
 -- the links of objects without a count, when the layer is reached and after the first pass
-reached_left : (l : tie.At-loop invariant_loop decreases_loop) → LinksLeft l.loop.hops (start l).args.links.now l.loop.links
-reached_left l = l.loop.invariant.2 (start l).args.links.now (left_first refl l.before.before.before.before.before.begin.ensures)
+reached_left : (l : tie.At-loop-layer invariant_loop decreases_loop) → LinksLeft l.loop-layer.hops l.args.links.now l.loop-layer.links
+reached_left l = l.loop-layer.invariant.2 l.args.links.now (left_first refl l.begin.ensures)
 
-first_left : (v : tie.After-pass invariant_loop decreases_loop) → let z = v.pass.new in LinksLeft z.1.1.0 (start (turn v).before).args.links.now z.1.1.1.0
-first_left v = let l = (turn v).before in left_next l.loop.inv.1 v.pass.ensures (reached_left l)
+first_left : (v : tie.After-pass invariant_loop decreases_loop) → LinksLeft v.pass.new.hops v.args.links.now v.pass.new.links
+first_left v = left_next v.loop-layer.invariant.1 v.pass.ensures (reached_left v.before.before.before.before.before.before)
 
-begin_requires : tie.Need-begin-requires invariant_loop decreases_loop
-begin_requires c κs = let f = c.before.before.before.before.before in begin_ready (entered f).requires f.forget.ensures
+begin-requires : tie.Need-begin-requires invariant_loop decreases_loop
+begin-requires c κs = begin_ready c.requires c.forget.ensures
 
-loop_holds : tie.Need-loop-init invariant_loop decreases_loop
-loop_holds c =
-    let g = c.before.before.before.before in
-    let f = g.before.before.before.before.before.before in
-    (begun (entered f).requires f.forget.ensures g.begin.ensures, refl, λ L x. x)
+loop-layer-init : tie.Need-loop-layer-init invariant_loop decreases_loop
+loop-layer-init c =
+    (begun c.requires c.forget.ensures c.begin.ensures, refl, λ L x. x)
 
-pass_requires : tie.Need-pass-requires invariant_loop decreases_loop
-pass_requires c κs = let l = c.before.before.before.before.before in pass_ready (start l).requires l.loop.invariant.0 l.loop.invariant.1
+pass-requires : tie.Need-pass-requires invariant_loop decreases_loop
+pass-requires c κs = pass_ready c.requires c.loop-layer.invariant.0 c.loop-layer.invariant.1
+
+returns-then-next-eq0 : tie.Need-returns-then-next-eq0 invariant_loop decreases_loop
+returns-then-next-eq0 c =
+    let p = c.requires in
+    (layer_end p.formed p.few (first c.before.before.before.before.before) c.if-next-eq0.true, first_left c.before.before.before.before.before)
+
+overflow_add-hop-in-loop-layer : tie.Need-overflow_add-hop-in-loop-layer invariant_loop decreases_loop
+overflow_add-hop-in-loop-layer c =
+    let p = c.requires in
+    omega (arith, layer_low p.formed p.few (first c.before.before.before.before.before))
+
+pass-requires-in-loop-layer : tie.Need-pass-requires-in-loop-layer invariant_loop decreases_loop
+pass-requires-in-loop-layer c κs =
+    pass_ready c.requires (first c.before.before.before.before.before.before.before.before.before) refl
+
+loop-layer-smaller : tie.Need-loop-layer-smaller invariant_loop decreases_loop
+loop-layer-smaller c =
+    let p = c.requires in
+    omega (
+      arith,
+      passed_less p c.loop-layer.invariant.0 c.loop-layer.invariant.1 c.pass.ensures c.loop-layer-test.true,
+      passed_less p (first c.before.before.before.before.before.before.before.before.before.before.before.before.before.before) refl c.pass-in-loop-layer.ensures c.if-next-eq0.false,
+    )
+
+loop-layer-preserved : tie.Need-loop-layer-preserved invariant_loop decreases_loop
+loop-layer-preserved c =
+    (passed c.requires (first c.before.before.before.before.before.before.before.before.before.before.before.before.before.before) refl c.pass-in-loop-layer.ensures c.if-next-eq0.false, refl, λ L x. left_next refl c.pass-in-loop-layer.ensures (left_next c.loop-layer.invariant.1 c.pass.ensures (c.loop-layer.invariant.2 L x)))
 
 returns : tie.Need-returns invariant_loop decreases_loop
 returns c =
-    let v = c.before.before.before.before.before in
-    let p = (start (turn v).before).pre in
-    (layer_end p.formed p.few (first v) c.if1.true, first_left v)
-
-add_hop_2 : tie.Need-overflow-add-hop-2 invariant_loop decreases_loop
-add_hop_2 c =
-    let v = c.before.before.before.before.before in
-    let p = (start (turn v).before).pre in
-    omega (arith, layer_low p.formed p.few (first v))
-
-pass_requires_2 : tie.Need-pass-requires-2 invariant_loop decreases_loop
-pass_requires_2 c κs =
-    let b = c.before.before.before.before in
-    let v = b.before.before.before.before.before in
-    pass_ready (start (turn v).before).pre (first v) refl
-
-loop_less : tie.Need-loop-smaller invariant_loop decreases_loop
-loop_less c =
-    let w = c.before.before.before.before in
-    let b = between w in
-    let v = b.before.before.before.before.before in
-    let t = turn v in
-    let l = t.before in
-    let p = (start l).pre in
-    omega (
-      arith,
-      passed_less p l.loop.inv.0 l.loop.inv.1 v.pass.ensures t.loop_test.taken,
-      passed_less p (first v) refl w.pass2.ensures b.if1.left,
-    )
-
-loop_again : tie.Need-loop-preserved invariant_loop decreases_loop
-loop_again c =
-    let w = c.before.before.before.before in
-    let b = between w in
-    let v = b.before.before.before.before.before in
-    let l = (turn v).before in
-    (passed (start l).pre (first v) refl w.pass2.ensures b.if1.left, refl, λ L x. left_next refl w.pass2.ensures (left_next l.loop.inv.1 v.pass.ensures (l.loop.inv.2 L x)))
-
-returns_2 : tie.Need-returns-2 invariant_loop decreases_loop
-returns_2 c =
-    let l = c.before in
-    let p = (start l).requires in
-    (layer_end p.formed p.few l.loop.invariant.0 c.loop_test.false, reached_left l)
+    let p = c.requires in
+    (layer_end p.formed p.few c.loop-layer.invariant.0 c.loop-layer-test.false, reached_left c.before)
 
 pub search_spec : {M : Type 1} → statement M
 search_spec =
     tie.close
-    (tie.spec invariant_loop decreases_loop (λ c κs. search rules) begin_requires loop_holds (λ c. omega (arith, c.loop.invariant.0.bag.words_are))
-    (λ c. let l = c.before in let p = (start l).requires in omega (arith, layer_low p.formed p.few l.loop.invariant.0)) pass_requires
-    (λ c. omega (arith, c.before.before.before.before.pass.ensures.bag.words_are))
-    (λ c. let v = c.before.before.before.before.before in hops_same (start (turn v).before).pre (first v))
-    (λ c. let v = c.before.before.before.before.before in links_same (start (turn v).before).pre (first v)) returns add_hop_2 pass_requires_2
-    loop_less loop_again (λ c. let l = c.before in hops_same (start l).requires l.loop.invariant.0) (λ c. let l = c.before in links_same (start l).requires l.loop.invariant.0) returns_2)
+    (tie.spec invariant_loop decreases_loop (λ c κs. search rules) begin-requires loop-layer-init (λ c. omega (arith, c.loop-layer.invariant.0.bag.words_are))
+    (λ c. let p = c.requires in omega (arith, layer_low p.formed p.few c.loop-layer.invariant.0)) pass-requires
+    (λ c. omega (arith, c.pass.ensures.bag.words_are))
+    (λ c. hops_same c.requires (first c.before.before.before.before.before))
+    (λ c. links_same c.requires (first c.before.before.before.before.before)) returns-then-next-eq0 overflow_add-hop-in-loop-layer pass-requires-in-loop-layer
+    loop-layer-smaller loop-layer-preserved (λ c. hops_same c.requires c.loop-layer.invariant.0) (λ c. links_same c.requires c.loop-layer.invariant.0) returns)

@@ -5,9 +5,9 @@ use Rattle.sweep.specs.Sweep.{row}
 use Rattle.sweep.proofs.refusal_of.Statement.{statement}
 use Rattle.sweep.proofs.refusal_of.Tie as tie
 
-returns_2 : tie.Need-returns-2
-returns_2 c = c.number_of_lem.ensures ∙ sym (ap (λ a. (row a).number) c.before.before.swept.given.1)
+returns-in-Refused : tie.Need-returns-in-Refused
+returns-in-Refused c = c.number_of.ensures ∙ sym (ap (λ a. (row a).number) c.in-Refused.is)
 
 pub refusal_of_spec : {M : Type 1} → statement M
 refusal_of_spec =
-    tie.close (tie.spec (λ c. search rules) (λ c. search rules) (λ c κs. search rules) (λ c. search rules) returns_2)
+    tie.close (tie.spec (λ c. search rules) (λ c. search rules) (λ c κs. search rules) (λ c. search rules) returns-in-Refused)

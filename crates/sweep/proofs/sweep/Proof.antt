@@ -16,21 +16,20 @@ use Rattle.sweep.proofs.sweep.Statement.{statement}
 use Rattle.sweep.proofs.sweep.Tie as tie
 
 -- n is within its range
-ranged : (c : tie.Else1) → outside most_objects (length c.before.before.before.before.before.args.sizes.now) ≡ false
-ranged c = so c.before.out_of_range.ensures c.if1.false
+ranged : (c : tie.Else-out_of_range) → outside most_objects (length c.args.sizes.now) ≡ false
+ranged c = so c.out_of_range.ensures c.if-out_of_range.false
 
-returns_4 : tie.Need-returns-4
-returns_4 c =
-    let e = c.before.before in
-    let fits = so c.before.sizes_fit.ensures (not-true _ c.if4.true) in
-    collected _ _ _ (refusing _ _ _ 5 (fault_size _ _ _ (ranged e.before.before) e.before.if2.false e.if3.false fits))
+returns-then-not-sizes_fit : tie.Need-returns-then-not-sizes_fit
+returns-then-not-sizes_fit c =
+    let fits = so c.sizes_fit.ensures (not-true _ c.if-not-sizes_fit.true-raw) in
+    collected _ _ _ (refusing _ _ _ 5 (fault_size _ _ _ (ranged c.before.before.before.before) c.if-marks-n.false c.if-list-n.false fits))
 
 -- no check fails
-module _ (c : tie.Else4) where
-  abbrev at_list : tie.Else3
+module _ (c : tie.Else-not-sizes_fit) where
+  abbrev at_list : tie.Else-list-n
   at_list = c.before.before
 
-  abbrev counted : tie.Else1
+  abbrev counted : tie.Else-out_of_range
   counted = at_list.before.before
 
   abbrev start : tie.Start
@@ -39,35 +38,30 @@ module _ (c : tie.Else4) where
   listable : Listable start.args.marks.now start.args.sizes.now start.args.list.now
   listable =
       record {
-        marks_are = at_list.before.if2.left;
-        list_is = at_list.if3.left;
+        marks_are = at_list.if-marks-n.false;
+        list_is = at_list.if-list-n.false;
         few = (inside most_objects _ (ranged counted)).1;
-        fit = so c.before.sizes_fit.ensures (not-false _ c.if4.false);
+        fit = so c.sizes_fit.ensures (not-false _ c.if-not-sizes_fit.false-raw);
       }
 
   free : fault start.args.marks.now start.args.sizes.now start.args.list.now ≡ 0
   free = fault_free _ _ _ (ranged counted) listable.marks_are listable.list_is listable.fit
 
 -- the dead are no more than the objects
-cast_count : tie.Need-overflow-cast-t20
-cast_count c =
-    let d = c.before.before.before.before.before.before in
-    let e = d.before.before in
-    omega (arith, d.list_dead.ensures.room, d.list_dead.ensures.long, (listable e).list_is, (listable e).few)
+overflow_cast-result : tie.Need-overflow_cast-result
+overflow_cast-result c =
+    omega (arith, c.list_dead-dead.ensures.room, c.list_dead-dead.ensures.long, (listable c.before.before.before.before.before.before.before.before).list_is, (listable c.before.before.before.before.before.before.before.before).few)
 
-returns_5 : tie.Need-returns-5
-returns_5 c =
-    let z = c.before.before in
-    let d = z.before.before.before.before in
-    let e = d.before.before in
-    let l = d.list_dead.ensures in
-    collected _ _ _ (rw (free e, l.counted, l.summed), rw (free e) (padded l (listable e).list_is z.clear.ensures))
+returns : tie.Need-returns
+returns c =
+    let l = c.list_dead-dead.ensures in
+    collected _ _ _ (rw (free c.before.before.before.before.before.before.before.before, l.counted, l.summed), rw (free c.before.before.before.before.before.before.before.before) (padded l (listable c.before.before.before.before.before.before.before.before).list_is c.clear.ensures))
 
 pub sweep_spec : {M : Type 1} → statement M
 sweep_spec =
     tie.close
-    (tie.spec (λ c κs. search rules) (λ c. collected _ _ _ (refusing _ _ _ 3 (fault_count _ _ _ (so c.before.out_of_range.ensures c.if1.true))))
-    (λ c. collected _ _ _ (refusing _ _ _ 6 (fault_marks _ _ _ (ranged c.before) c.if2.true)))
-    (λ c. collected _ _ _ (refusing _ _ _ 6 (fault_list _ _ _ (ranged c.before.before) c.before.if2.false c.if3.true)))
-    (λ c κs. search rules) returns_4 (λ c κs. listable c.before) (λ c κs. search rules) cast_count
-    (λ c. search rules) returns_5)
+    (tie.spec (λ c κs. search rules) (λ c. collected _ _ _ (refusing _ _ _ 3 (fault_count _ _ _ (so c.out_of_range.ensures c.if-out_of_range.true))))
+    (λ c. collected _ _ _ (refusing _ _ _ 6 (fault_marks _ _ _ (ranged c.before) c.if-marks-n.true)))
+    (λ c. collected _ _ _ (refusing _ _ _ 6 (fault_list _ _ _ (ranged c.before.before) c.if-marks-n.false c.if-list-n.true)))
+    (λ c κs. search rules) returns-then-not-sizes_fit (λ c κs. listable c.before) (λ c κs. search rules) overflow_cast-result
+    (λ c. search rules) returns)

@@ -10,96 +10,82 @@ use Rattle.saved.specs.Layout.{number_at, tally_number}
 use Rattle.tallies.proofs.claims_sound.Statement.{statement}
 use Rattle.tallies.proofs.claims_sound.Tie as tie
 
-abbrev invariant_loop : tie.invariant-loop
+abbrev invariant_loop : tie.invariant-loop-b
 invariant_loop saved workers first b₀ b =
     (b ≤ workers) × ((a : ℕ) → a < b → tally_number workers saved a 1 + tally_number workers saved a 2 ≤ tally_number workers saved a 0)
 
-abbrev decreases_loop : tie.decreases-loop
+abbrev decreases_loop : tie.decreases-loop-b
 decreases_loop saved workers first b₀ b = workers - b
 
-abbrev entry : tie.After-number3 invariant_loop decreases_loop → tie.Start invariant_loop decreases_loop
-entry c = c.before.before.before.before.before.before.before
+abbrev saved : tie.After-number-lost invariant_loop decreases_loop → List ℕ
+saved c = c.args.saved.now
 
-abbrev saved : tie.After-number3 invariant_loop decreases_loop → List ℕ
-saved c = (entry c).args.saved.now
+abbrev workers : tie.After-number-lost invariant_loop decreases_loop → ℕ
+workers c = c.args.workers
 
-abbrev workers : tie.After-number3 invariant_loop decreases_loop → ℕ
-workers c = (entry c).args.workers
-
-abbrev passed : tie.After-number3 invariant_loop decreases_loop → ℕ
-passed c = c.before.before.before.before.loop.b
+abbrev passed : tie.After-number-lost invariant_loop decreases_loop → ℕ
+passed c = c.loop-b.b
 
 -- the three numbers that are read
-told : (c : tie.After-number3 invariant_loop decreases_loop)
-    → (c.before.before.number.result ≡ tally_number (workers c) (saved c) (passed c) 0)
-    × (c.before.number2.result ≡ tally_number (workers c) (saved c) (passed c) 1)
-    × (c.number3.result ≡ tally_number (workers c) (saved c) (passed c) 2)
+told : (c : tie.After-number-lost invariant_loop decreases_loop)
+    → (c.number-followed.result ≡ tally_number (workers c) (saved c) (passed c) 0)
+    × (c.number-won.result ≡ tally_number (workers c) (saved c) (passed c) 1)
+    × (c.number-lost.result ≡ tally_number (workers c) (saved c) (passed c) 2)
 told c =
-    let first = c.before.before.before.before.before.tallies.ensures in
+    let first = c.tallies-first.ensures in
     let b = passed c in (
-      c.before.before.number.ensures ∙ ap (λ (f : ℕ). number_at (saved c) (f + 8 * b + 0)) first,
-      c.before.number2.ensures ∙ ap (λ (f : ℕ). number_at (saved c) (f + 8 * b + 2)) first,
-      c.number3.ensures ∙ ap (λ (f : ℕ). number_at (saved c) (f + 8 * b + 4)) first,
+      c.number-followed.ensures ∙ ap (λ (f : ℕ). number_at (saved c) (f + 8 * b + 0)) first,
+      c.number-won.ensures ∙ ap (λ (f : ℕ). number_at (saved c) (f + 8 * b + 2)) first,
+      c.number-lost.ensures ∙ ap (λ (f : ℕ). number_at (saved c) (f + 8 * b + 4)) first,
     )
 
-add_at : tie.Need-overflow-add-at invariant_loop decreases_loop
-add_at c =
-    let l = c.before in
-    omega (arith, l.before.before.before.requires.low, l.before.tallies.ensures)
+overflow_add-at : tie.Need-overflow_add-at invariant_loop decreases_loop
+overflow_add-at c =
+    omega (arith, c.requires.low, c.tallies-first.ensures)
 
-add_number : tie.Need-overflow-add-number invariant_loop decreases_loop
-add_number c =
-    let l = c.before in
-    omega (arith, l.before.before.before.requires.low, l.before.tallies.ensures)
+overflow_add-at-in-loop-b : tie.Need-overflow_add-at-in-loop-b invariant_loop decreases_loop
+overflow_add-at-in-loop-b c =
+    omega (arith, c.requires.low, c.tallies-first.ensures)
 
-number_requires : tie.Need-number-requires invariant_loop decreases_loop
-number_requires c κs =
-    let l = c.before in
-    omega (arith, l.before.before.before.requires.long, l.before.tallies.ensures)
+number-followed-requires : tie.Need-number-followed-requires invariant_loop decreases_loop
+number-followed-requires c κs =
+    omega (arith, c.requires.long, c.tallies-first.ensures)
 
-add_number_2 : tie.Need-overflow-add-number-2 invariant_loop decreases_loop
-add_number_2 c =
-    let l = c.before.before in
-    omega (arith, l.before.before.before.requires.low, l.before.tallies.ensures)
+overflow_add-at-in-loop-b-2 : tie.Need-overflow_add-at-in-loop-b-2 invariant_loop decreases_loop
+overflow_add-at-in-loop-b-2 c =
+    omega (arith, c.requires.low, c.tallies-first.ensures)
 
-number_requires_2 : tie.Need-number-requires-2 invariant_loop decreases_loop
-number_requires_2 c κs =
-    let l = c.before.before in
-    omega (arith, l.before.before.before.requires.long, l.before.tallies.ensures)
+number-won-requires : tie.Need-number-won-requires invariant_loop decreases_loop
+number-won-requires c κs =
+    omega (arith, c.requires.long, c.tallies-first.ensures)
 
-add_number_3 : tie.Need-overflow-add-number-3 invariant_loop decreases_loop
-add_number_3 c =
-    let l = c.before.before.before in
-    omega (arith, l.before.before.before.requires.low, l.before.tallies.ensures)
+overflow_add-at-in-loop-b-3 : tie.Need-overflow_add-at-in-loop-b-3 invariant_loop decreases_loop
+overflow_add-at-in-loop-b-3 c =
+    omega (arith, c.requires.low, c.tallies-first.ensures)
 
-number_requires_3 : tie.Need-number-requires-3 invariant_loop decreases_loop
-number_requires_3 c κs =
-    let l = c.before.before.before in
-    omega (arith, l.before.before.before.requires.long, l.before.tallies.ensures)
+number-lost-requires : tie.Need-number-lost-requires invariant_loop decreases_loop
+number-lost-requires c κs =
+    omega (arith, c.requires.long, c.tallies-first.ensures)
+
+returns-then-followed-won : tie.Need-returns-then-followed-won invariant_loop decreases_loop
+returns-then-followed-won c =
+    decides_no (λ h. omega (arith, h c.loop-b.b c.loop-b-test.true, told c.before))
+
+returns-then-followed-won-2 : tie.Need-returns-then-followed-won-2 invariant_loop decreases_loop
+returns-then-followed-won-2 c =
+    decides_no (λ h. omega (arith, h c.loop-b.b c.loop-b-test.true, told c.before.before))
+
+loop-b-preserved : tie.Need-loop-b-preserved invariant_loop decreases_loop
+loop-b-preserved c =
+    (omega arith, below_more _ _ c.loop-b.invariant.1 (omega (arith, told c.before.before)))
 
 returns : tie.Need-returns invariant_loop decreases_loop
 returns c =
-    let tested = c.before.before.before.before in
-    decides_no (λ h. omega (arith, h tested.before.loop.b tested.loop_test.true, told c.before))
-
-returns_2 : tie.Need-returns-2 invariant_loop decreases_loop
-returns_2 c =
-    let tested = c.before.before.before.before.before in
-    decides_no (λ h. omega (arith, h tested.before.loop.b tested.loop_test.true, told c.before.before))
-
-loop_again : tie.Need-loop-preserved invariant_loop decreases_loop
-loop_again c =
-    let l = c.before.before.before.before.before.before in
-    (omega arith, below_more _ _ l.loop.invariant.1 (omega (arith, told c.before.before)))
-
-returns_3 : tie.Need-returns-3 invariant_loop decreases_loop
-returns_3 c =
-    let l = c.before in
-    decides_yes (λ a h. l.loop.invariant.1 a (omega arith))
+    decides_yes (λ a h. c.loop-b.invariant.1 a (omega arith))
 
 pub claims_sound_spec : {M : Type 1} → statement M
 claims_sound_spec =
     tie.close
-    (tie.spec invariant_loop decreases_loop (λ c κs. c.before.requires.low) (λ c. (omega arith, (λ a h. absurd (omega arith))))
-    (λ c. search rules) (λ c. search rules) add_at add_number number_requires add_number_2 number_requires_2
-    add_number_3 number_requires_3 returns returns_2 (λ c. search rules) (λ c. search rules) loop_again returns_3)
+    (tie.spec invariant_loop decreases_loop (λ c κs. c.requires.low) (λ c. (omega arith, (λ a h. absurd (omega arith))))
+    (λ c. search rules) (λ c. search rules) overflow_add-at overflow_add-at-in-loop-b number-followed-requires overflow_add-at-in-loop-b-2 number-won-requires
+    overflow_add-at-in-loop-b-3 number-lost-requires returns-then-followed-won returns-then-followed-won-2 (λ c. search rules) (λ c. search rules) loop-b-preserved returns)

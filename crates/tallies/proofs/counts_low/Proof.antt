@@ -6,36 +6,31 @@ use Rattle.tallies.proofs.CountLaws.{times_above, times_fits}
 use Rattle.tallies.proofs.counts_low.Statement.{statement}
 use Rattle.tallies.proofs.counts_low.Tie as tie
 
+returns-then-references-workers : tie.Need-returns-then-references-workers
+returns-then-references-workers c = decides_no (λ h. omega (arith, h.moved_limit, c.if-references-workers.true))
+
+returns-then-references-c : tie.Need-returns-then-references-c
+returns-then-references-c c =
+    decides_no (λ h. omega (arith, h.handed_limit, times_above c.args.c.handed c.args.cutoff c.requires.some_cutoff, c.if-references-c.true))
+
+overflow_mul-c : tie.Need-overflow_mul-c
+overflow_mul-c c =
+    record { fits = times_fits c.args.c.handed c.args.cutoff c.args.references c.if-references-c.false c.requires.references_limit c.requires.cutoff_limit }
+
+returns-then-references-c-2 : tie.Need-returns-then-references-c-2
+returns-then-references-c-2 c = decides_no (λ h. omega (arith, h.handed_limit, c.if-references-c-2.true))
+
+returns-then-c-since : tie.Need-returns-then-c-since
+returns-then-c-since c = decides_no (λ h. omega (arith, h.since_followed, c.if-c-since.true))
+
 returns : tie.Need-returns
-returns c = decides_no (λ h. omega (arith, h.moved_limit, c.if1.true))
-
-returns_2 : tie.Need-returns-2
-returns_2 c =
-    let start = c.before.before.before.before in
-    decides_no (λ h. omega (arith, h.handed_limit, times_above start.args.c.handed start.args.cutoff start.requires.some_cutoff, c.if2.true))
-
-mul_if3_2 : tie.Need-overflow-mul-if3-2
-mul_if3_2 c =
-    let start = c.before.before.before.before.before in
-    record { fits = times_fits start.args.c.handed start.args.cutoff start.args.references c.before.if2.false start.requires.references_limit start.requires.cutoff_limit }
-
-returns_3 : tie.Need-returns-3
-returns_3 c = decides_no (λ h. omega (arith, h.handed_limit, c.if3.true))
-
-returns_4 : tie.Need-returns-4
-returns_4 c = decides_no (λ h. omega (arith, h.since_followed, c.if4.true))
-
-returns_5 : tie.Need-returns-5
-returns_5 c =
-    let since = c.before in
-    let handed = since.before.before in
-    let moved = handed.before.before.before.before in
+returns c =
     decides_same (decides_leb _ _)
     (λ e.
     record {
-      moved_limit = moved.if1.false;
-      handed_limit = handed.if3.false;
-      since_followed = since.if4.false;
+      moved_limit = c.if-references-workers.false;
+      handed_limit = c.if-references-c-2.false;
+      since_followed = c.if-c-since.false;
       refused_moved = e;
     })
     (λ h. h.refused_moved)
@@ -43,5 +38,5 @@ returns_5 c =
 pub counts_low_spec : {M : Type 1} → statement M
 counts_low_spec =
     tie.close
-    (tie.spec (λ c. search rules) (λ c. search rules) returns (λ c. search rules) returns_2 (λ c. search rules)
-    mul_if3_2 returns_3 returns_4 returns_5)
+    (tie.spec (λ c. search rules) (λ c. search rules) returns-then-references-workers (λ c. search rules) returns-then-references-c (λ c. search rules)
+    overflow_mul-c returns-then-references-c-2 returns-then-c-since returns)

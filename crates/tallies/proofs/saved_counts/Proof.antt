@@ -5,11 +5,6 @@ use Rattle.tallies.proofs.saved_counts.Tie as tie
 
 returns : tie.Need-returns
 returns c =
-    let a = c.before in
-    let b = a.before in
-    let d = b.before in
-    let e = d.before in
-    let f = e.before in
     cc
 
 pub saved_counts_spec : {M : Type 1} → statement M

@@ -5,41 +5,37 @@ use Rattle.laws.proofs.Decides.{decides_no, decides_same, refuted}
 use Rattle.tallies.proofs.tallies_sound.Statement.{statement}
 use Rattle.tallies.proofs.tallies_sound.Tie as tie
 
+returns-then-live-distinct : tie.Need-returns-then-live-distinct
+returns-then-live-distinct c = decides_no (λ h. omega (arith, h.won, c.if-live-distinct.true))
+
+returns-then-not-adds_up : tie.Need-returns-then-not-adds_up
+returns-then-not-adds_up c = decides_no (λ h. refuted c.adds_up.ensures (not-true _ c.if-not-adds_up.true-raw) h.followed)
+
+adds_up-requires-2 : tie.Need-adds_up-requires-2
+adds_up-requires-2 c κs = (c.requires, omega arith)
+
+returns-then-not-adds_up-2 : tie.Need-returns-then-not-adds_up-2
+returns-then-not-adds_up-2 c =
+    decides_no (λ h. refuted c.adds_up-2.ensures (not-true _ c.if-not-adds_up-2.true-raw) (omega (arith, h.won)))
+
+adds_up-requires-3 : tie.Need-adds_up-requires-3
+adds_up-requires-3 c κs = (c.requires, omega arith)
+
+returns-then-not-adds_up-3 : tie.Need-returns-then-not-adds_up-3
+returns-then-not-adds_up-3 c = decides_no (λ h. refuted c.adds_up-3.ensures (not-true _ c.if-not-adds_up-3.true-raw) h.handed)
+
+claims_sound-requires : tie.Need-claims_sound-requires
+claims_sound-requires c κs = c.requires
+
 returns : tie.Need-returns
-returns c = decides_no (λ h. omega (arith, h.won, c.if1.true))
-
-returns_2 : tie.Need-returns-2
-returns_2 c = decides_no (λ h. refuted c.before.adds_up.ensures (not-true _ c.if2.true) h.followed)
-
-adds_up_requires_2 : tie.Need-adds-up-requires-2
-adds_up_requires_2 c κs = (c.before.before.before.before.requires, omega arith)
-
-returns_3 : tie.Need-returns-3
-returns_3 c =
-    decides_no (λ h. refuted c.before.adds_up2.ensures (not-true _ c.if3.true) (omega (arith, h.won)))
-
-adds_up_requires_3 : tie.Need-adds-up-requires-3
-adds_up_requires_3 c κs = (c.before.before.before.before.before.before.requires, omega arith)
-
-returns_4 : tie.Need-returns-4
-returns_4 c = decides_no (λ h. refuted c.before.adds_up3.ensures (not-true _ c.if4.true) h.handed)
-
-claims_sound_requires : tie.Need-claims-sound-requires
-claims_sound_requires c κs = c.before.before.before.before.before.before.before.before.requires
-
-returns_5 : tie.Need-returns-5
-returns_5 c =
-    let handed = c.before in
-    let won = handed.before.before in
-    let followed = won.before.before in
-    let fits = followed.before.before in
-    let rest = won.before.adds_up2.ensures.right (not-false _ won.if3.false) in
+returns c =
+    let rest = c.adds_up-2.ensures.right (not-false _ c.if-not-adds_up-2.false-raw) in
     decides_same c.claims_sound.ensures
     (λ s.
     record {
-      followed = followed.before.adds_up.ensures.right (not-false _ followed.if2.false);
-      won = omega (arith, rest, fits.if1.false);
-      handed = handed.before.adds_up3.ensures.right (not-false _ handed.if4.false);
+      followed = c.adds_up.ensures.right (not-false _ c.if-not-adds_up.false-raw);
+      won = omega (arith, rest, c.if-live-distinct.false);
+      handed = c.adds_up-3.ensures.right (not-false _ c.if-not-adds_up-3.false-raw);
       claims = s;
     })
     (λ h. h.claims)
@@ -47,5 +43,5 @@ returns_5 c =
 pub tallies_sound_spec : {M : Type 1} → statement M
 tallies_sound_spec =
     tie.close
-    (tie.spec returns (λ c κs. (c.before.before.requires, omega arith)) returns_2 adds_up_requires_2 returns_3
-    adds_up_requires_3 returns_4 claims_sound_requires returns_5)
+    (tie.spec returns-then-live-distinct (λ c κs. (c.requires, omega arith)) returns-then-not-adds_up adds_up-requires-2 returns-then-not-adds_up-2
+    adds_up-requires-3 returns-then-not-adds_up-3 claims_sound-requires returns)

@@ -4,24 +4,21 @@ use Rattle.layers.proofs.Growing.{find_known, find_addable, find_new}
 use Rattle.traverse.proofs.find.Statement.{statement}
 use Rattle.traverse.proofs.find.Tie as tie
 
-add_requires : tie.Need-add-requires
-add_requires c κs =
-    let t = c.before.before in
-    let p = t.before.before.before.before.requires in
-    find_addable p.0 _ p.1 t.if1.true
+add-requires : tie.Need-add-requires
+add-requires c κs =
+    let p = c.requires in
+    find_addable p.0 _ p.1 c.if-hops-i.true
 
-returns : tie.Need-returns
-returns c =
-    let a = c.before.before in
-    let t = a.before.before.before in
-    let p = t.before.before.before.before.requires in
-    find_new p.0 _ p.1 t.if1.true a.add.ensures
+returns-then-hops-i : tie.Need-returns-then-hops-i
+returns-then-hops-i c =
+    let p = c.requires in
+    find_new p.0 _ p.1 c.if-hops-i.true c.add.ensures
 
-returns_2 : tie.Need-returns-2
-returns_2 c = let p = c.before.before.before.before.requires in find_known p.0 _ p.1 c.if1.false
+returns-else-hops-i : tie.Need-returns-else-hops-i
+returns-else-hops-i c = let p = c.requires in find_known p.0 _ p.1 c.if-hops-i.false
 
 pub find_spec : {M : Type 1} → statement M
 find_spec =
     tie.close
-    (tie.spec (λ c. search rules) (λ c. search rules) (λ c. search rules) (λ c. search rules) add_requires (λ c. search rules) (λ c. search rules)
-    returns returns_2)
+    (tie.spec (λ c. search rules) (λ c. search rules) (λ c. search rules) (λ c. search rules) add-requires (λ c. search rules) (λ c. search rules)
+    returns-then-hops-i returns-else-hops-i)

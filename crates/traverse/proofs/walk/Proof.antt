@@ -10,93 +10,65 @@ use Rattle.layers.proofs.Walking.{at_low, at_links, walking_ready, down_less, wa
 use Rattle.traverse.proofs.walk.Statement.{statement}
 use Rattle.traverse.proofs.walk.Tie as tie
 
-abbrev invariant_loop : tie.invariant-loop
+abbrev invariant_loop : tie.invariant-loop-rest
 invariant_loop offsets targets hops₀ links₀ slots₀ hop rights₀ heights₀ depth₀ at₀ rest₀ hops links slots rights heights depth at rest =
     Walking (graph offsets targets) hop rest₀ at₀ hops₀ links₀ slots₀ hops links slots rights heights depth at rest
 
-abbrev decreases_loop : tie.decreases-loop
+abbrev decreases_loop : tie.decreases-loop-rest
 decreases_loop offsets targets hops₀ links₀ slots₀ hop rights₀ heights₀ depth₀ at₀ rest₀ hops links slots rights heights depth at rest =
     leftover links₀ rights heights depth at rest
 
-abbrev start : tie.At-loop invariant_loop decreases_loop → tie.Start invariant_loop decreases_loop
-start l = l.before.before.before.before.before.before.before
-
 -- the object in hand
-low : (l : tie.At-loop invariant_loop decreases_loop) → l.loop.at < most_objects
-low l = at_low (start l).requires l.loop.invariant
+low : (l : tie.At-loop-rest invariant_loop decreases_loop) → l.loop-rest.at < most_objects
+low l = at_low l.requires l.loop-rest.invariant
 
-links : (l : tie.At-loop invariant_loop decreases_loop) → 2 * l.loop.at + 1 < length l.loop.links
-links l = at_links (start l).requires l.loop.invariant
+links : (l : tie.At-loop-rest invariant_loop decreases_loop) → 2 * l.loop-rest.at + 1 < length l.loop-rest.links
+links l = at_links l.requires l.loop-rest.invariant
 
 -- there is room for one tree more
-room : (l : tie.At-loop invariant_loop decreases_loop) → l.loop.depth < most_waiting
-room l = shallow (start l).requires l.loop.invariant
+room : (l : tie.At-loop-rest invariant_loop decreases_loop) → l.loop-rest.depth < most_waiting
+room l = shallow l.requires l.loop-rest.invariant
 
--- where an object with others below it was visited, and where one without was
-abbrev inner : tie.After-visit invariant_loop decreases_loop → tie.Then2 invariant_loop decreases_loop
-inner v = v.before.before.before.before.before.before
+visit-requires : tie.Need-visit-requires invariant_loop decreases_loop
+visit-requires c κs = walking_ready c.requires c.loop-rest.invariant
 
-abbrev leaf : tie.After-visit2 invariant_loop decreases_loop → tie.Else2 invariant_loop decreases_loop
-leaf v = v.before.before.before.before
+loop-rest-preserved-then-rest-ne1 : tie.Need-loop-rest-preserved-then-rest-ne1 invariant_loop decreases_loop
+loop-rest-preserved-then-rest-ne1 c =
+    walking_down c.requires c.loop-rest.invariant c.if-rest-ne1.true c.visit.ensures
 
-visit_requires : tie.Need-visit-requires invariant_loop decreases_loop
-visit_requires c κs = let l = c.before.before.before.before.before.before.before in walking_ready (start l).requires l.loop.invariant
+loop-rest-smaller-then-rest-ne1 : tie.Need-loop-rest-smaller-then-rest-ne1 invariant_loop decreases_loop
+loop-rest-smaller-then-rest-ne1 c =
+    down_less c.requires c.loop-rest.invariant c.if-rest-ne1.true
 
-loop_again : tie.Need-loop-preserved invariant_loop decreases_loop
-loop_again c =
-    let v = c.before.before.before.before in
-    let t = inner v in
-    let l = t.before.before in
-    walking_down (start l).pre l.loop.inv t.if2.taken v.visit.ensures
+visit-requires-else-rest-ne1 : tie.Need-visit-requires-else-rest-ne1 invariant_loop decreases_loop
+visit-requires-else-rest-ne1 c κs = walking_ready c.requires c.loop-rest.invariant
 
-loop_less : tie.Need-loop-smaller invariant_loop decreases_loop
-loop_less c =
-    let t = inner c.before.before.before.before in
-    let l = t.before.before in
-    down_less (start l).pre l.loop.inv t.if2.taken
+returns-then-depth-eq0 : tie.Need-returns-then-depth-eq0 invariant_loop decreases_loop
+returns-then-depth-eq0 c =
+    walking_end c.requires c.loop-rest.invariant c.if-rest-ne1.false c.if-depth-eq0.true c.visit-else-rest-ne1.ensures
 
-visit_requires_2 : tie.Need-visit-requires-2 invariant_loop decreases_loop
-visit_requires_2 c κs = let l = c.before.before.before.before.before in walking_ready (start l).requires l.loop.invariant
+loop-rest-preserved : tie.Need-loop-rest-preserved invariant_loop decreases_loop
+loop-rest-preserved c =
+    walking_up c.requires c.loop-rest.invariant c.if-rest-ne1.false c.if-depth-eq0.false c.visit-else-rest-ne1.ensures
 
-returns_2 : tie.Need-returns-2 invariant_loop decreases_loop
-returns_2 c =
-    let v = c.before.before.before.before.before in
-    let t = leaf v in
-    let l = t.before.before in
-    walking_end (start l).pre l.loop.inv t.if2.left c.if3.true v.visit2.ensures
+loop-rest-smaller : tie.Need-loop-rest-smaller invariant_loop decreases_loop
+loop-rest-smaller c =
+    up_less c.requires c.loop-rest.invariant c.if-rest-ne1.false c.if-depth-eq0.false
 
-loop_again_2 : tie.Need-loop-preserved-2 invariant_loop decreases_loop
-loop_again_2 c =
-    let v = c.before.before.before.before.before in
-    let t = leaf v in
-    let l = t.before.before in
-    walking_up (start l).pre l.loop.inv t.if2.left c.if3.false v.visit2.ensures
+shape_of-hops-then-depth-eq0 : tie.Need-shape_of-hops-then-depth-eq0 invariant_loop decreases_loop
+shape_of-hops-then-depth-eq0 c =
+    c.visit-else-rest-ne1.ensures.hops_long ∙ c.loop-rest.invariant.grown.hops_long
 
-loop_less_2 : tie.Need-loop-smaller-2 invariant_loop decreases_loop
-loop_less_2 c =
-    let t = leaf c.before.before.before.before.before in
-    let l = t.before.before in
-    up_less (start l).pre l.loop.inv t.if2.left c.if3.false
-
-abbrev leaf_at : tie.Else3 invariant_loop decreases_loop → tie.At-loop invariant_loop decreases_loop
-leaf_at c = (leaf c.before.before.before.before.before).before.before
-
-same_length : tie.Need-same-length invariant_loop decreases_loop
-same_length c =
-    let v = c.before.before.before.before.before in
-    v.visit2.ensures.hops_long ∙ (leaf v).before.before.loop.invariant.grown.hops_long
-
-same_length_2 : tie.Need-same-length-2 invariant_loop decreases_loop
-same_length_2 c =
-    let v = c.before.before.before.before.before in
-    v.visit2.ensures.links_long ∙ (leaf v).before.before.loop.invariant.grown.links_long
+shape_of-links-then-depth-eq0 : tie.Need-shape_of-links-then-depth-eq0 invariant_loop decreases_loop
+shape_of-links-then-depth-eq0 c =
+    c.visit-else-rest-ne1.ensures.links_long ∙ c.loop-rest.invariant.grown.links_long
 
 pub walk_spec : {M : Type 1} → statement M
 walk_spec =
     tie.close
     (tie.spec invariant_loop decreases_loop
-    (λ c. let s = c.before.before.before.before.before.before in walk_none _ _ s.requires.0 c.if1.true)
-    (λ c. walking_start c.before.before.before.before.before.before.requires c.if1.false)
+    (λ c. walk_none _ _ c.requires.0 c.if-tree-eq0.true)
+    (λ c. walking_start c.requires c.if-tree-eq0.false)
     (λ c. omega (arith, low c.before.before))
     (λ c. omega (arith, low c.before.before))
     (λ c. omega (arith, low c.before.before))
@@ -106,19 +78,19 @@ walk_spec =
     (λ c. omega (arith, low c.before.before.before))
     (λ c. omega (arith, low c.before.before.before))
     (λ c. links c.before.before.before.before)
-    (λ c. let n = c.before.before.before in omega (arith, n.loop_test.true))
+    (λ c. omega (arith, c.loop-rest-test.true))
     (λ c. omega (arith, room c.before.before.before.before))
     (λ c. room c.before.before.before.before)
     (λ c. omega (arith, room c.before.before.before.before))
     (λ c. room c.before.before.before.before)
     (λ c. omega (arith, room c.before.before.before.before))
-    visit_requires loop_less loop_again visit_requires_2 same_length same_length_2 returns_2
-    (λ c. omega (arith, c.if3.false))
-    (λ c. omega (arith, room (leaf_at c)))
-    (λ c. omega (arith, room (leaf_at c)))
-    (λ c. omega (arith, room (leaf_at c)))
-    (λ c. omega (arith, room (leaf_at c)))
-    loop_less_2 loop_again_2
-    (λ c. c.before.loop.invariant.grown.hops_long)
-    (λ c. c.before.loop.invariant.grown.links_long)
-    (λ c. absurd (c.before.loop.invariant.some c.loop_test.false)))
+    visit-requires loop-rest-smaller-then-rest-ne1 loop-rest-preserved-then-rest-ne1 visit-requires-else-rest-ne1 shape_of-hops-then-depth-eq0 shape_of-links-then-depth-eq0 returns-then-depth-eq0
+    (λ c. omega (arith, c.if-depth-eq0.false))
+    (λ c. omega (arith, room c.before.before.before.before.before.before.before.before.before.before.before))
+    (λ c. omega (arith, room c.before.before.before.before.before.before.before.before.before.before.before))
+    (λ c. omega (arith, room c.before.before.before.before.before.before.before.before.before.before.before))
+    (λ c. omega (arith, room c.before.before.before.before.before.before.before.before.before.before.before))
+    loop-rest-smaller loop-rest-preserved
+    (λ c. c.loop-rest.invariant.grown.hops_long)
+    (λ c. c.loop-rest.invariant.grown.links_long)
+    (λ c. absurd (c.loop-rest.invariant.some c.loop-rest-test.false)))

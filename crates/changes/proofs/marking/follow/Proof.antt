@@ -8,45 +8,37 @@ use Rattle.changes.proofs.Following.{FollowAt, following_start, last_of, follow_
 use Rattle.changes.proofs.marking.follow.Statement.{statement}
 use Rattle.changes.proofs.marking.follow.Tie as tie
 
-abbrev invariant_loop : tie.invariant-loop
+abbrev invariant_loop : tie.invariant-loop-count
 invariant_loop offsets targets marks₀ list₀ top count₀ marks list count = FollowAt (graph offsets targets) marks₀ list₀ top marks list count
 
-abbrev decreases_loop : tie.decreases-loop
+abbrev decreases_loop : tie.decreases-loop-count
 decreases_loop offsets targets marks₀ list₀ top count₀ marks list count = count + unmarked marks
 
-loop_holds : tie.Need-loop-init invariant_loop decreases_loop
-loop_holds c = following_start c.before.before.before.before.requires
+loop-count-init : tie.Need-loop-count-init invariant_loop decreases_loop
+loop-count-init c = following_start c.requires
 
-slice_read_v : tie.Need-slice-read-v invariant_loop decreases_loop
-slice_read_v c =
-    let t = c.before in
-    omega (arith, t.loop_test.true, t.before.loop.invariant.followable.roomy.room)
+bounds-list-count : tie.Need-bounds-list-count invariant_loop decreases_loop
+bounds-list-count c =
+    omega (arith, c.loop-count-test.true, c.loop-count.invariant.followable.roomy.room)
 
-touch_all_requires : tie.Need-touch-all-requires invariant_loop decreases_loop
-touch_all_requires c κs =
-    let r = c.before.before in
-    let t = r.before.before in
-    let f = last_of t.before.loop.invariant (omega (arith, t.loop_test.true)) in
-    (follow_room f, rw r.references.ensures (follow_below f), omega arith)
+touch_all-count-requires : tie.Need-touch_all-count-requires invariant_loop decreases_loop
+touch_all-count-requires c κs =
+    let f = last_of c.loop-count.invariant (omega (arith, c.loop-count-test.true)) in
+    (follow_room f, rw c.references-part.ensures (follow_below f), omega arith)
 
-loop_less : tie.Need-loop-smaller invariant_loop decreases_loop
-loop_less c =
-    let a = c.before.before.before.before in
-    let t = a.before.before.before.before.before in
-    omega (arith, a.touch_all.ensures.sized, t.loop_test.true)
+loop-count-smaller : tie.Need-loop-count-smaller invariant_loop decreases_loop
+loop-count-smaller c =
+    omega (arith, c.touch_all-count.ensures.sized, c.loop-count-test.true)
 
-loop_again : tie.Need-loop-preserved invariant_loop decreases_loop
-loop_again c =
-    let a = c.before.before.before.before in
-    let r = a.before.before.before in
-    let t = r.before.before in
-    following_next t.before.loop.invariant (omega (arith, t.loop_test.true)) (rw r.references.ensures at a.touch_all.ensures)
+loop-count-preserved : tie.Need-loop-count-preserved invariant_loop decreases_loop
+loop-count-preserved c =
+    following_next c.loop-count.invariant (omega (arith, c.loop-count-test.true)) (rw c.references-part.ensures at c.touch_all-count.ensures)
 
 returns : tie.Need-returns invariant_loop decreases_loop
-returns c = following_end c.before.loop.invariant (omega (arith, c.loop_test.false))
+returns c = following_end c.loop-count.invariant (omega (arith, c.loop-count-test.false))
 
 pub follow_spec : {M : Type 1} → statement M
 follow_spec =
     tie.close
-    (tie.spec invariant_loop decreases_loop loop_holds (λ c. search rules) (λ c. search rules) slice_read_v (λ c κs. search rules) touch_all_requires loop_less loop_again
-    (λ c. c.before.loop.invariant.marks_long) (λ c. c.before.loop.invariant.list_long) returns)
+    (tie.spec invariant_loop decreases_loop loop-count-init (λ c. search rules) (λ c. search rules) bounds-list-count (λ c κs. search rules) touch_all-count-requires loop-count-smaller loop-count-preserved
+    (λ c. c.loop-count.invariant.marks_long) (λ c. c.loop-count.invariant.list_long) returns)

@@ -8,49 +8,39 @@ use Rattle.changes.proofs.Seeding.{Seeding, seeding_none, seeding_room, seeding_
 use Rattle.changes.proofs.marking.seed.Statement.{statement}
 use Rattle.changes.proofs.marking.seed.Tie as tie
 
-abbrev invariant_loop : tie.invariant-loop
+abbrev invariant_loop : tie.invariant-loop-i
 invariant_loop from to marks₀ list₀ count₀ i₀ i_end marks list count i = Seeding from to marks₀ list₀ marks list count i
 
-abbrev decreases_loop : tie.decreases-loop
+abbrev decreases_loop : tie.decreases-loop-i
 decreases_loop from to marks₀ list₀ count₀ i₀ i_end marks list count i = length from - i
 
-abbrev start : tie.At-loop invariant_loop decreases_loop → tie.Start invariant_loop decreases_loop
-start l = l.before.before.before.before.before
+bounds-marks-source : tie.Need-bounds-marks-source invariant_loop decreases_loop
+bounds-marks-source c =
+    source_there c.loop-i.invariant c.loop-i-test.true c.requires.2
 
-slice_read_if1 : tie.Need-slice-read-if1 invariant_loop decreases_loop
-slice_read_if1 c =
-    let t = c.before.before in
-    let l = t.before in
-    source_there l.loop.invariant t.loop_test.true (start l).requires.2
+bounds-to-i : tie.Need-bounds-to-i invariant_loop decreases_loop
+bounds-to-i c =
+    omega (arith, c.loop-i-test.true, c.requires.1)
 
-shared_slice_read_touch : tie.Need-shared-slice-read-touch invariant_loop decreases_loop
-shared_slice_read_touch c =
-    let t = c.before.before.before.before.before.before in
-    omega (arith, t.loop_test.true, (start t.before).pre.1)
+touch-count-requires : tie.Need-touch-count-requires invariant_loop decreases_loop
+touch-count-requires c κs =
+    let p = c.requires in
+    (seeding_room c.loop-i.invariant p.0, target_there c.loop-i.invariant c.loop-i-test.true p.3 p.1, omega arith)
 
-touch_requires : tie.Need-touch-requires invariant_loop decreases_loop
-touch_requires c κs =
-    let t = c.before.before.before.before.before.before in
-    let l = t.before in
-    let p = (start l).requires in
-    (seeding_room l.loop.invariant p.0, target_there l.loop.invariant t.loop_test.true p.3 p.1, omega arith)
-
-loop_again : tie.Need-loop-preserved invariant_loop decreases_loop
-loop_again c =
-    let t = c.before.before.before in
-    let l = t.before in
+loop-i-preserved : tie.Need-loop-i-preserved invariant_loop decreases_loop
+loop-i-preserved c =
     ⊎_elim
-    (λ w. rw (w.9, w.10, w.11) (seeding_next l.loop.invariant t.loop_test.true (omega (arith, w.0.taken)) w.4.ensures))
-    (λ w. rw (w.1, w.2, w.3) (seeding_over l.loop.invariant t.loop_test.true w.0.left))
-    c.if1.branch
+    (λ w. rw (w.marks-is, w.list-is, w.count-is) (seeding_next c.loop-i.invariant c.loop-i-test.true (omega (arith, w.if-marks-source-ne0.true)) w.touch-count.ensures))
+    (λ w. rw (w.marks-is, w.list-is, w.count-is) (seeding_over c.loop-i.invariant c.loop-i-test.true w.if-marks-source-ne0.false))
+    c.if-marks-source-ne0.branch-raw
 
 returns : tie.Need-returns invariant_loop decreases_loop
-returns c = seeding_end c.before.loop.invariant c.loop_test.false
+returns c = seeding_end c.loop-i.invariant c.loop-i-test.false
 
 pub seed_spec : {M : Type 1} → statement M
 seed_spec =
     tie.close
     (tie.spec invariant_loop decreases_loop (λ c. seeding_none _ _ _ _) (λ c. search rules) (λ c. search rules)
-    (λ c. omega (arith, c.shared_slice_known3.given c.before.before.loop.i)) slice_read_if1 (λ c. search rules)
-    shared_slice_read_touch touch_requires (λ c. search rules) (λ c. search rules) loop_again (λ c. c.before.loop.invariant.marks_long)
-    (λ c. c.before.loop.invariant.list_long) returns)
+    (λ c. omega (arith, c.shared_slice_known-in-loop-i-1.given c.loop-i.i)) bounds-marks-source (λ c. search rules)
+    bounds-to-i touch-count-requires (λ c. search rules) (λ c. search rules) loop-i-preserved (λ c. c.loop-i.invariant.marks_long)
+    (λ c. c.loop-i.invariant.list_long) returns)

@@ -10,8 +10,7 @@ use Rattle.checkpoint.proofs.restore.counts_from.Tie as tie
 
 returns : tie.Need-returns
 returns c =
-    let entry = c.before.before.before.before.before.before.before in
-    c.before.before.take_numbers.ensures ∙ ap (numbers_of (part_of counts_place (2 * counts_number) entry.args.saved.now)) entry.requires.1
+    c.take_numbers.ensures ∙ ap (numbers_of (part_of counts_place (2 * counts_number) c.args.saved.now)) c.requires.1
 
 pub counts_from_spec : {M : Type 1} → statement M
 counts_from_spec =

@@ -5,21 +5,21 @@ use borrow.Author.Rules.{rules}
 use Rattle.checkpoint.proofs.restore.progress.Statement.{statement}
 use Rattle.checkpoint.proofs.restore.progress.Tie as tie
 
-total_requires : tie.Need-total-requires
-total_requires c κs = won_sums c.before.before.before.requires
+total-requires : tie.Need-total-requires
+total-requires c κs = won_sums c.requires
 
-sub_t9 : tie.Need-overflow-sub-t9
-sub_t9 c =
-    let x = c.before.before.before.before.requires in omega (arith, c.total.ensures (won_sums x), x.won_live)
+overflow_sub-result : tie.Need-overflow_sub-result
+overflow_sub-result c =
+    let x = c.requires in omega (arith, c.total.ensures (won_sums x), x.won_live)
 
 returns : tie.Need-returns
 returns c =
     λ x.
-    let a = c.before.before.before.before.before.before.before.args in
-    let won = c.before.before.before.total.ensures (won_sums x) in
+    let a = c.args in
+    let won = c.total.ensures (won_sums x) in
     same_starts a.numbers.now a.running a.ring won
 
 pub progress_spec : {M : Type 1} → statement M
 progress_spec =
     tie.close
-    (tie.spec (λ c. search rules) total_requires sub_t9 (λ c. search rules) (λ c. search rules) (λ c. search rules) returns)
+    (tie.spec (λ c. search rules) total-requires overflow_sub-result (λ c. search rules) (λ c. search rules) (λ c. search rules) returns)

@@ -11,135 +11,85 @@ use borrow.Author.Rules.{rules}
 use Rattle.checkpoint.proofs.restore.restore.Statement.{statement}
 use Rattle.checkpoint.proofs.restore.restore.Tie as tie
 
--- back from how many run to the runs put, from there to the workers, the words of these, the marks, the tallies and the counts, to the
--- place of the tallies, and to the entry
-abbrev put : tie.After-running → tie.After-put-runs
-put c = c.before.before.before.before.before
+counts_from-requires : tie.Need-counts_from-requires
+counts_from-requires c κs = (omega (arith, long c.requires), refl)
 
-abbrev taken : tie.After-put-runs → tie.After-take-workers
-taken c = c.before.before.before.before.before
+tallies_from-requires : tie.Need-tallies_from-requires
+tallies_from-requires c κs =
+    let x = c.requires in
+    omega (arith, long x, x.tallies_long, few x, c.tallies-tallies_place.ensures)
 
-abbrev lent : tie.After-take-workers → tie.After-words
-lent c = c.before.before.before
+marks_from-requires : tie.Need-marks_from-requires
+marks_from-requires c κs =
+    let x = c.requires in
+    (omega (arith, long x, x.marks_long, c.marks.ensures), marks_bytes x c.marks.ensures)
 
-abbrev marked : tie.After-words → tie.After-marks-from
-marked c = c.before.before.before
+slice_bounds-words-count : tie.Need-slice_bounds-words-count
+slice_bounds-words-count c = omega (arith, c.tallies-tallies_place.ensures)
 
-abbrev tallied : tie.After-marks-from → tie.After-tallies-from
-tallied c = c.before.before.before.before.before
+slice_bounds-words-start : tie.Need-slice_bounds-words-start
+slice_bounds-words-start c = omega (arith, c.tallies-tallies_place.ensures)
 
-abbrev counted : tie.After-tallies-from → tie.After-counts-from
-counted c = c.before.before.before
+slice_bounds-words-end : tie.Need-slice_bounds-words-end
+slice_bounds-words-end c =
+    omega (arith, long c.requires, c.tallies-tallies_place.ensures)
 
-abbrev at_place : tie.After-counts-from → tie.After-tallies
-at_place c = c.before.before
-
-abbrev entry : tie.After-tallies → tie.Start
-entry c = c.before.before.before.before.before.before.before
-
--- all the way from the words
-abbrev place : tie.After-marks-from → tie.After-tallies
-place c = at_place (counted (tallied c))
-
-abbrev first : tie.After-words → tie.Start
-first c = entry (place (marked c))
-
-counts_from_requires : tie.Need-counts-from-requires
-counts_from_requires c κs = (omega (arith, long (entry c.before).requires), refl)
-
-tallies_from_requires : tie.Need-tallies-from-requires
-tallies_from_requires c κs =
-    let p = at_place c.before.before in
-    let x = (entry p).pre in
-    omega (arith, long x, x.tallies_long, few x, p.tallies.ensures)
-
-marks_from_requires : tie.Need-marks-from-requires
-marks_from_requires c κs =
-    let m = c.before in
-    let x = (entry (at_place (counted m.before.before.before))).requires in
-    (omega (arith, long x, x.marks_long, m.marks.ensures), marks_bytes x m.marks.ensures)
-
-sub_words : tie.Need-overflow-sub-words
-sub_words c = omega (arith, (place c.before.before).tallies.ensures)
-
-part_words_start : tie.Need-slice-bounds-words-start
-part_words_start c = omega (arith, (place c.before.before).tallies.ensures)
-
-part_words_end : tie.Need-slice-bounds-words-end
-part_words_end c =
-    let p = place c.before.before in omega (arith, long (entry p).pre, p.tallies.ensures)
-
-sub_at : tie.Need-overflow-sub-at
-sub_at c = let x = (first c).requires in omega (arith, long x, work_room x)
+overflow_sub-at : tie.Need-overflow_sub-at
+overflow_sub-at c = let x = c.requires in omega (arith, long x, work_room x)
 
 -- the stretches, as they are lent
-stretches_are : (c : tie.After-words) → let a = (first c).args in let at = length a.saved.now - length a.work.now in
-    take (length a.saved.now - at) (drop at a.saved.now) ≡ memory (objects (first c).requires.graph) (first c).requires.state.workers
+stretches_are : (c : tie.After-words-1) → let a = c.args in let at = length a.saved.now - length a.work.now in
+    take (length a.saved.now - at) (drop at a.saved.now) ≡ memory (objects c.requires.graph) c.requires.state.workers
 stretches_are c =
-    let a = (first c).args in
-    rest_lent a.saved.now (length a.saved.now - length a.work.now) ∙ work_is (first c).requires
+    let a = c.args in
+    rest_lent a.saved.now (length a.saved.now - length a.work.now) ∙ work_is c.requires
 
-take_workers_requires : tie.Need-take-workers-requires
-take_workers_requires c κs =
-    let w = c.before.before in
-    let x = (first w).requires in
-    all_restorable x (records_lent x (place (marked w)).tallies.ensures) (stretches_are w)
+take_workers-requires : tie.Need-take_workers-requires
+take_workers-requires c κs =
+    let x = c.requires in
+    all_restorable x (records_lent x c.tallies-tallies_place.ensures) (stretches_are c.before.before)
 
-put_runs_requires : tie.Need-put-runs-requires
-put_runs_requires c κs =
-    let t = c.before.before.before.before in
-    let w = lent t in
-    let x = (first w).pre in
-    puttable x (records_lent x (place (marked w)).tallies.ensures) (stretches_are w) t.take_workers.ensures.long
+put_runs-requires : tie.Need-put_runs-requires
+put_runs-requires c κs =
+    let x = c.requires in
+    puttable x (records_lent x c.tallies-tallies_place.ensures) (stretches_are c.before.before.before.before.before.before) c.take_workers.ensures.long
 
-running_requires : tie.Need-running-requires
-running_requires c κs =
-    let w = lent (taken c.before.before.before.before) in
-    let x = (first w).pre in
-    ((all_restorable x (records_lent x (place (marked w)).tallies.ensures) (stretches_are w)).words_long, few x)
+running-requires : tie.Need-running-requires
+running-requires c κs =
+    let x = c.requires in
+    ((all_restorable x (records_lent x c.tallies-tallies_place.ensures) (stretches_are c.before.before.before.before.before.before.before.before.before.before)).words_long, few x)
 
-ring_from_requires : tie.Need-ring-from-requires
-ring_from_requires c κs = omega (arith, long (first (lent (taken (put c)))).requires)
+ring_from-requires : tie.Need-ring_from-requires
+ring_from-requires c κs = omega (arith, long c.requires)
 
-progress_requires : tie.Need-progress-requires
-progress_requires c κs =
-    let w = lent (taken (put c.before)) in
-    let t = tallied (marked w) in
-    let p = place (marked w) in
-    let x = (first w).pre in
-    telling x (records_lent x p.tallies.ensures) (stretches_are w) ((counted t).counts_from.ensures ∙ numbers_are x)
-    (t.tallies_from.ensures ∙ tallies_are x p.tallies.ensures)
+progress-requires : tie.Need-progress-requires
+progress-requires c κs =
+    let x = c.requires in
+    telling x (records_lent x c.tallies-tallies_place.ensures) (stretches_are c.before.before.before.before.before.before.before.before.before.before.before.before) (c.counts_from.ensures ∙ numbers_are x)
+    (c.tallies_from.ensures ∙ tallies_are x c.tallies-tallies_place.ensures)
 
-same_length : tie.Need-same-length
-same_length c = omega (arith, (marked (lent (taken (put c.before.before)))).marks_from.auto.1.1.0)
+shape_of-marks : tie.Need-shape_of-marks
+shape_of-marks c = omega (arith, c.marks_from.auto.marks)
 
-same_length_2 : tie.Need-same-length-2
-same_length_2 c = omega (arith, (put c.before.before).put_runs.auto.1.1.1.1.0)
+shape_of-work : tie.Need-shape_of-work
+shape_of-work c = omega (arith, c.put_runs.auto.work)
 
-same_length_3 : tie.Need-same-length-3
-same_length_3 c = omega (arith, (tallied (marked (lent (taken (put c.before.before))))).tallies_from.auto.1.1.0)
+shape_of-tallies : tie.Need-shape_of-tallies
+shape_of-tallies c = omega (arith, c.tallies_from.auto.tallies)
 
 returns : tie.Need-returns
 returns c =
     λ x.
-    let ring = c.before in
-    let run = ring.before in
-    let done = put run in
-    let placed = taken done in
-    let w = lent placed in
-    let m = marked w in
-    let t = tallied m in
-    let p = place m in
-    all_held x (records_lent x p.tallies.ensures) (rest_lent (first w).args.saved.now (length (first w).args.saved.now - length (first w).args.work.now) ∙ work_is x)
-    ((counted t).counts_from.ensures ∙ numbers_are x)
-    (t.tallies_from.ensures ∙ tallies_are x p.tallies.ensures) (m.marks_from.ensures ∙ marks_are x m.before.before.marks.ensures)
-    done.put_runs.ensures placed.take_workers.ensures run.running.ensures ring.ring_from.ensures c.progress.ensures
+    all_held x (records_lent x c.tallies-tallies_place.ensures) (rest_lent c.args.saved.now (length c.args.saved.now - length c.args.work.now) ∙ work_is x)
+    (c.counts_from.ensures ∙ numbers_are x)
+    (c.tallies_from.ensures ∙ tallies_are x c.tallies-tallies_place.ensures) (c.marks_from.ensures ∙ marks_are x c.marks.ensures)
+    c.put_runs.ensures c.take_workers.ensures c.running.ensures c.ring_from.ensures c.progress.ensures
 
 pub restore_spec : {M : Type 1} → statement M
 restore_spec =
     tie.close
-    (tie.spec (λ c κs. few c.before.before.before.before.before.before.requires) (λ c. search rules) counts_from_requires tallies_from_requires
-    (λ c κs. few (entry (at_place (counted c.before.before))).requires) marks_from_requires sub_words part_words_start
-    part_words_end sub_at (λ c. search rules) (λ c. search rules) (λ c. search rules) (λ c. search rules) take_workers_requires put_runs_requires
-    (λ c. search rules) running_requires ring_from_requires progress_requires same_length same_length_2 same_length_3
+    (tie.spec (λ c κs. few c.requires) (λ c. search rules) counts_from-requires tallies_from-requires
+    (λ c κs. few c.requires) marks_from-requires slice_bounds-words-count slice_bounds-words-start
+    slice_bounds-words-end overflow_sub-at (λ c. search rules) (λ c. search rules) (λ c. search rules) (λ c. search rules) take_workers-requires put_runs-requires
+    (λ c. search rules) running-requires ring_from-requires progress-requires shape_of-marks shape_of-work shape_of-tallies
     (λ c. search rules) returns)

@@ -6,17 +6,17 @@ use borrow.Author.Rules.{rules}
 use Rattle.checkpoint.proofs.restore.ring_from.Statement.{statement}
 use Rattle.checkpoint.proofs.restore.ring_from.Tie as tie
 
-cast_t4 : tie.Need-overflow-cast-t4
-cast_t4 c = omega (arith, c.shared_slice_known.given ring_place)
+overflow_cast-result : tie.Need-overflow_cast-result
+overflow_cast-result c = omega (arith, c.shared_slice_known-1.given ring_place)
 
-cast_t9 : tie.Need-overflow-cast-t9
-cast_t9 c = omega (arith, c.shared_slice_known2.given (ring_place + 1))
+overflow_cast-result-2 : tie.Need-overflow_cast-result-2
+overflow_cast-result-2 c = omega (arith, c.shared_slice_known-2-1.given (ring_place + 1))
 
-cast_t14 : tie.Need-overflow-cast-t14
-cast_t14 c = omega (arith, c.shared_slice_known3.given (ring_place + 2))
+overflow_cast-result-3 : tie.Need-overflow_cast-result-3
+overflow_cast-result-3 c = omega (arith, c.shared_slice_known-3-1.given (ring_place + 2))
 
 pub ring_from_spec : {M : Type 1} → statement M
 ring_from_spec =
     tie.close
-    (tie.spec (λ c. search rules) cast_t4 (λ c. search rules) (λ c. search rules) (λ c. search rules) cast_t9 (λ c. search rules)
-    (λ c. search rules) (λ c. search rules) cast_t14 (λ c. search rules))
+    (tie.spec (λ c. search rules) overflow_cast-result (λ c. search rules) (λ c. search rules) (λ c. search rules) overflow_cast-result-2 (λ c. search rules)
+    (λ c. search rules) (λ c. search rules) overflow_cast-result-3 (λ c. search rules))

@@ -11,9 +11,9 @@ use Rattle.checkpoint.proofs.restore.tallies_from.Tie as tie
 
 returns : tie.Need-returns
 returns c =
-    let a = c.before.before.before.before.before.before.before.args in
+    let a = c.args in
     let k = length a.tallies.now in
-    c.before.before.take_numbers.ensures ∙ ap (λ (l : List ℕ). numbers_of l k) (part_lent a.saved.now a.at (2 * k))
+    c.take_numbers.ensures ∙ ap (λ (l : List ℕ). numbers_of l k) (part_lent a.saved.now a.at (2 * k))
 
 pub tallies_from_spec : {M : Type 1} → statement M
 tallies_from_spec =

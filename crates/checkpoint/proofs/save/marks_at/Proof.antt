@@ -9,9 +9,8 @@ use Rattle.checkpoint.proofs.save.marks_at.Tie as tie
 
 returns : tie.Need-returns
 returns c =
-    let start = c.before.before.before.before.before.before in
-    let a = start.args in
-    lent_back a.saved.now a.at (a.at + length a.marks.now) a.marks.now c.before.before.put_bytes.ensures refl
+    let a = c.args in
+    lent_back a.saved.now a.at (a.at + length a.marks.now) a.marks.now c.put_bytes.ensures refl
 
 pub marks_at_spec : {M : Type 1} → statement M
 marks_at_spec =

@@ -12,10 +12,9 @@ use Rattle.checkpoint.proofs.save.numbers_at.Tie as tie
 
 returns : tie.Need-returns
 returns c =
-    let start = c.before.before.before.before.before.before in
-    let a = start.args in
+    let a = c.args in
     let numbers = a.numbers.now in
-    lent_back a.saved.now a.at (a.at + 2 * length numbers) (laid two_words numbers) c.before.before.put_numbers.ensures
+    lent_back a.saved.now a.at (a.at + 2 * length numbers) (laid two_words numbers) c.put_numbers.ensures
     (omega (arith, two_long numbers))
 
 pub numbers_at_spec : {M : Type 1} → statement M

@@ -5,101 +5,61 @@ use borrow.Author.Rules.{rules}
 use Rattle.checkpoint.proofs.save.save.Statement.{statement}
 use Rattle.checkpoint.proofs.save.save.Tie as tie
 
--- back from the stretches to the marks, from there to the tallies, the workers, the head and the counts, and to the entry
-abbrev marked : tie.After-work-at → tie.After-marks-at
-marked c = c.before.before.before.before
+heads_at-requires : tie.Need-heads_at-requires
+heads_at-requires c κs = let x = c.requires in (omega (arith, room x), narrow x)
 
-abbrev tallied : tie.After-marks-at → tie.After-numbers-at
-tallied c = c.before.before.before.before.before
+workers_at-requires : tie.Need-workers_at-requires
+workers_at-requires c κs =
+    let x = c.requires in
+    (x.recorded, omega (arith, room x, long₁ x c.counted.ensures c.heads_at.ensures))
 
-abbrev recorded : tie.After-numbers-at → tie.After-workers-at
-recorded c = c.before.before.before.before.before
-
-abbrev headed : tie.After-workers-at → tie.After-heads-at
-headed c = c.before.before.before.before
-
-abbrev counted : tie.After-heads-at → tie.After-counted
-counted c = c.before.before
-
-abbrev entry : tie.After-counted → tie.Start
-entry c = c.before.before.before.before.before.before
-
-heads_at_requires : tie.Need-heads-at-requires
-heads_at_requires c κs = let x = (entry c.before).requires in (omega (arith, room x), narrow x)
-
-workers_at_requires : tie.Need-workers-at-requires
-workers_at_requires c κs =
-    let h = c.before.before.before in
-    let k = counted h in
-    let x = (entry k).pre in
-    (x.recorded, omega (arith, room x, long₁ x k.counted.ensures h.heads_at.ensures))
-
-numbers_at_requires : tie.Need-numbers-at-requires
-numbers_at_requires c κs =
-    let at = c.before in
-    let r = at.before.before.before in
-    let h = headed r in
-    let k = counted h in
-    let x = (entry k).pre in
+numbers_at-requires : tie.Need-numbers_at-requires
+numbers_at-requires c κs =
+    let x = c.requires in
     omega (
       arith,
       room x,
       tallies_many x,
-      at.tallies.ensures,
-      long₂ x k.counted.ensures h.heads_at.ensures (r.workers_at.ensures x.recorded),
+      c.tallies.ensures,
+      long₂ x c.counted.ensures c.heads_at.ensures (c.workers_at.ensures x.recorded),
     )
 
-marks_at_requires : tie.Need-marks-at-requires
-marks_at_requires c κs =
-    let at = c.before in
-    let t = at.before.before.before in
-    let r = recorded t in
-    let h = headed r in
-    let k = counted h in
-    let x = (entry k).pre in
+marks_at-requires : tie.Need-marks_at-requires
+marks_at-requires c κs =
+    let x = c.requires in
     omega (
       arith,
       room x,
       marks_long x,
-      at.marks.ensures,
-      long₃ x k.counted.ensures h.heads_at.ensures (r.workers_at.ensures x.recorded) t.before.before.tallies.ensures
-          t.numbers_at.ensures,
+      c.marks.ensures,
+      long₃ x c.counted.ensures c.heads_at.ensures (c.workers_at.ensures x.recorded) c.tallies.ensures
+          c.numbers_at.ensures,
     )
 
-work_at_requires : tie.Need-work-at-requires
-work_at_requires c κs =
-    let m = c.before.before.before in
-    let t = tallied m in
-    let r = recorded t in
-    let h = headed r in
-    let k = counted h in
-    let x = (entry k).pre in
+work_at-requires : tie.Need-work_at-requires
+work_at-requires c κs =
+    let x = c.requires in
     omega (
       arith,
       x.long,
       work_long x,
-      long₄ x k.counted.ensures h.heads_at.ensures (r.workers_at.ensures x.recorded) t.before.before.tallies.ensures
-          t.numbers_at.ensures m.before.before.marks.ensures m.marks_at.ensures,
+      long₄ x c.counted.ensures c.heads_at.ensures (c.workers_at.ensures x.recorded) c.tallies.ensures
+          c.numbers_at.ensures c.marks.ensures c.marks_at.ensures,
     )
 
 returns : tie.Need-returns
 returns c =
     λ x.
-    let w = c.before.before in
-    let m = marked w in
-    let t = tallied m in
-    let r = recorded t in
-    let h = headed r in
-    all_written x (counted h).counted.ensures h.heads_at.ensures (r.workers_at.ensures x.recorded) t.before.before.tallies.ensures
-    t.numbers_at.ensures m.before.before.marks.ensures m.marks_at.ensures w.work_at.ensures
+    all_written x c.counted.ensures c.heads_at.ensures (c.workers_at.ensures x.recorded) c.tallies.ensures
+    c.numbers_at.ensures c.marks.ensures c.marks_at.ensures c.work_at.ensures
 
-same_length : tie.Need-same-length
-same_length c =
-    let x = (entry (counted (headed (recorded (tallied (marked c.before.before)))))).requires in
+shape_of-saved : tie.Need-shape_of-saved
+shape_of-saved c =
+    let x = c.requires in
     same_long x (returns c x)
 
 pub save_spec : {M : Type 1} → statement M
 save_spec =
     tie.close
-    (tie.spec (λ c κs. search rules) heads_at_requires workers_at_requires (λ c κs. search rules) numbers_at_requires (λ c κs. search rules)
-    marks_at_requires work_at_requires same_length returns)
+    (tie.spec (λ c κs. search rules) heads_at-requires workers_at-requires (λ c κs. search rules) numbers_at-requires (λ c κs. search rules)
+    marks_at-requires work_at-requires shape_of-saved returns)

@@ -9,10 +9,9 @@ use Rattle.checkpoint.proofs.save.work_at.Tie as tie
 
 returns : tie.Need-returns
 returns c =
-    let start = c.before.before.before.before.before.before in
-    let a = start.args in
+    let a = c.args in
     let size = length a.saved.now in
-    lent_back a.saved.now (size - length a.work.now) size a.work.now c.before.before.copy.ensures (omega (arith, start.requires))
+    lent_back a.saved.now (size - length a.work.now) size a.work.now c.copy.ensures (omega (arith, c.requires))
 
 pub work_at_spec : {M : Type 1} → statement M
 work_at_spec =

@@ -10,11 +10,10 @@ use Rattle.checkpoint.proofs.save.workers_at.Tie as tie
 
 returns : tie.Need-returns
 returns c =
-    let end = c.before.before.before.before in
-    let a = end.before.before.before.args in
+    let a = c.args in
     λ x.
-    lent_back a.saved.now workers_place end.tallies.result (workers_words x.workers x.rested) (c.before.before.put_workers.ensures x)
-    (omega (arith, end.tallies.ensures, workers_length x.workers x.rested, x.count))
+    lent_back a.saved.now workers_place c.tallies-end.result (workers_words x.workers x.rested) (c.put_workers.ensures x)
+    (omega (arith, c.tallies-end.ensures, workers_length x.workers x.rested, x.count))
 
 pub workers_at_spec : {M : Type 1} → statement M
 workers_at_spec =

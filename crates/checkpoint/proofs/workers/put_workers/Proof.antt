@@ -8,48 +8,41 @@ use Rattle.checkpoint.proofs.Records.{Putting, putting_none, putting_next, putti
 use Rattle.checkpoint.proofs.workers.put_workers.Statement.{statement}
 use Rattle.checkpoint.proofs.workers.put_workers.Tie as tie
 
-abbrev invariant_loop : tie.invariant-loop
+abbrev invariant_loop : tie.invariant-loop-b
 invariant_loop regs workers out₀ b₀ out b = ((x : Recorded regs workers) → Putting x b out) × (length out ≡ 4 * workers)
 
-abbrev decreases_loop : tie.decreases-loop
+abbrev decreases_loop : tie.decreases-loop-b
 decreases_loop regs workers out₀ b₀ out b = workers - b
 
--- back from a worker's words to the entry
-abbrev entry : tie.After-saved-of invariant_loop decreases_loop → tie.Start invariant_loop decreases_loop
-entry c = c.before.before.before.before.before.before
+loop-b-init : tie.Need-loop-b-init invariant_loop decreases_loop
+loop-b-init c = ((λ x. putting_none x c.requires.1), c.requires.1)
 
-loop_holds : tie.Need-loop-init invariant_loop decreases_loop
-loop_holds c = let a = c.before.before in ((λ x. putting_none x a.requires.1), a.requires.1)
+load-requires : tie.Need-load-requires invariant_loop decreases_loop
+load-requires c κs =
+    record { low = omega (arith, c.requires.0.few); long = omega (arith, c.requires.0.regs_long) }
 
-load_requires : tie.Need-load-requires invariant_loop decreases_loop
-load_requires c κs =
-    let a = c.before.before.before.before in
-    record { low = omega (arith, a.requires.0.few); long = omega (arith, a.requires.0.regs_long) }
+saved_of-w-requires : tie.Need-saved_of-w-requires invariant_loop decreases_loop
+saved_of-w-requires c κs =
+    rw c.load.ensures (c.requires.0.order c.loop-b.b (omega arith))
 
-saved_of_requires : tie.Need-saved-of-requires invariant_loop decreases_loop
-saved_of_requires c κs =
-    let a = c.before.before.before.before.before in
-    rw c.load.ensures (a.requires.0.order c.before.before.loop.b (omega arith))
+loop-b-preserved : tie.Need-loop-b-preserved invariant_loop decreases_loop
+loop-b-preserved c = (
+  λ x. let w = c.saved_of-w.ensures ∙ ap words_of c.load.ensures in rw w (putting_next x (c.loop-b.invariant.0 x) (omega arith)),
+  simp length-set c.loop-b.invariant.1,
+)
 
-loop_again : tie.Need-loop-preserved invariant_loop decreases_loop
-loop_again c =
-    let l = c.before.before.before in (
-      λ x. let w = c.saved_of.ensures ∙ ap words_of c.before.load.ensures in rw w (putting_next x (l.loop.invariant.0 x) (omega arith)),
-      simp length-set l.loop.invariant.1,
-    )
-
-same_length : tie.Need-same-length invariant_loop decreases_loop
-same_length c = omega (arith, c.before.loop.invariant.1, c.before.before.before.before.requires.1)
+shape_of-out : tie.Need-shape_of-out invariant_loop decreases_loop
+shape_of-out c = omega (arith, c.loop-b.invariant.1, c.requires.1)
 
 returns : tie.Need-returns invariant_loop decreases_loop
-returns c = λ x. putting_all x (c.before.loop.invariant.0 x) (omega arith)
+returns c = λ x. putting_all x (c.loop-b.invariant.0 x) (omega arith)
 
 pub put_workers_spec : {M : Type 1} → statement M
 put_workers_spec =
     tie.close
-    (tie.spec invariant_loop decreases_loop loop_holds load_requires saved_of_requires (λ c. omega (arith, (entry c).requires.0.few)) (λ c. omega (arith, (entry c).requires.0.few))
-    (λ c. omega (arith, (entry c).requires.0.few)) (λ c. omega arith) (λ c. omega (arith, (entry c).requires.0.few))
-    (λ c. omega (arith, (entry c).requires.0.few)) (λ c. simp length-set (omega arith)) (λ c. omega (arith, (entry c).requires.0.few))
-    (λ c. omega (arith, (entry c).requires.0.few)) (λ c. simp length-set (omega arith)) (λ c. omega (arith, (entry c).requires.0.few))
-    (λ c. omega (arith, (entry c).requires.0.few)) (λ c. simp length-set (omega arith)) (λ c. omega (arith, (entry c).requires.0.few))
-    (λ c. omega arith) loop_again same_length returns)
+    (tie.spec invariant_loop decreases_loop loop-b-init load-requires saved_of-w-requires (λ c. omega (arith, c.requires.0.few)) (λ c. omega (arith, c.requires.0.few))
+    (λ c. omega (arith, c.requires.0.few)) (λ c. omega arith) (λ c. omega (arith, c.requires.0.few))
+    (λ c. omega (arith, c.requires.0.few)) (λ c. simp length-set (omega arith)) (λ c. omega (arith, c.requires.0.few))
+    (λ c. omega (arith, c.requires.0.few)) (λ c. simp length-set (omega arith)) (λ c. omega (arith, c.requires.0.few))
+    (λ c. omega (arith, c.requires.0.few)) (λ c. simp length-set (omega arith)) (λ c. omega (arith, c.requires.0.few))
+    (λ c. omega arith) loop-b-preserved shape_of-out returns)

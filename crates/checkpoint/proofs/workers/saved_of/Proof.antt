@@ -4,14 +4,14 @@ use borrow.Author.Tests.{lt-ltb, le-ltb}
 use Rattle.checkpoint.proofs.workers.saved_of.Statement.{statement}
 use Rattle.checkpoint.proofs.workers.saved_of.Tie as tie
 
+returns-then-status-lt-POLL : tie.Need-returns-then-status-lt-POLL
+returns-then-status-lt-POLL c = simp (lt-ltb _ _ c.if-status-lt-POLL.true)
+
+overflow_sub-result : tie.Need-overflow_sub-result
+overflow_sub-result c = omega (arith, c.requires c.if-status-lt-POLL.false)
+
 returns : tie.Need-returns
-returns c = simp (lt-ltb _ _ c.if1.true)
-
-sub_t4 : tie.Need-overflow-sub-t4
-sub_t4 c = omega (arith, c.before.before.requires c.before.if1.false)
-
-returns_2 : tie.Need-returns-2
-returns_2 c = simp (le-ltb _ _ c.before.if1.false)
+returns c = simp (le-ltb _ _ c.if-status-lt-POLL.false)
 
 pub saved_of_spec : {M : Type 1} → statement M
-saved_of_spec = tie.close (tie.spec returns sub_t4 returns_2)
+saved_of_spec = tie.close (tie.spec returns-then-status-lt-POLL overflow_sub-result returns)

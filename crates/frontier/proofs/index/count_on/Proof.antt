@@ -5,17 +5,17 @@ use mathlib.Core.Logic.{⊎_elim}
 use Rattle.frontier.proofs.index.count_on.Statement.{statement}
 use Rattle.frontier.proofs.index.count_on.Tie as tie
 
-abbrev invariant_loop : tie.invariant-loop
+abbrev invariant_loop : tie.invariant-loop-j
 invariant_loop offsets e low passed₀ j₀ passed j = (passed ≤ j) × (j ≤ 16)
 
-abbrev decreases_loop : tie.decreases-loop
+abbrev decreases_loop : tie.decreases-loop-j
 decreases_loop offsets e low passed₀ j₀ passed j = 16 - j
 
-loop_again : tie.Need-loop-preserved invariant_loop decreases_loop
-loop_again c = ⊎_elim (λ t. (omega (arith, t.1), omega arith)) (λ t. (omega (arith, t.1), omega arith)) c.if1.branch
+loop-j-preserved : tie.Need-loop-j-preserved invariant_loop decreases_loop
+loop-j-preserved c = ⊎_elim (λ t. (omega (arith, t.passed-is), omega arith)) (λ t. (omega (arith, t.passed-is), omega arith)) c.if-offsets-low.branch-raw
 
 pub count_on_spec : {M : Type 1} → statement M
 count_on_spec =
     tie.close
     (tie.spec invariant_loop decreases_loop (λ c. omega arith) (λ c. omega arith) (λ c. omega arith) (λ c. omega arith) (λ c. omega arith)
-    (λ c. omega arith) (λ c. omega arith) (λ c. omega arith) loop_again (λ c. omega arith) (λ c. omega arith) (λ c. omega arith))
+    (λ c. omega arith) (λ c. omega arith) (λ c. omega arith) loop-j-preserved (λ c. omega arith) (λ c. omega arith) (λ c. omega arith))

@@ -7,17 +7,17 @@ use lib.ListN.{length, length-set}
 use Rattle.frontier.proofs.index.level.Statement.{statement}
 use Rattle.frontier.proofs.index.level.Tie as tie
 
-abbrev invariant_loop : tie.invariant-loop
+abbrev invariant_loop : tie.invariant-loop-k
 invariant_loop index₀ last₀ k₀ k_end index last k = (length index ≡ length index₀) × (k ≤ length index₀)
 
-abbrev decreases_loop : tie.decreases-loop
+abbrev decreases_loop : tie.decreases-loop-k
 decreases_loop index₀ last₀ k₀ k_end index last k = length index₀ - k
 
-loop_again : tie.Need-loop-preserved invariant_loop decreases_loop
-loop_again c = let l = c.before.before.before.loop in (simp length-set l.invariant.0, omega arith)
+loop-k-preserved : tie.Need-loop-k-preserved invariant_loop decreases_loop
+loop-k-preserved c = let l = c.loop-k in (simp length-set l.invariant.0, omega arith)
 
 pub level_spec : {M : Type 1} → statement M
 level_spec =
     tie.close
     (tie.spec invariant_loop decreases_loop (λ c. (refl, omega arith)) (λ c. omega arith) (λ c. omega arith) (λ c. omega arith)
-    (λ c. omega arith) (λ c. omega arith) (λ c. omega arith) loop_again (λ c. c.before.loop.invariant.0) (λ c. search rules))
+    (λ c. omega arith) (λ c. omega arith) (λ c. omega arith) loop-k-preserved (λ c. c.loop-k.invariant.0) (λ c. search rules))

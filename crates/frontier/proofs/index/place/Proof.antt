@@ -8,24 +8,23 @@ use Rattle.graph.specs.Limits.{most_references}
 use Rattle.frontier.proofs.index.place.Statement.{statement}
 use Rattle.frontier.proofs.index.place.Tie as tie
 
-abbrev invariant_loop : tie.invariant-loop
+abbrev invariant_loop : tie.invariant-loop-v
 invariant_loop offsets index₀ v₀ v_end index v = (length index ≡ length index₀) × (v ≤ length offsets - 1)
 
-abbrev decreases_loop : tie.decreases-loop
+abbrev decreases_loop : tie.decreases-loop-v
 decreases_loop offsets index₀ v₀ v_end index v = length offsets - 1 - v
 
 -- the offset that is read is at most that
-low : (c : tie.After-shared-slice-known invariant_loop decreases_loop) → let l = c.before.before in
-    get_or l.before.args.offsets.now l.loop.v 0 ≤ most_references
-low c = let l = c.before.before in l.before.requires.0.low l.loop.v (omega arith)
+low : (c : tie.After-shared_slice_known-1 invariant_loop decreases_loop) → get_or c.args.offsets.now c.loop-v.v 0 ≤ most_references
+low c = c.requires.0.low c.loop-v.v (omega arith)
 
-loop_again : tie.Need-loop-preserved invariant_loop decreases_loop
-loop_again c = let l = c.before.before.loop in (simp length-set l.invariant.0, omega arith)
+loop-v-preserved : tie.Need-loop-v-preserved invariant_loop decreases_loop
+loop-v-preserved c = let l = c.loop-v in (simp length-set l.invariant.0, omega arith)
 
 pub place_spec : {M : Type 1} → statement M
 place_spec =
     tie.close
     (tie.spec invariant_loop decreases_loop (λ c. omega (arith, c.requires.0.some)) (λ c. (refl, omega arith)) (λ c. search rules) (λ c. search rules) (λ c. search rules)
-    (λ c. omega (arith, low c)) (λ c. omega (arith, c.before.before.before.requires.0.few)) (λ c. omega (arith, low c)) (λ c. omega (arith, low c))
-    (λ c. let l = c.before.before in omega (arith, low c, l.loop.invariant.0, l.before.requires.1)) (λ c. search rules) (λ c. search rules)
-    loop_again (λ c. c.before.loop.invariant.0) (λ c. search rules))
+    (λ c. omega (arith, low c)) (λ c. omega (arith, c.requires.0.few)) (λ c. omega (arith, low c)) (λ c. omega (arith, low c))
+    (λ c. omega (arith, low c, c.loop-v.invariant.0, c.requires.1)) (λ c. search rules) (λ c. search rules)
+    loop-v-preserved (λ c. c.loop-v.invariant.0) (λ c. search rules))

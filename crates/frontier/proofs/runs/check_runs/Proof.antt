@@ -10,93 +10,78 @@ use Rattle.frontier.proofs.StretchLaws.{RunsAt, runs_start, runs_none, runs_out,
 use Rattle.frontier.proofs.runs.check_runs.Statement.{statement}
 use Rattle.frontier.proofs.runs.check_runs.Tie as tie
 
-abbrev invariant_loop : tie.invariant-loop
+abbrev invariant_loop : tie.invariant-loop-i
 invariant_loop offsets targets marks index stretch total₀ whole₀ pairs i₀ total whole i =
     RunsAt (graph offsets targets) marks stretch total whole i
 
-abbrev decreases_loop : tie.decreases-loop
+abbrev decreases_loop : tie.decreases-loop-i
 decreases_loop offsets targets marks index stretch total₀ whole₀ pairs i₀ total whole i = pairs - i
 
--- the loop, from where a pair has been found, and the entry
-abbrev at_loop : tie.Else1 invariant_loop decreases_loop → tie.At-loop invariant_loop decreases_loop
-at_loop c = c.before.before.before.before
+overflow_mul-from : tie.Need-overflow_mul-from invariant_loop decreases_loop
+overflow_mul-from c = omega (arith, c.requires.1)
 
-abbrev entry : tie.At-loop invariant_loop decreases_loop → tie.Start invariant_loop decreases_loop
-entry c = c.before.before.before.before.before.before
+offset_bounds-stretch-i : tie.Need-offset_bounds-stretch-i invariant_loop decreases_loop
+offset_bounds-stretch-i c = omega (arith, c.requires.1)
 
-mul_from : tie.Need-overflow-mul-from invariant_loop decreases_loop
-mul_from c = omega (arith, (entry c.before).pre.1)
+overflow_mul-to : tie.Need-overflow_mul-to invariant_loop decreases_loop
+overflow_mul-to c = omega (arith, c.requires.1)
 
-mul_from_2 : tie.Need-overflow-mul-from-2 invariant_loop decreases_loop
-mul_from_2 c = omega (arith, (entry c.before).pre.1)
+overflow_add-to : tie.Need-overflow_add-to invariant_loop decreases_loop
+overflow_add-to c = omega (arith, c.requires.1)
 
-mul_to : tie.Need-overflow-mul-to invariant_loop decreases_loop
-mul_to c = omega (arith, (entry c.before.before).pre.1)
+offset_bounds-stretch-i-in-loop-i : tie.Need-offset_bounds-stretch-i-in-loop-i invariant_loop decreases_loop
+offset_bounds-stretch-i-in-loop-i c = omega (arith, c.requires.1)
 
-add_to : tie.Need-overflow-add-to invariant_loop decreases_loop
-add_to c = omega (arith, (entry c.before.before).pre.1)
+returns-then-to-from : tie.Need-returns-then-to-from invariant_loop decreases_loop
+returns-then-to-from c =
+    let l = c.loop-i in
+    runs_end l.invariant refl (runs_none _ l.i (omega arith) c.if-to-from.true)
 
-mul_to_2 : tie.Need-overflow-mul-to-2 invariant_loop decreases_loop
-mul_to_2 c = omega (arith, (entry c.before.before).pre.1)
+returns-then-not-whole : tie.Need-returns-then-not-whole invariant_loop decreases_loop
+returns-then-not-whole c =
+    let l = c.loop-i in
+    runs_wrong (runs_part l.invariant (omega arith) c.if-to-from.false (not-true _ c.if-not-whole.true-raw))
+
+check_run-run-requires : tie.Need-check_run-run-requires invariant_loop decreases_loop
+check_run-run-requires c κs =
+    (c.requires.0, c.if-to-from.false)
+
+returns-then-not-sound : tie.Need-returns-then-not-sound invariant_loop decreases_loop
+returns-then-not-sound c =
+    let l = c.loop-i in
+    runs_wrong (runs_wrong_run l.invariant (omega arith) c.if-to-from.false c.check_run-run.ensures (not-true _ c.if-not-sound.true-raw))
+
+overflow_cast-total : tie.Need-overflow_cast-total invariant_loop decreases_loop
+overflow_cast-total c =
+    let l = c.loop-i in
+    omega (arith, c.shared_slice_known-in-loop-i-2-1.given (2 * l.i + 1))
+
+overflow_add-total : tie.Need-overflow_add-total invariant_loop decreases_loop
+overflow_add-total c =
+    omega (arith, c.shared_slice_known-in-loop-i-2-1.given (2 * c.loop-i.i + 1), c.loop-i.invariant.low, c.loop-i.invariant.high, c.requires.1)
+
+loop-i-preserved : tie.Need-loop-i-preserved invariant_loop decreases_loop
+loop-i-preserved c =
+    let l = c.loop-i in
+    let pair = c.if-to-from.false in
+    let w = not-false _ c.if-not-whole.false-raw in
+    let s = not-false _ c.if-not-sound.false-raw in
+    let found = c.check_run-run.ensures in
+    runs_next l.invariant (omega arith) pair found w s
+    (⊎_elim
+    (λ t. rw t.whole-is (flag_more l.invariant (omega arith) pair found (omega (arith, t.if-i-gt0.true)) w s))
+    (λ t. rw t.whole-is (flag_one l.invariant (omega arith) pair (omega (arith, t.if-i-gt0.false)) w))
+    c.if-i-gt0.branch-raw)
+    (c.shared_slice_known-in-loop-i-2-1.given (2 * l.i + 1)).fits
 
 returns : tie.Need-returns invariant_loop decreases_loop
 returns c =
-    let l = c.before.before.before.before.loop in
-    runs_end l.invariant refl (runs_none _ l.i (omega arith) c.if1.true)
-
-returns_2 : tie.Need-returns-2 invariant_loop decreases_loop
-returns_2 c =
-    let l = c.before.before.before.before.before.loop in
-    runs_wrong (runs_part l.invariant (omega arith) c.before.if1.false (not-true _ c.if2.true))
-
-check_run_requires : tie.Need-check-run-requires invariant_loop decreases_loop
-check_run_requires c κs =
-    let l = c.before.before.before.before.before in
-    ((entry l).requires.0, c.before.if1.false)
-
-returns_3 : tie.Need-returns-3 invariant_loop decreases_loop
-returns_3 c =
-    let done = c.before in
-    let pair = done.before.before in
-    let l = (at_loop pair).loop in
-    runs_wrong (runs_wrong_run l.inv (omega arith) pair.if1.false done.check_run.ensures (not-true _ c.if3.true))
-
-cast_total : tie.Need-overflow-cast-total invariant_loop decreases_loop
-cast_total c =
-    let pair = c.before.before.before.before in
-    let l = (at_loop pair).loop in
-    omega (arith, pair.before.shared_slice_known7.given (2 * l.i + 1))
-
-add_total : tie.Need-overflow-add-total invariant_loop decreases_loop
-add_total c =
-    let pair = c.before.before.before.before in
-    let l = at_loop pair in
-    omega (arith, pair.before.shared_slice_known7.given (2 * l.loop.i + 1), l.loop.inv.low, l.loop.inv.high, (entry l).pre.1)
-
-loop_again : tie.Need-loop-preserved invariant_loop decreases_loop
-loop_again c =
-    let done = c.before.before in
-    let whole = done.before in
-    let l = (at_loop whole.before).loop in
-    let pair = whole.before.if1.false in
-    let w = not-false _ whole.if2.false in
-    let s = not-false _ c.before.if3.false in
-    let found = done.check_run.ensures in
-    runs_next l.inv (omega arith) pair found w s
-    (⊎_elim
-    (λ t. rw t.1 (flag_more l.inv (omega arith) pair found (omega (arith, t.0.taken)) w s))
-    (λ t. rw t.1 (flag_one l.inv (omega arith) pair (omega (arith, t.0.left)) w))
-    c.if4.branch)
-    (whole.before.before.shared_slice_known7.given (2 * l.i + 1)).fits
-
-returns_4 : tie.Need-returns-4 invariant_loop decreases_loop
-returns_4 c =
-    let l = c.before.loop in
+    let l = c.loop-i in
     runs_end l.invariant (omega (arith, l.invariant.high)) (runs_out _ l.i (omega arith))
 
 pub check_runs_spec : {M : Type 1} → statement M
 check_runs_spec =
     tie.close
-    (tie.spec invariant_loop decreases_loop (λ c. runs_start) mul_from mul_from_2 (λ c. omega arith) mul_to add_to mul_to_2
-    (λ c. omega arith) returns returns_2 check_run_requires returns_3 (λ c. search rules) cast_total add_total
-    (λ c. search rules) (λ c. search rules) loop_again returns_4)
+    (tie.spec invariant_loop decreases_loop (λ c. runs_start) overflow_mul-from offset_bounds-stretch-i (λ c. omega arith) overflow_mul-to overflow_add-to offset_bounds-stretch-i-in-loop-i
+    (λ c. omega arith) returns-then-to-from returns-then-not-whole check_run-run-requires returns-then-not-sound (λ c. search rules) overflow_cast-total overflow_add-total
+    (λ c. search rules) (λ c. search rules) loop-i-preserved returns)

@@ -5,50 +5,37 @@ use Rattle.frontier.proofs.StretchLaws.{stretch_wrong, stretch_idle, wrong_runs,
 use Rattle.frontier.proofs.runs.check_stretch.Statement.{statement}
 use Rattle.frontier.proofs.runs.check_stretch.Tie as tie
 
--- the entry, and where the runs have been checked
-abbrev entry : tie.Else1 → tie.Start
-entry c = c.before.before.before.before.before.before
+returns-then-status-lt-GIVEN : tie.Need-returns-then-status-lt-GIVEN
+returns-then-status-lt-GIVEN c =
+    stretch_idle c.if-status-lt-GIVEN.true (c.requires.2 c.if-status-lt-GIVEN.true) c.zeros-sound.ensures
 
-abbrev checked : tie.Else4 → tie.After-check-runs
-checked c = c.before.before.before
+check_runs-runs-requires : tie.Need-check_runs-runs-requires
+check_runs-runs-requires c κs = let p = c.requires in (p.0, p.1)
+
+returns-then-not-sound : tie.Need-returns-then-not-sound
+returns-then-not-sound c =
+    stretch_wrong (wrong_runs c.if-status-lt-GIVEN.false c.check_runs-runs.ensures (not-true _ c.if-not-sound.true-raw))
+
+returns-then-pairs-eq0 : tie.Need-returns-then-pairs-eq0
+returns-then-pairs-eq0 c =
+    stretch_wrong (wrong_none c.if-status-lt-GIVEN.false c.check_runs-runs.ensures (not-false _ c.if-not-sound.false-raw) c.if-pairs-eq0.true)
+
+returns-then-total-batch : tie.Need-returns-then-total-batch
+returns-then-total-batch c =
+    stretch_wrong (wrong_batch c.if-status-lt-GIVEN.false c.check_runs-runs.ensures (not-false _ c.if-not-sound.false-raw) c.if-total-batch.true)
+
+overflow_mul-pairs : tie.Need-overflow_mul-pairs
+overflow_mul-pairs c = omega (arith, c.check_runs-runs.ensures.room, c.requires.1)
+
+zeros-clear-requires : tie.Need-zeros-clear-requires
+zeros-clear-requires c κs = c.check_runs-runs.ensures.room
 
 returns : tie.Need-returns
 returns c =
-    let t = c.before in
-    stretch_idle t.if1.true (t.before.before.before.before.before.before.requires.2 t.if1.true) c.zeros.ensures
-
-check_runs_requires : tie.Need-check-runs-requires
-check_runs_requires c κs = let p = (entry c).requires in (p.0, p.1)
-
-returns_2 : tie.Need-returns-2
-returns_2 c =
-    let done = c.before in
-    stretch_wrong (wrong_runs done.before.if1.false done.check_runs.ensures (not-true _ c.if2.true))
-
-returns_3 : tie.Need-returns-3
-returns_3 c =
-    let done = c.before.before in
-    stretch_wrong (wrong_none done.before.if1.false done.check_runs.ensures (not-false _ c.before.if2.false) c.if3.true)
-
-returns_4 : tie.Need-returns-4
-returns_4 c =
-    let done = c.before.before.before in
-    stretch_wrong (wrong_batch done.before.if1.false done.check_runs.ensures (not-false _ c.before.before.if2.false) c.if4.true)
-
-mul_zeros : tie.Need-overflow-mul-zeros
-mul_zeros c = omega (arith, (checked c).check_runs.ensures.room, (entry (checked c).before).requires.1)
-
-zeros_requires_2 : tie.Need-zeros-requires-2
-zeros_requires_2 c κs = (checked c).check_runs.ensures.room
-
-returns_5 : tie.Need-returns-5
-returns_5 c =
-    let some = c.before in
-    let done = checked some in
-    stretch_right done.before.if1.left done.check_runs.ensures (not-false _ some.before.before.if2.false) some.before.if3.false
-    some.if4.false c.zeros2.ensures
+    stretch_right c.if-status-lt-GIVEN.false c.check_runs-runs.ensures (not-false _ c.if-not-sound.false-raw) c.if-pairs-eq0.false
+    c.if-total-batch.false c.zeros-clear.ensures
 
 pub check_stretch_spec : {M : Type 1} → statement M
 check_stretch_spec =
     tie.close
-    (tie.spec (λ c κs. omega arith) returns check_runs_requires returns_2 returns_3 returns_4 mul_zeros zeros_requires_2 returns_5)
+    (tie.spec (λ c κs. omega arith) returns-then-status-lt-GIVEN check_runs-runs-requires returns-then-not-sound returns-then-pairs-eq0 returns-then-total-batch overflow_mul-pairs zeros-clear-requires returns)

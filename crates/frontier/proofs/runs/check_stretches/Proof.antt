@@ -13,136 +13,114 @@ use Rattle.frontier.proofs.LoadLaws.{LoadsAt, loads_start, loads_wrong, loads_ne
 use Rattle.frontier.proofs.runs.check_stretches.Statement.{statement}
 use Rattle.frontier.proofs.runs.check_stretches.Tie as tie
 
-abbrev invariant_loop : tie.invariant-loop
+abbrev invariant_loop : tie.invariant-loop-b
 invariant_loop offsets targets marks index saved workers carrying₀ total₀ n len stretches b₀ carrying total b =
     LoadsAt (graph offsets targets) marks workers saved carrying total b
 
-abbrev decreases_loop : tie.decreases-loop
+abbrev decreases_loop : tie.decreases-loop-b
 decreases_loop offsets targets marks index saved workers carrying₀ total₀ n len stretches b₀ carrying total b = workers - b
 
--- the entry and the length of a stretch, from the loop, and the loop, from a worker's words
-abbrev entry : tie.At-loop invariant_loop decreases_loop → tie.Start invariant_loop decreases_loop
-entry c = c.before.before.before.before.before.before.before.before
-
-abbrev long : (c : tie.At-loop invariant_loop decreases_loop) → c.before.before.stretch.result ≡ stretch_length (length (entry c).args.offsets.now - 1)
-long c = c.before.before.stretch.ensures
-
-abbrev at_loop : tie.After-check-stretch invariant_loop decreases_loop → tie.At-loop invariant_loop decreases_loop
-at_loop c = c.before.before.before.before.before
+abbrev long : (c : tie.At-loop-b invariant_loop decreases_loop) → c.stretch-len.result ≡ stretch_length (length c.args.offsets.now - 1)
+long c = c.stretch-len.ensures
 
 -- where a worker's stretch begins and ends fits
-fits : (c : tie.In-loop invariant_loop decreases_loop) → let l = c.before in
-    l.before.marks.result
-    + (length (entry l).args.offsets.now - 1)
-    + l.loop.b * l.before.before.stretch.result
-    + l.before.before.stretch.result
+fits : (c : tie.In-loop-b invariant_loop decreases_loop) → c.marks.result
+    + (length c.args.offsets.now - 1)
+    + c.loop-b.b * c.stretch-len.result
+    + c.stretch-len.result
     ≤ 2294036
 fits c =
-    let l = c.before in
-    let there = (entry l).requires in
-    stretch_low _ _ l.loop.b (entry l).args.saved.now l.before.marks.ensures (long l) there.objects_limit there.workers_limit
-    c.loop_test.true
+    let there = c.requires in
+    stretch_low _ _ c.loop-b.b c.args.saved.now c.marks.ensures (long c.before) there.objects_limit there.workers_limit
+    c.loop-b-test.true
 
-sub_n : tie.Need-overflow-sub-n invariant_loop decreases_loop
-sub_n c = omega (arith, c.before.before.before.before.before.requires.some)
+overflow_sub-n : tie.Need-overflow_sub-n invariant_loop decreases_loop
+overflow_sub-n c = omega (arith, c.requires.some)
 
-stretch_requires : tie.Need-stretch-requires invariant_loop decreases_loop
-stretch_requires c κs = c.before.before.before.before.before.requires.objects_limit
+stretch-len-requires : tie.Need-stretch-len-requires invariant_loop decreases_loop
+stretch-len-requires c κs = c.requires.objects_limit
 
-marks_requires : tie.Need-marks-requires invariant_loop decreases_loop
-marks_requires c κs = c.before.before.before.before.before.before.requires.workers_limit
+marks-requires : tie.Need-marks-requires invariant_loop decreases_loop
+marks-requires c κs = c.requires.workers_limit
 
-add_stretches : tie.Need-overflow-add-stretches invariant_loop decreases_loop
-add_stretches c =
-    let there = c.before.before.before.before.before.before.before.requires in
+overflow_add-stretches : tie.Need-overflow_add-stretches invariant_loop decreases_loop
+overflow_add-stretches c =
+    let there = c.requires in
     omega (arith, there.objects_limit, there.workers_limit, c.marks.ensures)
 
-mul_at : tie.Need-overflow-mul-at invariant_loop decreases_loop
-mul_at c = omega (arith, (entry c.before).pre.workers_limit)
+overflow_mul-at : tie.Need-overflow_mul-at invariant_loop decreases_loop
+overflow_mul-at c = omega (arith, c.requires.workers_limit)
 
-add_at : tie.Need-overflow-add-at invariant_loop decreases_loop
-add_at c = omega (arith, (entry c.before).pre.workers_limit)
+overflow_add-at : tie.Need-overflow_add-at invariant_loop decreases_loop
+overflow_add-at c = omega (arith, c.requires.workers_limit)
 
-part_check_stretch_end : tie.Need-slice-bounds-check-stretch-end invariant_loop decreases_loop
-part_check_stretch_end c =
-    let l = c.before in
-    let start = entry l in
-    stretch_inside _ _ l.loop.b start.args.saved.now l.before.marks.ensures (long l) (omega arith) start.pre.long
+slice_bounds-check_stretch-end : tie.Need-slice_bounds-check_stretch-end invariant_loop decreases_loop
+slice_bounds-check_stretch-end c =
+    stretch_inside _ _ c.loop-b.b c.args.saved.now c.marks.ensures (long c.before) (omega arith) c.requires.long
 
-add_check_stretch_2 : tie.Need-overflow-add-check-stretch-2 invariant_loop decreases_loop
-add_check_stretch_2 c = omega (arith, (entry c.before.before).pre.workers_limit)
+overflow_add-at-in-loop-b : tie.Need-overflow_add-at-in-loop-b invariant_loop decreases_loop
+overflow_add-at-in-loop-b c = omega (arith, c.requires.workers_limit)
 
-mul_check_stretch_2 : tie.Need-overflow-mul-check-stretch-2 invariant_loop decreases_loop
-mul_check_stretch_2 c = omega (arith, (entry c.before.before).pre.workers_limit)
+offset_bounds-saved-at : tie.Need-offset_bounds-saved-at invariant_loop decreases_loop
+offset_bounds-saved-at c = omega (arith, c.requires.workers_limit)
 
-shared_slice_read_check_stretch : tie.Need-shared-slice-read-check-stretch invariant_loop decreases_loop
-shared_slice_read_check_stretch c =
-    let p = (entry c.before.before.before).pre in omega (arith, p.long, p.workers_limit)
+bounds-saved-at : tie.Need-bounds-saved-at invariant_loop decreases_loop
+bounds-saved-at c =
+    let p = c.requires in omega (arith, p.long, p.workers_limit)
 
-add_check_stretch_3 : tie.Need-overflow-add-check-stretch-3 invariant_loop decreases_loop
-add_check_stretch_3 c = omega (arith, (entry c.before.before.before).pre.workers_limit)
+overflow_add-at-in-loop-b-2 : tie.Need-overflow_add-at-in-loop-b-2 invariant_loop decreases_loop
+overflow_add-at-in-loop-b-2 c = omega (arith, c.requires.workers_limit)
 
-mul_check_stretch_3 : tie.Need-overflow-mul-check-stretch-3 invariant_loop decreases_loop
-mul_check_stretch_3 c = omega (arith, (entry c.before.before.before).pre.workers_limit)
+offset_bounds-saved-at-in-loop-b : tie.Need-offset_bounds-saved-at-in-loop-b invariant_loop decreases_loop
+offset_bounds-saved-at-in-loop-b c = omega (arith, c.requires.workers_limit)
 
-shared_slice_read_check_stretch_2 : tie.Need-shared-slice-read-check-stretch-2 invariant_loop decreases_loop
-shared_slice_read_check_stretch_2 c =
-    let p = (entry c.before.before.before.before).pre in omega (arith, p.long, p.workers_limit)
+bounds-saved-at-in-loop-b : tie.Need-bounds-saved-at-in-loop-b invariant_loop decreases_loop
+bounds-saved-at-in-loop-b c =
+    let p = c.requires in omega (arith, p.long, p.workers_limit)
 
-check_stretch_requires : tie.Need-check-stretch-requires invariant_loop decreases_loop
-check_stretch_requires c κs =
-    let l = c.before.before.before.before in
-    let start = entry l in (
-      marking_of start.pre,
-      stretch_short _ (long l) start.pre.objects_limit _ _,
-      start.pre.batch_none l.loop.b (omega arith),
-    )
+check_stretch-load-requires : tie.Need-check_stretch-load-requires invariant_loop decreases_loop
+check_stretch-load-requires c κs = (
+  marking_of c.requires,
+  stretch_short _ (long c.before.before.before.before) c.requires.objects_limit _ _,
+  c.requires.batch_none c.loop-b.b (omega arith),
+)
 
-returns : tie.Need-returns invariant_loop decreases_loop
-returns c =
-    let done = c.before in
-    let l = at_loop done in
-    loads_stop (loads_wrong l.loop.inv (omega arith) done.check_stretch.ensures (stretch_is _ _ l.loop.b _ l.before.marks.ensures (long l)) (not-true _ c.if1.true))
+returns-then-not-sound : tie.Need-returns-then-not-sound invariant_loop decreases_loop
+returns-then-not-sound c =
+    loads_stop (loads_wrong c.loop-b.invariant (omega arith) c.check_stretch-load.ensures (stretch_is _ _ c.loop-b.b _ c.marks.ensures (long c.before.before.before.before.before.before)) (not-true _ c.if-not-sound.true-raw))
 
-add_carrying : tie.Need-overflow-add-carrying invariant_loop decreases_loop
-add_carrying c =
-    let l = at_loop c.before.before in
-    omega (arith, l.loop.inv.carrying_low, l.loop.inv.high)
+overflow_add-carrying : tie.Need-overflow_add-carrying invariant_loop decreases_loop
+overflow_add-carrying c =
+    omega (arith, c.loop-b.invariant.carrying_low, c.loop-b.invariant.high)
 
-add_total : tie.Need-overflow-add-total invariant_loop decreases_loop
-add_total c =
-    let done = c.before.before in
-    let l = at_loop done in
-    let start = entry l in
-    let place = l.before.marks.result + (length start.args.offsets.now - 1) + l.loop.b * l.before.before.stretch.result in
+overflow_add-total : tie.Need-overflow_add-total invariant_loop decreases_loop
+overflow_add-total c =
+    let place = c.marks.result + (length c.args.offsets.now - 1) + c.loop-b.b * c.stretch-len.result in
     omega (
       arith,
-      done.check_stretch.ensures.low,
-      stretch_short _ (long l) start.pre.objects_limit place start.args.saved.now,
-      l.loop.inv.total_low,
-      l.loop.inv.high,
-      start.pre.workers_limit,
+      c.check_stretch-load.ensures.low,
+      stretch_short _ (long c.before.before.before.before.before.before.before) c.requires.objects_limit place c.args.saved.now,
+      c.loop-b.invariant.total_low,
+      c.loop-b.invariant.high,
+      c.requires.workers_limit,
     )
 
-loop_again : tie.Need-loop-preserved invariant_loop decreases_loop
-loop_again c =
-    let done = c.before.before in
-    let l = at_loop done in
-    let start = entry l in
-    loads_next l.loop.inv (omega arith) done.check_stretch.ensures (stretch_is _ _ l.loop.b _ l.before.marks.ensures (long l))
-    (not-false _ c.before.if1.false)
-    (⊎_elim (λ t. rw t.1 (carrying_one _ _ t.0.taken)) (λ t. rw t.1 (carrying_none _ _ t.0.left)) c.if2.branch)
-    (stretch_short _ (long l) start.pre.objects_limit _ _)
+loop-b-preserved : tie.Need-loop-b-preserved invariant_loop decreases_loop
+loop-b-preserved c =
+    loads_next c.loop-b.invariant (omega arith) c.check_stretch-load.ensures (stretch_is _ _ c.loop-b.b _ c.marks.ensures (long c.before.before.before.before.before.before.before))
+    (not-false _ c.if-not-sound.false-raw)
+    (⊎_elim (λ t. rw t.carrying-is (carrying_one _ _ t.if-own-ne0.true)) (λ t. rw t.carrying-is (carrying_none _ _ t.if-own-ne0.false)) c.if-own-ne0.branch-raw)
+    (stretch_short _ (long c.before.before.before.before.before.before.before) c.requires.objects_limit _ _)
 
-returns_2 : tie.Need-returns-2 invariant_loop decreases_loop
-returns_2 c = loads_end c.before.loop.invariant c.loop_test.false (entry c.before).pre.workers_limit
+returns : tie.Need-returns invariant_loop decreases_loop
+returns c = loads_end c.loop-b.invariant c.loop-b-test.false c.requires.workers_limit
 
 pub check_stretches_spec : {M : Type 1} → statement M
 check_stretches_spec =
     tie.close
-    (tie.spec invariant_loop decreases_loop sub_n stretch_requires marks_requires add_stretches (λ c. loads_start) (λ c. search rules) mul_at
-    add_at (λ c. search rules) (λ c. omega (arith, fits c)) (λ c. omega (arith, fits c))
+    (tie.spec invariant_loop decreases_loop overflow_sub-n stretch-len-requires marks-requires overflow_add-stretches (λ c. loads_start) (λ c. search rules) overflow_mul-at
+    overflow_add-at (λ c. search rules) (λ c. omega (arith, fits c)) (λ c. omega (arith, fits c))
     (λ c. omega (arith, fits c)) (λ c. omega (arith, fits c)) (λ c. search rules)
-    (λ c. search rules) part_check_stretch_end add_check_stretch_2 mul_check_stretch_2 shared_slice_read_check_stretch
-    add_check_stretch_3 mul_check_stretch_3 shared_slice_read_check_stretch_2 check_stretch_requires
-    returns add_carrying add_total (λ c. search rules) (λ c. search rules) loop_again returns_2)
+    (λ c. search rules) slice_bounds-check_stretch-end overflow_add-at-in-loop-b offset_bounds-saved-at bounds-saved-at
+    overflow_add-at-in-loop-b-2 offset_bounds-saved-at-in-loop-b bounds-saved-at-in-loop-b check_stretch-load-requires
+    returns-then-not-sound overflow_add-carrying overflow_add-total (λ c. search rules) (λ c. search rules) loop-b-preserved returns)

@@ -4,11 +4,11 @@ use Rattle.laws.proofs.Decides.{decides_no, decides_same, decides_eqb}
 use Rattle.frontier.proofs.runs.is_whole.Statement.{statement}
 use Rattle.frontier.proofs.runs.is_whole.Tie as tie
 
-returns_2 : tie.Need-returns-2
-returns_2 c = decides_same (decides_eqb _ _) (λ e. (c.before.if1.false, e)) (λ h. h.1)
+returns : tie.Need-returns
+returns c = decides_same (decides_eqb _ _) (λ e. (c.if-from-offsets.false, e)) (λ h. h.1)
 
 pub is_whole_spec : {M : Type 1} → statement M
 is_whole_spec =
     tie.close
-    (tie.spec (λ c. search rules) (λ c. search rules) (λ c. decides_no (λ h. c.if1.true h.0))
-    (λ c. search rules) (λ c. search rules) (λ c. search rules) returns_2)
+    (tie.spec (λ c. search rules) (λ c. search rules) (λ c. decides_no (λ h. c.if-from-offsets.true h.0))
+    (λ c. search rules) (λ c. search rules) (λ c. search rules) returns)

@@ -4,12 +4,12 @@ use native.Mathlib.Omega.{arith}
 use Rattle.frontier.proofs.runs.object_by.Statement.{statement}
 use Rattle.frontier.proofs.runs.object_by.Tie as tie
 
-returns : tie.Need-returns
-returns c =
-    record { object = omega (arith, c.before.before.before.before.guess.ensures); from = omega (arith, c.before.before.if1.true); below = omega (arith, c.if2.true) }
+returns-then-e-offsets : tie.Need-returns-then-e-offsets
+returns-then-e-offsets c =
+    record { object = omega (arith, c.guess-v.ensures); from = omega (arith, c.if-offsets-v.true); below = omega (arith, c.if-e-offsets.true) }
 
 pub object_by_spec : {M : Type 1} → statement M
 object_by_spec =
     tie.close
     (tie.spec (λ c κs. search rules) (λ c. search rules) (λ c. search rules) (λ c. search rules) (λ c. search rules) (λ c. search rules)
-    returns (λ c κs. search rules) (λ c. search rules))
+    returns-then-e-offsets (λ c κs. search rules) (λ c. search rules))

@@ -11,103 +11,84 @@ use Rattle.frontier.proofs.WindowLaws.{AllAt, all_start, all_end, all_idle, all_
 use Rattle.frontier.proofs.windows.carry_all.Statement.{statement}
 use Rattle.frontier.proofs.windows.carry_all.Tie as tie
 
-abbrev invariant_loop : tie.invariant-loop
+abbrev invariant_loop : tie.invariant-loop-b
 invariant_loop carried₀ base end saved n workers len stretches b₀ carried b =
     AllAt base end n workers saved carried₀ b carried
 
-abbrev decreases_loop : tie.decreases-loop
+abbrev decreases_loop : tie.decreases-loop-b
 decreases_loop carried₀ base end saved n workers len stretches b₀ carried b = workers - b
 
--- the entry and the length of a stretch, from the loop, and the loop, from a worker's words
-abbrev entry : tie.At-loop invariant_loop decreases_loop → tie.Start invariant_loop decreases_loop
-entry c = c.before.before.before.before.before
-
-abbrev long : (c : tie.At-loop invariant_loop decreases_loop) → c.before.before.stretch.result ≡ stretch_length (entry c).args.n
-long c = c.before.before.stretch.ensures
-
-abbrev turn : tie.After-carry-runs-arg invariant_loop decreases_loop → tie.In-loop invariant_loop decreases_loop
-turn c = c.before.before.before
+abbrev long : (c : tie.At-loop-b invariant_loop decreases_loop) → c.stretch-len.result ≡ stretch_length c.args.n
+long c = c.stretch-len.ensures
 
 -- where a worker's stretch begins and ends fits
-fits : (c : tie.In-loop invariant_loop decreases_loop) → let l = c.before in
-    l.before.marks.result + (entry l).args.n + l.loop.b * l.before.before.stretch.result + l.before.before.stretch.result ≤ 2294036
+fits : (c : tie.In-loop-b invariant_loop decreases_loop) → c.marks.result + c.args.n + c.loop-b.b * c.stretch-len.result + c.stretch-len.result ≤ 2294036
 fits c =
-    let l = c.before in
-    let there = (entry l).requires in
-    stretch_low _ _ l.loop.b (entry l).args.saved.now l.before.marks.ensures (long l) there.objects_limit there.workers_limit
-    c.loop_test.true
+    let there = c.requires in
+    stretch_low _ _ c.loop-b.b c.args.saved.now c.marks.ensures (long c.before) there.objects_limit there.workers_limit
+    c.loop-b-test.true
 
-stretch_requires : tie.Need-stretch-requires invariant_loop decreases_loop
-stretch_requires c κs = c.before.before.requires.objects_limit
+stretch-len-requires : tie.Need-stretch-len-requires invariant_loop decreases_loop
+stretch-len-requires c κs = c.requires.objects_limit
 
-marks_requires : tie.Need-marks-requires invariant_loop decreases_loop
-marks_requires c κs = c.before.before.before.requires.workers_limit
+marks-requires : tie.Need-marks-requires invariant_loop decreases_loop
+marks-requires c κs = c.requires.workers_limit
 
-add_stretches : tie.Need-overflow-add-stretches invariant_loop decreases_loop
-add_stretches c =
-    let there = c.before.before.before.before.requires in
+overflow_add-stretches : tie.Need-overflow_add-stretches invariant_loop decreases_loop
+overflow_add-stretches c =
+    let there = c.requires in
     omega (arith, there.objects_limit, there.workers_limit, c.marks.ensures)
 
-mul_at : tie.Need-overflow-mul-at invariant_loop decreases_loop
-mul_at c = omega (arith, (entry c.before).pre.workers_limit)
+overflow_mul-at : tie.Need-overflow_mul-at invariant_loop decreases_loop
+overflow_mul-at c = omega (arith, c.requires.workers_limit)
 
-add_at : tie.Need-overflow-add-at invariant_loop decreases_loop
-add_at c = omega (arith, (entry c.before).pre.workers_limit)
+overflow_add-at : tie.Need-overflow_add-at invariant_loop decreases_loop
+overflow_add-at c = omega (arith, c.requires.workers_limit)
 
-add_if1 : tie.Need-overflow-add-if1 invariant_loop decreases_loop
-add_if1 c = omega (arith, (entry c.before).pre.workers_limit)
+overflow_add-at-in-loop-b : tie.Need-overflow_add-at-in-loop-b invariant_loop decreases_loop
+overflow_add-at-in-loop-b c = omega (arith, c.requires.workers_limit)
 
-mul_if1 : tie.Need-overflow-mul-if1 invariant_loop decreases_loop
-mul_if1 c = omega (arith, (entry c.before).pre.workers_limit)
+offset_bounds-saved-at : tie.Need-offset_bounds-saved-at invariant_loop decreases_loop
+offset_bounds-saved-at c = omega (arith, c.requires.workers_limit)
 
-shared_slice_read_if1 : tie.Need-shared-slice-read-if1 invariant_loop decreases_loop
-shared_slice_read_if1 c = let p = (entry c.before.before).pre in omega (arith, p.long, p.workers_limit)
+bounds-saved-at : tie.Need-bounds-saved-at invariant_loop decreases_loop
+bounds-saved-at c = let p = c.requires in omega (arith, p.long, p.workers_limit)
 
-part_carry_runs_end : tie.Need-slice-bounds-carry-runs-end invariant_loop decreases_loop
-part_carry_runs_end c =
-    let l = (turn c).before in
-    let start = entry l in
-    stretch_inside _ _ l.loop.b start.args.saved.now l.before.marks.ensures (long l) (omega (arith, (turn c).loop_test.true)) start.pre.long
+slice_bounds-carry_runs-end : tie.Need-slice_bounds-carry_runs-end invariant_loop decreases_loop
+slice_bounds-carry_runs-end c =
+    stretch_inside _ _ c.loop-b.b c.args.saved.now c.marks.ensures (long c.before.before.before.before) (omega (arith, c.loop-b-test.true)) c.requires.long
 
-carry_runs_requires : tie.Need-carry-runs-requires invariant_loop decreases_loop
-carry_runs_requires c κs =
-    let l = (turn c.before).before in
-    let start = entry l in
-    (omega (arith, start.pre.room, l.loop.inv.long), stretch_short _ (long l) start.pre.objects_limit _ _)
+carry_runs-requires : tie.Need-carry_runs-requires invariant_loop decreases_loop
+carry_runs-requires c κs =
+    (omega (arith, c.requires.room, c.loop-b.invariant.long), stretch_short _ (long c.before.before.before.before.before) c.requires.objects_limit _ _)
 
-same_length : tie.Need-same-length invariant_loop decreases_loop
-same_length c =
-    let done = c.before.before.before in
-    done.carry_runs.auto.0 ∙ (turn done.before.before).before.loop.inv.long
+shape_of-carried-then-not-carry_runs : tie.Need-shape_of-carried-then-not-carry_runs invariant_loop decreases_loop
+shape_of-carried-then-not-carry_runs c =
+    c.carry_runs.auto.carried ∙ c.loop-b.invariant.long
+
+returns-then-not-carry_runs : tie.Need-returns-then-not-carry_runs invariant_loop decreases_loop
+returns-then-not-carry_runs c =
+    all_stop
+    (all_twice c.loop-b.invariant c.loop-b-test.true c.if-saved-at-ge-GIVEN.true (stretch_is _ _ c.loop-b.b _ c.marks.ensures (long c.before.before.before.before.before.before.before.before.before))
+    c.carry_runs.ensures (not-true _ c.if-not-carry_runs.true-raw))
+
+loop-b-preserved : tie.Need-loop-b-preserved invariant_loop decreases_loop
+loop-b-preserved c =
+    ⊎_elim
+    (λ t. rw t.carried-is
+    (all_next c.loop-b.invariant c.loop-b-test.true t.if-saved-at-ge-GIVEN.true (stretch_is _ _ c.loop-b.b _ c.marks.ensures (long c.before.before.before))
+    t.carry_runs.ensures (not-false _ t.if-not-carry_runs.false-raw) t.carry_runs.auto.carried))
+    (λ t. rw t.carried-is (all_idle c.loop-b.invariant c.loop-b-test.true (omega (arith, t.if-saved-at-ge-GIVEN.false))))
+    c.if-saved-at-ge-GIVEN.branch-raw
 
 returns : tie.Need-returns invariant_loop decreases_loop
-returns c =
-    let done = c.before.before.before in
-    let arg = done.before.before in
-    let l = (turn arg).before in
-    all_stop
-    (all_twice l.loop.inv (turn arg).loop_test.true arg.before.if1.true (stretch_is _ _ l.loop.b _ l.before.marks.ensures (long l))
-    done.carry_runs.ensures (not-true _ c.if2.true))
-
-loop_again : tie.Need-loop-preserved invariant_loop decreases_loop
-loop_again c =
-    let tested = c.before.before in
-    let l = tested.before in
-    ⊎_elim
-    (λ t. rw t.7
-    (all_next l.loop.invariant tested.loop_test.true t.0.taken (stretch_is _ _ l.loop.b _ l.before.marks.ensures (long l))
-    t.3.ensures (not-false _ t.6.left) t.3.kept.0))
-    (λ t. rw t.1 (all_idle l.loop.invariant tested.loop_test.true (omega (arith, t.0.left))))
-    c.if1.branch
-
-returns_2 : tie.Need-returns-2 invariant_loop decreases_loop
-returns_2 c = all_end c.before.loop.invariant c.loop_test.false
+returns c = all_end c.loop-b.invariant c.loop-b-test.false
 
 pub carry_all_spec : {M : Type 1} → statement M
 carry_all_spec =
     tie.close
-    (tie.spec invariant_loop decreases_loop stretch_requires marks_requires add_stretches (λ c. all_start c.before.before.before.before.requires.none)
-    (λ c. search rules) mul_at add_at (λ c. search rules) (λ c. omega (arith, fits c)) (λ c. omega (arith, fits c)) add_if1 mul_if1
-    shared_slice_read_if1 (λ c. omega (arith, fits (turn c))) (λ c. omega (arith, fits (turn c))) (λ c. search rules) (λ c. search rules)
-    part_carry_runs_end carry_runs_requires same_length returns (λ c. search rules) (λ c. search rules) loop_again
-    (λ c. c.before.loop.invariant.long) returns_2)
+    (tie.spec invariant_loop decreases_loop stretch-len-requires marks-requires overflow_add-stretches (λ c. all_start c.requires.none)
+    (λ c. search rules) overflow_mul-at overflow_add-at (λ c. search rules) (λ c. omega (arith, fits c)) (λ c. omega (arith, fits c)) overflow_add-at-in-loop-b offset_bounds-saved-at
+    bounds-saved-at (λ c. omega (arith, fits c.before.before.before)) (λ c. omega (arith, fits c.before.before.before)) (λ c. search rules) (λ c. search rules)
+    slice_bounds-carry_runs-end carry_runs-requires shape_of-carried-then-not-carry_runs returns-then-not-carry_runs (λ c. search rules) (λ c. search rules) loop-b-preserved
+    (λ c. c.loop-b.invariant.long) returns)

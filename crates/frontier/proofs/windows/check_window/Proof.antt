@@ -12,67 +12,50 @@ use Rattle.frontier.proofs.WindowLaws.{first_owner, last_owner, cleared_there, p
 use Rattle.frontier.proofs.windows.check_window.Statement.{statement}
 use Rattle.frontier.proofs.windows.check_window.Tie as tie
 
--- the entry, from where the set is cleared, and that place, from behind
-abbrev entry : tie.After-clear → tie.Start
-entry c = c.before.before.before.before.before.before.before
+cleared : (c : tie.After-clear) → c.clear.new.w ≡ replicate (length c.args.carried.now) 0
+cleared c = c.clear.ensures ∙ cleared_all c.args.carried.now
 
-abbrev at_clear : tie.After-carry-all → tie.After-clear
-at_clear c = c.before.before.before.before
+carry_all-requires : tie.Need-carry_all-requires
+carry_all-requires c κs =
+    let p = c.requires in
+    rw (cleared c.before.before.before) (cleared_there p.0 p.1 p.2 c.args.carried.now (omega arith) p.3)
 
-abbrev carried : tie.Else1 → tie.After-carry-all
-carried c = c.before.before.before
+shape_of-carried-then-not-carry_all : tie.Need-shape_of-carried-then-not-carry_all
+shape_of-carried-then-not-carry_all c = c.carry_all.auto.carried ∙ c.clear.auto.w
 
-cleared : (c : tie.After-clear) → c.clear.new.0 ≡ replicate (length (entry c).args.carried.now) 0
-cleared c = c.clear.ensures ∙ cleared_all (entry c).args.carried.now
+returns-then-not-carry_all : tie.Need-returns-then-not-carry_all
+returns-then-not-carry_all c =
+    decides_no (window_twice c.carry_all.ensures (not-true _ c.if-not-carry_all.true-raw))
 
-carry_all_requires : tie.Need-carry-all-requires
-carry_all_requires c κs =
-    let z = c.before.before.before in
-    let start = entry z in
-    let p = start.pre in
-    rw (cleared z) (cleared_there p.0 p.1 p.2 start.args.carried.now (omega arith) p.3)
+module _ (c : tie.Else-not-carry_all) where
+  abbrev start : tie.Start
+  start = c.before.before.before.before.before.before.before.before.before.before.before.before.before.before
 
-same_length : tie.Need-same-length
-same_length c = let k = c.before.before.before in k.carry_all.auto.0 ∙ (at_clear k).clear.auto.0
+  room : start.args.span.to ≤ start.args.span.from + word_bits * length c.carry_all.new.carried
+  room = omega (arith, start.requires.3, c.carry_all.auto.carried, c.clear.auto.w)
+
+object_of-first-requires : tie.Need-object_of-first-requires
+object_of-first-requires c κs = let p = (start c).requires in first_owner p.0 p.1 p.2
+
+object_of-last-requires : tie.Need-object_of-last-requires
+object_of-last-requires c κs = let p = (start c.before).requires in last_owner p.0 p.1 p.2 (omega arith)
+
+targets_marked-requires : tie.Need-targets_marked-requires
+targets_marked-requires c κs =
+    let p = (start c.before.before).requires in
+    parts_there p.0 p.1 p.2 (room c.before.before) c.object_of-first.ensures c.object_of-last.ensures (omega arith)
+
+shape_of-carried : tie.Need-shape_of-carried
+shape_of-carried c =
+    c.carry_all.auto.carried ∙ c.clear.auto.w
 
 returns : tie.Need-returns
 returns c =
-    let k = c.before.before.before in
-    decides_no (window_twice k.carry_all.ensures (not-true _ c.if1.true))
-
-module _ (c : tie.Else1) where
-  abbrev start : tie.Start
-  start = entry (at_clear (carried c))
-
-  room : start.args.span.to ≤ start.args.span.from + word_bits * length (carried c).carry_all.new.0
-  room = omega (arith, start.pre.3, (carried c).carry_all.auto.0, (at_clear (carried c)).clear.auto.0)
-
-object_of_requires : tie.Need-object-of-requires
-object_of_requires c κs = let p = (start c).requires in first_owner p.0 p.1 p.2
-
-object_of_requires_2 : tie.Need-object-of-requires-2
-object_of_requires_2 c κs = let p = (start c.before).pre in last_owner p.0 p.1 p.2 (omega arith)
-
-targets_marked_requires : tie.Need-targets-marked-requires
-targets_marked_requires c κs =
-    let o = c.before in
-    let e = o.before.before in
-    let p = (start e).requires in
-    parts_there p.0 p.1 p.2 (room e) o.before.object_of.ensures o.object_of2.ensures (omega arith)
-
-same_length_2 : tie.Need-same-length-2
-same_length_2 c =
-    let k = carried c.before.before.before.before in
-    k.carry_all.kept.0 ∙ (at_clear k).clear.kept.0
-
-returns_2 : tie.Need-returns-2
-returns_2 c =
-    let e = c.before.before.before.before in
-    let p = (start e).requires in
-    window_decided p.0 p.1 p.2 (carried e).carry_all.ensures (not-false _ e.if1.false) c.targets_marked.ensures
+    let p = (start c.before.before.before).requires in
+    window_decided p.0 p.1 p.2 c.carry_all.ensures (not-false _ c.if-not-carry_all.false-raw) c.targets_marked.ensures
 
 pub check_window_spec : {M : Type 1} → statement M
 check_window_spec =
     tie.close
-    (tie.spec (λ c κs. search rules) (λ c. search rules) carry_all_requires same_length returns object_of_requires (λ c. search rules)
-    object_of_requires_2 (λ c. search rules) targets_marked_requires same_length_2 returns_2)
+    (tie.spec (λ c κs. search rules) (λ c. search rules) carry_all-requires shape_of-carried-then-not-carry_all returns-then-not-carry_all object_of-first-requires (λ c. search rules)
+    object_of-last-requires (λ c. search rules) targets_marked-requires shape_of-carried returns)

@@ -10,42 +10,36 @@ use Rattle.protocol.proofs.HeadLaws.{HeadsAt, heads_start, heads_next, heads_end
 use Rattle.protocol.proofs.heads.check_heads.Statement.{statement}
 use Rattle.protocol.proofs.heads.check_heads.Tie as tie
 
-abbrev invariant_loop : tie.invariant-loop
+abbrev invariant_loop : tie.invariant-loop-b
 invariant_loop saved workers most ended₀ since₀ b₀ ended since b = HeadsAt workers most saved ended since b
 
-abbrev decreases_loop : tie.decreases-loop
+abbrev decreases_loop : tie.decreases-loop-b
 decreases_loop saved workers most ended₀ since₀ b₀ ended since b = workers - b
 
+returns-then-not-head_sound : tie.Need-returns-then-not-head_sound invariant_loop decreases_loop
+returns-then-not-head_sound c =
+    let b = c.loop-b.b in
+    heads_wrong (λ h. refuted c.head_sound.ensures (not-true _ c.if-not-head_sound.true-raw) (h b (omega arith)))
+
+loop-b-preserved : tie.Need-loop-b-preserved invariant_loop decreases_loop
+loop-b-preserved c =
+    let l = c.loop-b in
+    heads_next l.invariant c.loop-b-test.true (c.head_sound.ensures.right (not-false _ c.if-not-head_sound.false-raw))
+    (⊎_elim (λ t. rw t.ended-is (hit_counts _ 3 _ t.if-status-eq-ENDED.true)) (λ t. rw t.ended-is (miss_counts _ 3 _ t.if-status-eq-ENDED.false)) c.if-status-eq-ENDED.branch-raw)
+    (c.shared_slice_known-in-loop-b-1.given (16 + 4 * l.b + 2)).fits
+
 returns : tie.Need-returns invariant_loop decreases_loop
-returns c =
-    let test = c.before in
-    let b = test.before.before.before.before.before.before.loop.b in
-    heads_wrong (λ h. refuted test.head_sound.ensures (not-true _ c.if1.true) (h b (omega arith)))
-
-loop_again : tie.Need-loop-preserved invariant_loop decreases_loop
-loop_again c =
-    let passed = c.before in
-    let test = passed.before in
-    let read = test.before.before.before.before in
-    let l = read.before.before.loop in
-    heads_next l.invariant read.before.loop_test.true (test.head_sound.ensures.right (not-false _ passed.if1.false))
-    (⊎_elim (λ t. rw t.1 (hit_counts _ 3 _ t.0.taken)) (λ t. rw t.1 (miss_counts _ 3 _ t.0.left)) c.if2.branch)
-    (read.shared_slice_known2.given (16 + 4 * l.b + 2)).fits
-
-returns_2 : tie.Need-returns-2 invariant_loop decreases_loop
-returns_2 c = heads_end c.before.loop.invariant c.loop_test.false
+returns c = heads_end c.loop-b.invariant c.loop-b-test.false
 
 -- a since is a word
-cast_since : tie.Need-overflow-cast-since invariant_loop decreases_loop
-cast_since c =
-    let read = c.before.before.before.before.before.before in
-    omega (arith, read.shared_slice_known2.given (16 + 4 * read.before.before.loop.b + 2))
+overflow_cast-since : tie.Need-overflow_cast-since invariant_loop decreases_loop
+overflow_cast-since c =
+    omega (arith, c.shared_slice_known-in-loop-b-1.given (16 + 4 * c.loop-b.b + 2))
 
-add_since : tie.Need-overflow-add-since invariant_loop decreases_loop
-add_since c =
-    let read = c.before.before.before.before.before.before in
-    let l = read.before.before.loop in
-    omega (arith, read.shared_slice_known2.given (16 + 4 * l.b + 2), l.invariant.since_low, l.invariant.high)
+overflow_add-since : tie.Need-overflow_add-since invariant_loop decreases_loop
+overflow_add-since c =
+    let l = c.loop-b in
+    omega (arith, c.shared_slice_known-in-loop-b-1.given (16 + 4 * l.b + 2), l.invariant.since_low, l.invariant.high)
 
 pub check_heads_spec : {M : Type 1} → statement M
 check_heads_spec =
@@ -53,5 +47,5 @@ check_heads_spec =
     (tie.spec invariant_loop decreases_loop (λ c. heads_start) (λ c. search rules) (λ c. search rules) (λ c. search rules)
     (λ c. search rules) (λ c. search rules) (λ c. search rules) (λ c. search rules) (λ c. search rules)
     (λ c. search rules) (λ c. search rules) (λ c. search rules) (λ c. search rules) (λ c. search rules)
-    (λ c. search rules) (λ c. search rules) (λ c κs. search rules) returns (λ c. search rules) cast_since add_since
-    (λ c. search rules) (λ c. search rules) loop_again returns_2)
+    (λ c. search rules) (λ c. search rules) (λ c κs. search rules) returns-then-not-head_sound (λ c. search rules) overflow_cast-since overflow_add-since
+    (λ c. search rules) (λ c. search rules) loop-b-preserved returns)

@@ -5,37 +5,37 @@ use Rattle.protocol.proofs.HeadLaws.{head_working, head_resting}
 use Rattle.protocol.proofs.heads.head_sound.Statement.{statement}
 use Rattle.protocol.proofs.heads.head_sound.Tie as tie
 
-returns : tie.Need-returns
-returns c = decides_no (λ h. omega (arith, h.known))
+returns-then-status-gt-CLAIM : tie.Need-returns-then-status-gt-CLAIM
+returns-then-status-gt-CLAIM c = decides_no (λ h. omega (arith, h.known))
 
-returns_2 : tie.Need-returns-2
-returns_2 c = decides_no (λ h. omega (arith, h.cell_known))
+returns-then-workers-cell : tie.Need-returns-then-workers-cell
+returns-then-workers-cell c = decides_no (λ h. omega (arith, h.cell_known))
 
-returns_3 : tie.Need-returns-3
-returns_3 c = decides_no (λ h. omega (arith, h.batch_limit))
+returns-then-most-batch : tie.Need-returns-then-most-batch
+returns-then-most-batch c = decides_no (λ h. omega (arith, h.batch_limit))
 
-returns_4 : tie.Need-returns-4
-returns_4 c = head_working (omega arith) (omega arith) (omega arith) (omega arith)
+returns-then-status-gt-POLL : tie.Need-returns-then-status-gt-POLL
+returns-then-status-gt-POLL c = head_working (omega arith) (omega arith) (omega arith) (omega arith)
 
-returns_5 : tie.Need-returns-5
-returns_5 c = decides_no (λ h. c.if5.true (h.batch_none (omega arith)))
+returns-then-batch-ne0 : tie.Need-returns-then-batch-ne0
+returns-then-batch-ne0 c = decides_no (λ h. c.if-batch-ne0.true (h.batch_none (omega arith)))
 
-returns_6 : tie.Need-returns-6
-returns_6 c = decides_yes (head_resting (omega arith) (omega arith) (omega arith) (λ q. absurd (omega arith)) (λ q. absurd (omega arith)))
+returns-then-status-eq-POLL : tie.Need-returns-then-status-eq-POLL
+returns-then-status-eq-POLL c = decides_yes (head_resting (omega arith) (omega arith) (omega arith) (λ q. absurd (omega arith)) (λ q. absurd (omega arith)))
 
-returns_7 : tie.Need-returns-7
-returns_7 c = decides_no (λ h. c.if7.true (h.cell_none (omega (arith, c.before.if6.false))))
+returns-then-cell-ne0 : tie.Need-returns-then-cell-ne0
+returns-then-cell-ne0 c = decides_no (λ h. c.if-cell-ne0.true (h.cell_none (omega (arith, c.if-status-eq-POLL.false))))
 
-returns_8 : tie.Need-returns-8
-returns_8 c =
+returns-then-status-eq-GIVEN : tie.Need-returns-then-status-eq-GIVEN
+returns-then-status-eq-GIVEN c =
     decides_same (decides_eqb _ 0)
     (λ p. head_resting (omega arith) (omega arith) (omega arith) (λ q. omega arith) (λ q. p))
-    (λ h. h.since_none c.if8.true)
+    (λ h. h.since_none c.if-status-eq-GIVEN.true)
 
-returns_9 : tie.Need-returns-9
-returns_9 c =
-    decides_yes (head_resting (omega arith) (omega arith) (omega arith) (λ q. omega arith) (λ q. absurd (c.if8.false q)))
+returns : tie.Need-returns
+returns c =
+    decides_yes (head_resting (omega arith) (omega arith) (omega arith) (λ q. omega arith) (λ q. absurd (c.if-status-eq-GIVEN.false q)))
 
 pub head_sound_spec : {M : Type 1} → statement M
 head_sound_spec =
-    tie.close (tie.spec returns returns_2 returns_3 returns_4 returns_5 returns_6 returns_7 returns_8 returns_9)
+    tie.close (tie.spec returns-then-status-gt-CLAIM returns-then-workers-cell returns-then-most-batch returns-then-status-gt-POLL returns-then-batch-ne0 returns-then-status-eq-POLL returns-then-cell-ne0 returns-then-status-eq-GIVEN returns)

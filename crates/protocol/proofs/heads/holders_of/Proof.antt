@@ -9,21 +9,20 @@ use Rattle.protocol.proofs.HeadLaws.{HoldersAt, holders_start, holders_next, hol
 use Rattle.protocol.proofs.heads.holders_of.Statement.{statement}
 use Rattle.protocol.proofs.heads.holders_of.Tie as tie
 
-abbrev invariant_loop : tie.invariant-loop
+abbrev invariant_loop : tie.invariant-loop-b
 invariant_loop saved workers a found₀ b₀ found b = HoldersAt saved workers a found b
 
-abbrev decreases_loop : tie.decreases-loop
+abbrev decreases_loop : tie.decreases-loop-b
 decreases_loop saved workers a found₀ b₀ found b = workers - b
 
-loop_again : tie.Need-loop-preserved invariant_loop decreases_loop
-loop_again c =
-    let tested = c.before.before in
-    holders_next tested.before.loop.invariant tested.loop_test.true
-    (⊎_elim (λ t. rw t.1 (hit_counts _ _ _ (t.0.taken ∙ add-one _))) (λ t. rw t.1 (miss_counts _ _ _ (λ e. t.0.left (e ∙ sym (add-one _))))) c.if1.branch)
+loop-b-preserved : tie.Need-loop-b-preserved invariant_loop decreases_loop
+loop-b-preserved c =
+    holders_next c.loop-b.invariant c.loop-b-test.true
+    (⊎_elim (λ t. rw t.found-is (hit_counts _ _ _ (t.if-saved-b.true ∙ add-one _))) (λ t. rw t.found-is (miss_counts _ _ _ (λ e. t.if-saved-b.false (e ∙ sym (add-one _))))) c.if-saved-b.branch-raw)
 
 pub holders_of_spec : {M : Type 1} → statement M
 holders_of_spec =
     tie.close
     (tie.spec invariant_loop decreases_loop (λ c. holders_start) (λ c. search rules) (λ c. search rules) (λ c. search rules)
     (λ c. search rules) (λ c. search rules) (λ c. search rules) (λ c. search rules) (λ c. search rules)
-    (λ c. search rules) (λ c. search rules) loop_again (λ c. holders_end c.before.loop.invariant c.loop_test.false))
+    (λ c. search rules) (λ c. search rules) loop-b-preserved (λ c. holders_end c.loop-b.invariant c.loop-b-test.false))

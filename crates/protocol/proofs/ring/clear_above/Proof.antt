@@ -10,29 +10,28 @@ use Rattle.saved.specs.Layout.{worker_word}
 use Rattle.protocol.proofs.ring.clear_above.Statement.{statement}
 use Rattle.protocol.proofs.ring.clear_above.Tie as tie
 
-abbrev invariant_loop : tie.invariant-loop
+abbrev invariant_loop : tie.invariant-loop-b
 invariant_loop saved workers holder b₀ b = (b ≤ workers) × ((i : ℕ) → i < b → holder < i → worker_word saved i 0 < status_given)
 
-abbrev decreases_loop : tie.decreases-loop
+abbrev decreases_loop : tie.decreases-loop-b
 decreases_loop saved workers holder b₀ b = workers - b
 
-returns : tie.Need-returns invariant_loop decreases_loop
-returns c =
-    let inside = c.before.before.before in
-    decides_no (λ h. omega (arith, h inside.before.loop.b inside.loop_test.true c.before.if1.true, c.if2.true))
+returns-then-status-ge-GIVEN : tie.Need-returns-then-status-ge-GIVEN invariant_loop decreases_loop
+returns-then-status-ge-GIVEN c =
+    decides_no (λ h. omega (arith, h c.loop-b.b c.loop-b-test.true c.if-holder-b.true, c.if-status-ge-GIVEN.true))
 
-loop_again : tie.Need-loop-preserved invariant_loop decreases_loop
-loop_again c =
-    let l = c.before.before.before.loop in (
+loop-b-preserved : tie.Need-loop-b-preserved invariant_loop decreases_loop
+loop-b-preserved c =
+    let l = c.loop-b in (
       omega arith,
-      below_more _ l.b l.invariant.1 (⊎_elim (λ t k. t.1.left) (λ t k. absurd (omega (arith, t.left, k))) c.if1.branch),
+      below_more _ l.b l.invariant.1 (⊎_elim (λ t k. t.if-status-ge-GIVEN.false) (λ t k. absurd (omega (arith, t.if-holder-b.false, k))) c.if-holder-b.branch-raw),
     )
 
-returns_2 : tie.Need-returns-2 invariant_loop decreases_loop
-returns_2 c = let l = c.before.loop in decides_yes (λ i h k. l.invariant.1 i (omega arith) k)
+returns : tie.Need-returns invariant_loop decreases_loop
+returns c = let l = c.loop-b in decides_yes (λ i h k. l.invariant.1 i (omega arith) k)
 
 pub clear_above_spec : {M : Type 1} → statement M
 clear_above_spec =
     tie.close
     (tie.spec invariant_loop decreases_loop (λ c. (omega arith, λ i h. absurd (omega arith))) (λ c. search rules) (λ c. search rules) (λ c. search rules)
-    (λ c. search rules) (λ c. search rules) (λ c. search rules) returns (λ c. search rules) (λ c. search rules) loop_again returns_2)
+    (λ c. search rules) (λ c. search rules) (λ c. search rules) returns-then-status-ge-GIVEN (λ c. search rules) (λ c. search rules) loop-b-preserved returns)
