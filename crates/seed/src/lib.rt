@@ -77,6 +77,8 @@ fn card_of(seed: Seed) -> Drawn
 pub fn draw(seed: &mut Seed) -> Drawn
     ensures { (seed.new ≡ next seed.old) × (result ≡ drawn seed.old) }
 {
+    // read here, where the proof learns that the word fits 32 bits
+    let _first = seed.first;
     let moved = step(*seed);
     *seed = moved;
     card_of(moved)

@@ -5,11 +5,11 @@ use Rattle.seed.proofs.Words.{drawn_card, drawn_none}
 use Rattle.seed.proofs.card_of.Statement.{statement}
 use Rattle.seed.proofs.card_of.Tie as tie
 
-returns : tie.Need-returns
-returns c = sym (drawn_none _ _ c.if1.true)
+returns-then-first-eq0 : tie.Need-returns-then-first-eq0
+returns-then-first-eq0 c = sym (drawn_none _ _ c.if-first-eq0.true)
 
-returns_2 : tie.Need-returns-2
-returns_2 c = ap Card c.card.ensures ∙ sym (drawn_card _ _ c.before.if1.false)
+returns : tie.Need-returns
+returns c = ap Card c.card.ensures ∙ sym (drawn_card _ _ c.if-first-eq0.false)
 
 pub card_of_spec : {M : Type 1} → statement M
-card_of_spec = tie.close (tie.spec returns (λ c κs. search rules) returns_2)
+card_of_spec = tie.close (tie.spec returns-then-first-eq0 (λ c κs. search rules) returns)

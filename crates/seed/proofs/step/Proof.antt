@@ -4,13 +4,12 @@ use Rattle.seed.proofs.Words.{next_moves, next_stays}
 use Rattle.seed.proofs.step.Statement.{statement}
 use Rattle.seed.proofs.step.Tie as tie
 
-returns : tie.Need-returns
-returns c = sym (next_stays _ _ c.if1.true)
+returns-then-first-eq0 : tie.Need-returns-then-first-eq0
+returns-then-first-eq0 c = sym (next_stays _ _ c.if-first-eq0.true)
 
-returns_2 : tie.Need-returns-2
-returns_2 c =
-    let x = c.before in
-    rw (x.xorshift.ensures, c.wrapping_add_u32.ensures) (sym (next_moves _ _ x.before.if1.false))
+returns : tie.Need-returns
+returns c =
+    rw (c.xorshift.ensures, c.wrapping_add_u32.ensures) (sym (next_moves _ _ c.if-first-eq0.false))
 
 pub step_spec : {M : Type 1} → statement M
-step_spec = tie.close (tie.spec returns (λ c κs. search rules) (λ c κs. search rules) returns_2)
+step_spec = tie.close (tie.spec returns-then-first-eq0 (λ c κs. search rules) (λ c κs. search rules) returns)

@@ -16,61 +16,49 @@ use Rattle.seed.proofs.Draws.{Drawable}
 use Rattle.seed_deal.proofs.deal_seed.Statement.{statement}
 use Rattle.seed_deal.proofs.deal_seed.Tie as tie
 
-abbrev start : tie.Else1 → tie.Start
-start e = e.before.before.before
+within : (e : tie.Else-workers_outside) → outside most_workers e.args.workers ≡ false
+within e = so e.workers_outside.ensures e.if-workers_outside.false
 
-within : (e : tie.Else1) → outside most_workers (start e).args.workers ≡ false
-within e = so e.before.workers_outside.ensures e.if1.false
+returns-then-workers_outside : tie.Need-returns-then-workers_outside
+returns-then-workers_outside c = refused _ _ _ _ Setting 7 refl (finds_8 _ _ _ _ (so c.workers_outside.ensures c.if-workers_outside.true))
 
-returns : tie.Need-returns
-returns c = refused _ _ _ _ Setting 7 refl (finds_8 _ _ _ _ (so c.before.workers_outside.ensures c.if1.true))
+returns-then-first-eq0 : tie.Need-returns-then-first-eq0
+returns-then-first-eq0 c = refused _ _ _ _ NoSeed 15 refl (finds_16 _ _ _ _ (within c.before) c.if-first-eq0.true)
 
-returns_2 : tie.Need-returns-2
-returns_2 c = refused _ _ _ _ NoSeed 15 refl (finds_16 _ _ _ _ (within c.before) c.if2.true)
+returns-then-workers-gt-CARD_WORKERS : tie.Need-returns-then-workers-gt-CARD_WORKERS
+returns-then-workers-gt-CARD_WORKERS c =
+    refused _ _ _ _ Cards 14 refl (finds_15 _ _ _ _ (within c.before.before) c.if-first-eq0.false c.if-workers-gt-CARD_WORKERS.true)
 
-returns_3 : tie.Need-returns-3
-returns_3 c =
-    let z = c.before in
-    refused _ _ _ _ Cards 14 refl (finds_15 _ _ _ _ (within z.before) z.if2.false c.if3.true)
+is_schedule_of-requires : tie.Need-is_schedule_of-requires
+is_schedule_of-requires c κs = ((inside most_workers _ (within c.before.before)).0, c.if-workers-gt-CARD_WORKERS.false)
 
-is_schedule_of_requires : tie.Need-is-schedule-of-requires
-is_schedule_of_requires c κs = ((inside most_workers _ (within c.before.before)).0, c.if3.false)
-
-returns_4 : tie.Need-returns-4
-returns_4 c =
-    let w = c.before.before in
-    let z = w.before in
+returns-then-not-is_schedule_of : tie.Need-returns-then-not-is_schedule_of
+returns-then-not-is_schedule_of c =
     refused _ _ _ _ Buffer 6 refl
-    (finds_7 _ _ _ _ (within z.before) z.if2.false w.if3.false (so c.before.is_schedule_of.ensures (not-true _ c.if4.true)))
+    (finds_7 _ _ _ _ (within c.before.before.before.before) c.if-first-eq0.false c.if-workers-gt-CARD_WORKERS.false (so c.is_schedule_of.ensures (not-true _ c.if-not-is_schedule_of.true-raw)))
 
-exact : (c : tie.Else4) → let a = (start c.before.before.before.before).args in
+exact : (c : tie.Else-not-is_schedule_of) → let a = c.args in
     eqb (length a.schedule.now) (bytes_of a.workers a.rounds) ≡ true
-exact c = so c.before.is_schedule_of.ensures (not-false _ c.if4.false)
+exact c = so c.is_schedule_of.ensures (not-false _ c.if-not-is_schedule_of.false-raw)
 
-put_seed_requires : tie.Need-put-seed-requires
-put_seed_requires c κs =
-    let e = c.before in
-    let w = e.before.before in
+put_seed-requires : tie.Need-put_seed-requires
+put_seed-requires c κs =
     record {
-      some = (inside most_workers _ (within w.before.before)).0;
-      few = w.if3.false;
-      exact = eqb-true _ _ (exact e);
+      some = (inside most_workers _ (within c.before.before.before.before.before)).0;
+      few = c.if-workers-gt-CARD_WORKERS.false;
+      exact = eqb-true _ _ (exact c.before);
     }
 
-drawable : (w : tie.Else3) → Drawable (start w.before.before).args.seed
-drawable w = record { some = w.before.if2.false; low = omega arith }
+drawable : (w : tie.Else-workers-gt-CARD_WORKERS) → Drawable w.args.seed
+drawable w = record { some = w.if-first-eq0.false; low = omega arith }
 
-returns_5 : tie.Need-returns-5
-returns_5 c =
-    let r = c.before.before in
-    let e = r.before.before in
-    let w = e.before.before in
-    let z = w.before in
-    dealt_all _ _ _ _ (finds_none _ _ _ _ (within z.before) z.if2.false w.if3.false (exact e)) (drawable w)
-    (inside most_workers _ (within z.before)).0 w.if3.false r.put_seed.ensures.seed_is r.put_seed.ensures.schedule_is
+returns : tie.Need-returns
+returns c =
+    dealt_all _ _ _ _ (finds_none _ _ _ _ (within c.before.before.before.before.before.before.before.before) c.if-first-eq0.false c.if-workers-gt-CARD_WORKERS.false (exact c.before.before.before.before)) (drawable c.before.before.before.before.before.before)
+    (inside most_workers _ (within c.before.before.before.before.before.before.before.before)).0 c.if-workers-gt-CARD_WORKERS.false c.put_seed.ensures.seed_is c.put_seed.ensures.schedule_is
 
 pub deal_seed_spec : {M : Type 1} → statement M
 deal_seed_spec =
     tie.close
-    (tie.spec (λ c κs. search rules) returns returns_2 returns_3 is_schedule_of_requires returns_4 put_seed_requires
-    (λ c. search rules) returns_5)
+    (tie.spec (λ c κs. search rules) returns-then-workers_outside returns-then-first-eq0 returns-then-workers-gt-CARD_WORKERS is_schedule_of-requires returns-then-not-is_schedule_of put_seed-requires
+    (λ c. search rules) returns)

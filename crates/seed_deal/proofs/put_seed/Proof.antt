@@ -4,34 +4,26 @@ use Rattle.seed_deal.proofs.Drawing.{drawing_for, drew_for, drew_zeros}
 use Rattle.seed_deal.proofs.put_seed.Statement.{statement}
 use Rattle.seed_deal.proofs.put_seed.Tie as tie
 
-abbrev start : tie.Then2 → tie.Start
-start t = t.before.before.before
+returns-then-workers-eq1 : tie.Need-returns-then-workers-eq1
+returns-then-workers-eq1 c =
+    drew_zeros c.args.schedule.now c.if-workers-eq1.true c.requires c.after.ensures c.clear_bytes.ensures
 
-returns : tie.Need-returns
-returns c =
-    let r = c.before.before.before in
-    let t = r.before.before in
-    let s = t.before.before in
-    drew_zeros s.args.schedule.now t.if1.true s.requires c.after.ensures r.clear_bytes.ensures
+copy_four-requires : tie.Need-copy_four-requires
+copy_four-requires c κs = drawing_for c.if-workers-eq4.true c.requires
 
-copy_four_requires : tie.Need-copy-four-requires
-copy_four_requires c κs = let t = c.before in drawing_for t.if3.true (start t.before).requires
+returns-then-workers-eq4 : tie.Need-returns-then-workers-eq4
+returns-then-workers-eq4 c =
+    drew_for c.if-workers-eq4.true c.copy_four.ensures
 
-returns_2 : tie.Need-returns-2
-returns_2 c =
-    let r = c.before.before in
-    drew_for r.before.before.if3.true r.copy_four.ensures
+copy_six-requires : tie.Need-copy_six-requires
+copy_six-requires c κs = drawing_for c.if-workers-eq6.true c.requires
 
-copy_six_requires : tie.Need-copy-six-requires
-copy_six_requires c κs = let t = c.before in drawing_for t.if4.true (start t.before.before).requires
-
-returns_3 : tie.Need-returns-3
-returns_3 c =
-    let r = c.before.before in
-    drew_for r.before.before.if4.true r.copy_six.ensures
+returns-then-workers-eq6 : tie.Need-returns-then-workers-eq6
+returns-then-workers-eq6 c =
+    drew_for c.if-workers-eq6.true c.copy_six.ensures
 
 pub put_seed_spec : {M : Type 1} → statement M
 put_seed_spec =
     tie.close
-    (tie.spec (λ c κs. search rules) (λ c κs. search rules) (λ c. search rules) returns copy_four_requires (λ c. search rules) returns_2
-    copy_six_requires (λ c. search rules) returns_3 (λ c κs. search rules) (λ c κs. search rules) (λ c. search rules) (λ c. search rules))
+    (tie.spec (λ c κs. search rules) (λ c κs. search rules) (λ c. search rules) returns-then-workers-eq1 copy_four-requires (λ c. search rules) returns-then-workers-eq4
+    copy_six-requires (λ c. search rules) returns-then-workers-eq6 (λ c κs. search rules) (λ c κs. search rules) (λ c. search rules) (λ c. search rules))

@@ -9,43 +9,28 @@ use borrow.Author.Rules.{rules}
 use Rattle.report.proofs.collection.put_ordered.Statement.{statement}
 use Rattle.report.proofs.collection.put_ordered.Tie as tie
 
-abbrev entry : tie.After-order-of → tie.Start
-entry c = c.before.before.before.before.before.before.before
+fine : (c : tie.In-Fine) → order_fault c.order_of-settings.result ≡ 0
+fine c = when_fine c.check-found.ensures c.in-Fine.is
 
-abbrev at_order : tie.After-enum-told → tie.After-order-of
-at_order c = c.before.before.before
+returns-in_default : tie.Need-returns-in_default
+returns-in_default c =
+    let number = c.verdict_number.ensures ∙ ap number_of c.in_default.is in
+    as_text (due_order c.requires c.order_of-settings.ensures c.in_default.field-0 number (when_faulty c.check-found.ensures c.in_default.is))
+    c.put_refusal.ensures.put
 
-fine : (c : tie.After-enum-told) → order_fault (at_order c).order_of.result ≡ 0
-fine c = when_fine c.before.before.check.ensures c.enum_told.given.1
+put_collection-requires : tie.Need-put_collection-requires
+put_collection-requires c κs =
+    let p = c.requires in
+    record { passing = p.passing; few = p.few; fine = fine c.before.before; room = p.room }
 
 returns : tie.Need-returns
 returns c =
-    let at_refusal = c.before.before in
-    let at_told = at_refusal.before.before.before in
-    let k = at_told.before.before in
-    let o = k.before in
-    let v = at_told.enum_told2.given in
-    let number = at_refusal.before.verdict_number.ensures ∙ ap number_of v.1 in
-    as_text (due_order (entry o).requires o.order_of.ensures v.0.0 number (when_faulty k.check.ensures v.1))
-    at_refusal.put_refusal.ensures.put
-
-put_collection_requires : tie.Need-put-collection-requires
-put_collection_requires c κs =
-    let t = c.before.before in
-    let p = (entry (at_order t)).requires in
-    record { passing = p.passing; few = p.few; fine = fine t; room = p.room }
-
-returns_2 : tie.Need-returns-2
-returns_2 c =
-    let at_collection = c.before.before in
-    let t = at_collection.before.before.before in
-    let e = entry (at_order t) in
-    as_text (due_collection e.pre (at_order t).order_of.ensures (fine t) (behind e.args.order.now))
-    at_collection.put_collection.ensures
+    as_text (due_collection c.requires c.order_of-settings.ensures (fine c.before.before.before.before.before) (behind c.args.order.now))
+    c.put_collection.ensures
 
 pub put_ordered_spec : {M : Type 1} → statement M
 put_ordered_spec =
     tie.close
     (tie.spec (λ c κs. search rules) (λ c κs. search rules) (λ c. search rules) (λ c. search rules) (λ c κs. search rules) (λ c κs. search rules)
-    (λ c. search rules) returns (λ c. search rules) (λ c. search rules) (λ c. search rules)
-    put_collection_requires (λ c. search rules) returns_2)
+    (λ c. search rules) returns-in_default (λ c. search rules) (λ c. search rules) (λ c. search rules)
+    put_collection-requires (λ c. search rules) returns)

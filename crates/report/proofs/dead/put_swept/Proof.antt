@@ -10,60 +10,46 @@ use borrow.Author.Rules.{rules}
 use Rattle.report.proofs.dead.put_swept.Statement.{statement}
 use Rattle.report.proofs.dead.put_swept.Tie as tie
 
-abbrev entry : tie.After-sweep → tie.Start
-entry c = c.before.before.before.before.before.before
+abbrev list : tie.In-Dead → List ℕ
+list c = c.sweep-swept.new.list
 
-abbrev at_sweep : tie.After-swept → tie.After-sweep
-at_sweep c = c.before.before.before.before
+abbrev count : tie.In-Dead → ℕ
+count c = c.in-Dead.count
 
-abbrev at_swept : tie.After-put-dead-list → tie.After-swept
-at_swept c = c.before.before.before.before
-
-abbrev list : tie.After-swept → List ℕ
-list c = (at_sweep c).sweep.new.1.1.0
-
-abbrev count : tie.After-swept → ℕ
-count c = c.swept.given.0.0
-
-left : (c : tie.After-swept) → let a = (entry (at_sweep c)).args in
-    SweptTo a.sizes.now a.marks.now (list c) a.out.now a.at (count c) c.swept.given.0.1.0
+left : (c : tie.In-Dead) → let a = c.args in
+    SweptTo a.sizes.now a.marks.now (list c) a.out.now a.at (count c) c.in-Dead.freed
 left c =
-    let done = (at_sweep c).sweep.ensures in
-    let p = (entry (at_sweep c)).requires in
-    swept_to p.0 _ p.1 c.swept.given.1 done.0 done.1.0
+    let done = c.sweep-swept.ensures in
+    let p = c.requires in
+    swept_to p.0 _ p.1 c.in-Dead.is done.0 done.1.0
+
+returns-in_default : tie.Need-returns-in_default
+returns-in_default c =
+    let p = c.requires in
+    absurd (not_refused p.0 _ p.1 c.in_default.is c.sweep-swept.ensures.0)
+
+slice_bounds-put_dead_list-end : tie.Need-slice_bounds-put_dead_list-end
+slice_bounds-put_dead_list-end c = (left c.before).inside
+
+slice_bounds-put_dead_list-end-2 : tie.Need-slice_bounds-put_dead_list-end-2
+slice_bounds-put_dead_list-end-2 c = sym (length-take-le (count c.before) (list c.before) (left c.before).inside)
+
+put_dead_list-end-requires : tie.Need-put_dead_list-end-requires
+put_dead_list-end-requires c κs = let l = left c.before in (omega (arith, l.room), l.objects)
+
+put_freed-requires : tie.Need-put_freed-requires
+put_freed-requires c κs =
+    room_left c.put_dead_list-end.ensures 27 (left c.before.before.before.before.before).room
 
 returns : tie.Need-returns
 returns c =
-    let at_told = c.before.before.before.before.before in
-    let s = at_told.before.before.before.before in
-    let p = (entry s).requires in
-    absurd (not_refused p.0 _ p.1 at_told.enum_told.given.1 s.sweep.ensures.0)
-
-slice_reshare_prefix_put_dead_list : tie.Need-slice-reshare-prefix-put-dead-list
-slice_reshare_prefix_put_dead_list c = (left c.before.before).inside
-
-slice_aggregate_put_dead_list : tie.Need-slice-aggregate-put-dead-list
-slice_aggregate_put_dead_list c = let s = c.before.before.before in sym (length-take-le (count s) (list s) (left s).inside)
-
-put_dead_list_requires : tie.Need-put-dead-list-requires
-put_dead_list_requires c κs = let l = left c.before.before.before in (omega (arith, l.room), l.objects)
-
-put_freed_requires : tie.Need-put-freed-requires
-put_freed_requires c κs =
-    let at_list = c.before.before.before in
-    room_left at_list.put_dead_list.ensures 27 (left (at_swept at_list)).room
-
-returns_2 : tie.Need-returns-2
-returns_2 c =
-    let at_freed = c.before.before in
-    let at_list = at_freed.before.before.before.before in
-    as_text (swept_text (left (at_swept at_list)))
-    (then at_list.put_dead_list.ensures.put at_freed.put_freed.ensures.put)
+    as_text (swept_text (left c.before.before.before.before.before.before.before.before))
+    (then c.put_dead_list-end.ensures.put c.put_freed.ensures.put)
 
 pub put_swept_spec : {M : Type 1} → statement M
 put_swept_spec =
     tie.close
     (tie.spec (λ c κs. search rules) (λ c. search rules) (λ c. search rules) (λ c κs. search rules)
-    (λ c κs. search rules) (λ c. search rules) (λ c. search rules) returns (λ c. search rules)
-    slice_reshare_prefix_put_dead_list slice_aggregate_put_dead_list put_dead_list_requires put_freed_requires
-    (λ c. search rules) (λ c. search rules) returns_2)
+    (λ c κs. search rules) (λ c. search rules) (λ c. search rules) returns-in_default (λ c. search rules)
+    slice_bounds-put_dead_list-end slice_bounds-put_dead_list-end-2 put_dead_list-end-requires put_freed-requires
+    (λ c. search rules) (λ c. search rules) returns)

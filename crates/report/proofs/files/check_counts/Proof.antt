@@ -4,21 +4,19 @@ use borrow.Author.Tests.{lt-ltb, le-ltb}
 use Rattle.report.proofs.files.check_counts.Statement.{statement}
 use Rattle.report.proofs.files.check_counts.Tie as tie
 
+returns-then-n-gt-MOST_OBJECTS : tie.Need-returns-then-n-gt-MOST_OBJECTS
+returns-then-n-gt-MOST_OBJECTS c = rw (lt-ltb most_objects c.args.n c.if-n-gt-MOST_OBJECTS.true)
+
+returns-then-m-gt-MOST_REFERENCES : tie.Need-returns-then-m-gt-MOST_REFERENCES
+returns-then-m-gt-MOST_REFERENCES c =
+    let a = c.args in
+    rw (le-ltb most_objects a.n c.if-n-gt-MOST_OBJECTS.false, lt-ltb most_references a.m c.if-m-gt-MOST_REFERENCES.true)
+
 returns : tie.Need-returns
-returns c = rw (lt-ltb most_objects c.before.args.n c.if1.true)
-
-returns_2 : tie.Need-returns-2
-returns_2 c =
-    let s = c.before in
-    let a = s.before.args in
-    rw (le-ltb most_objects a.n s.if1.false, lt-ltb most_references a.m c.if2.true)
-
-returns_3 : tie.Need-returns-3
-returns_3 c =
-    let s = c.before in
-    let a = s.before.args in
-    rw (le-ltb most_objects a.n s.if1.false, le-ltb most_references a.m c.if2.false)
+returns c =
+    let a = c.args in
+    rw (le-ltb most_objects a.n c.if-n-gt-MOST_OBJECTS.false, le-ltb most_references a.m c.if-m-gt-MOST_REFERENCES.false)
 
 pub check_counts_spec : {M : Type 1} → statement M
 check_counts_spec =
-    tie.close (tie.spec returns returns_2 returns_3)
+    tie.close (tie.spec returns-then-n-gt-MOST_OBJECTS returns-then-m-gt-MOST_REFERENCES returns)

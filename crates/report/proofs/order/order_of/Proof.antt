@@ -7,18 +7,17 @@ use borrow.Author.Rules.{rules}
 use Rattle.report.proofs.order.order_of.Statement.{statement}
 use Rattle.report.proofs.order.order_of.Tie as tie
 
-cast_t4 : tie.Need-overflow-cast-t4
-cast_t4 c = omega (arith, c.shared_slice_known2.given 0)
+overflow_cast-result : tie.Need-overflow_cast-result
+overflow_cast-result c = omega (arith, c.shared_slice_known-2-1.given 0)
 
 returns : tie.Need-returns
 unfolding word
 returns c =
-    let start = c.before.before.before.before in
-    let first : get_or start.args.order.now 0 0 ≡ word 1 start.args.order.now = omega arith in
-    λ j. record { workers = first j; batch = c.before.word2.ensures.0 j; cutoff = c.word22.ensures.0 j }
+    let first : get_or c.args.order.now 0 0 ≡ word 1 c.args.order.now = omega arith in
+    λ j. record { workers = first j; batch = c.word2.ensures.0 j; cutoff = c.word2-2.ensures.0 j }
 
 pub order_of_spec : {M : Type 1} → statement M
 order_of_spec =
     tie.close
-    (tie.spec (λ c. search rules) cast_t4 (λ c κs. search rules) (λ c. search rules) (λ c κs. search rules)
+    (tie.spec (λ c. search rules) overflow_cast-result (λ c κs. search rules) (λ c. search rules) (λ c κs. search rules)
     (λ c. search rules) returns)

@@ -16,31 +16,27 @@ module _ (s : tie.Start) where
   offsets = let few = s.requires.few_objects in part_long (s.args.n + 1) (most_objects + 1) (omega arith)
 
   targets : length (take {A = ℕ} s.args.m (replicate most_references 0)) ≡ s.args.m
-  targets = part_long s.args.m most_references s.pre.few_references
+  targets = part_long s.args.m most_references s.requires.few_references
 
   each : length (take {A = ℕ} s.args.n (replicate most_objects 0)) ≡ s.args.n
-  each = part_long s.args.n most_objects s.pre.few_objects
+  each = part_long s.args.n most_objects s.requires.few_objects
 
-abbrev entry : tie.After-offsets → tie.Start
-entry c = c.before.before.before.before
+slice_bounds-put_read-end : tie.Need-slice_bounds-put_read-end
+slice_bounds-put_read-end c = sym (offsets c.before.before.before.before)
 
-slice_aggregate_put_read : tie.Need-slice-aggregate-put-read
-slice_aggregate_put_read c = sym (offsets (entry c))
+slice_bounds-put_read-end-2 : tie.Need-slice_bounds-put_read-end-2
+slice_bounds-put_read-end-2 c = sym (targets c.before.before.before.before.before)
 
-slice_aggregate_put_read_2 : tie.Need-slice-aggregate-put-read-2
-slice_aggregate_put_read_2 c = sym (targets (entry c.before))
+slice_bounds-put_read-end-3 : tie.Need-slice_bounds-put_read-end-3
+slice_bounds-put_read-end-3 c = sym (each c.before.before.before.before.before.before)
 
-slice_aggregate_put_read_3 : tie.Need-slice-aggregate-put-read-3
-slice_aggregate_put_read_3 c = sym (each (entry c.before.before))
-
-put_read_requires : tie.Need-put-read-requires
-put_read_requires c κs =
-    let s = entry c.before.before.before.before in
-    let p = s.pre in
-    let e = each s in
+put_read-requires : tie.Need-put_read-requires
+put_read-requires c κs =
+    let p = c.requires in
+    let e = each c.before.before.before.before.before.before.before.before in
     record {
-      all_offsets = omega (arith, offsets s);
-      all_targets = targets s ∙ p.references_are;
+      all_offsets = omega (arith, offsets c.before.before.before.before.before.before.before.before);
+      all_targets = targets c.before.before.before.before.before.before.before.before ∙ p.references_are;
       all_sizes = e ∙ p.objects_are;
       all_starts = length-replicate {A = ℕ} start_words 0;
       few = omega arith;
@@ -51,5 +47,5 @@ put_read_requires c κs =
 pub put_store_spec : {M : Type 1} → statement M
 put_store_spec =
     tie.close
-    (tie.spec (λ c. search rules) (λ c. search rules) slice_aggregate_put_read (λ c. search rules) slice_aggregate_put_read_2
-    (λ c. search rules) slice_aggregate_put_read_3 (λ c. search rules) put_read_requires (λ c. search rules) (λ c. search rules))
+    (tie.spec (λ c. search rules) (λ c. search rules) slice_bounds-put_read-end (λ c. search rules) slice_bounds-put_read-end-2
+    (λ c. search rules) slice_bounds-put_read-end-3 (λ c. search rules) put_read-requires (λ c. search rules) (λ c. search rules))
