@@ -27,7 +27,7 @@ decreases_loop offsets targets marks₀ work₀ tallies regs begun most top₀ l
     7 * length targets + 2 - (followed + won + load.polls)
 
 abbrev entry : tie.At-loop-top invariant_loop decreases_loop → tie.Start invariant_loop decreases_loop
-entry c = c.before.before.before.before.before.before.before.before.before.before.before
+entry c = c.before.before.before.before.before.before.before.before.before.before
 
 abbrev Given : tie.Start invariant_loop decreases_loop → Type 0
 Given s =
@@ -36,10 +36,7 @@ Given s =
 
 loop-top-init : tie.Need-loop-top-init invariant_loop decreases_loop
 loop-top-init c =
-    let t = c.before in
-    let r = t.before in
-    let s = r.before.before.before.before.before.before.before.before in
-    (refl, refl, λ x. rw (c.load_of-load.ensures, t.top_of-top.ensures, r.load-block.ensures) (going_begins s.requires.0 x))
+    (refl, refl, λ x. rw (c.load_of-load.ensures, c.top_of-top.ensures, c.load-block.ensures) (going_begins c.requires.0 x))
 
 -- a part of the run, with the batch that it lies within
 module _ (c : tie.After-smaller-size invariant_loop decreases_loop) where
@@ -66,7 +63,7 @@ module _ (c : tie.After-smaller-size invariant_loop decreases_loop) where
 -- what is carried behind it
 module _ (n : tie.After-next-top invariant_loop decreases_loop) where
   abbrev f : tie.After-follow-found invariant_loop decreases_loop
-  f = n.before.before.before.before.before.before.before
+  f = n.before.before.before.before.before.before
 
   abbrev sized : tie.After-smaller-size invariant_loop decreases_loop
   sized = f.before.before.before
@@ -76,7 +73,7 @@ module _ (n : tie.After-next-top invariant_loop decreases_loop) where
 
   module _ (x : Given (entry loop)) where
     going_done : Going (graph (entry loop).args.offsets.now (entry loop).args.targets.now) x.here.starts (setting_of (entry loop).args.begun.setup)
-        f.follow-found.new.1.1.0 f.follow-found.new.1.1.1.0 n.next-top.result
+        f.follow-found.new.marks f.follow-found.new.s n.next-top.result
         (load_with ((load sized).batch - sized.smaller-size.result) ((load sized).carried + f.follow-found.result.opened) (load sized).polls)
         (loop.loop-top.followed + sized.smaller-size.result) (loop.loop-top.won + f.follow-found.result.won)
     going_done =
@@ -102,67 +99,44 @@ load-block-requires c κs =
 
 poll-l-requires : tie.Need-poll-l-requires invariant_loop decreases_loop
 poll-l-requires c κs =
-    let l = c.before.before in
-    let g = l.loop-top.invariant.2 (entry l).requires.1 in
+    let g = c.loop-top.invariant.2 c.requires.1 in
     omega (arith, counts_few g, g.here.references_limit)
 
 follow-found-requires : tie.Need-follow-found-requires invariant_loop decreases_loop
 follow-found-requires c κs =
-    let s = c.before.before in
-    let x = (entry (at s)).requires.1 in
-    part_of (going_on s x) (test s).loop-top-test.true (batch_on s x) s.smaller-size.ensures
+    let x = (entry (at c.before.before)).requires.1 in
+    part_of (going_on c.before.before x) (test c.before.before).loop-top-test.true (batch_on c.before.before x) c.smaller-size.ensures
 
 overflow_add-rest : tie.Need-overflow_add-rest invariant_loop decreases_loop
 overflow_add-rest c =
-    let s = c.before.before.before.before.before.before.before.before in
-    let x = (entry (at s)).requires.1 in
-    omega (arith, (size_some (going_on s x) (test s).loop-top-test.true (batch_on s x) s.smaller-size.ensures).1)
+    let x = (entry (at c.before.before.before.before.before.before.before.before)).requires.1 in
+    omega (arith, (size_some (going_on c.before.before.before.before.before.before.before.before x) (test c.before.before.before.before.before.before.before.before).loop-top-test.true (batch_on c.before.before.before.before.before.before.before.before x) c.smaller-size.ensures).1)
 
 next-top-requires : tie.Need-next-top-requires invariant_loop decreases_loop
 next-top-requires c κs =
-    let q = c.before.before.before.before.before.before in
-    let s = q.before.before.before in
-    let x = (entry (at s)).requires.1 in
-    (q.follow-found.ensures (part_of (going_on s x) (test s).loop-top-test.true (batch_on s x) s.smaller-size.ensures)).holds.room
-
--- behind the next run
-abbrev behind : tie.After-struct_known-in-loop-top-6-1 invariant_loop decreases_loop → tie.After-next-top invariant_loop decreases_loop
-behind c = c.before.before.before.before
+    let x = (entry (at c.before.before.before.before.before.before.before.before)).requires.1 in
+    (c.follow-found.ensures (part_of (going_on c.before.before.before.before.before.before.before.before x) (test c.before.before.before.before.before.before.before.before).loop-top-test.true (batch_on c.before.before.before.before.before.before.before.before x) c.smaller-size.ensures)).holds.room
 
 given : (n : tie.After-next-top invariant_loop decreases_loop) → Given (entry (loop n))
 given n = (entry (loop n)).requires.1
 
 loop-top-smaller : tie.Need-loop-top-smaller invariant_loop decreases_loop
 loop-top-smaller c =
-    let n = behind c in
-    let x = given n in
-    omega (arith, (counted n x).0, (size_done n x).0, polls_on (sized n) x)
+    let x = given c.before.before.before.before in
+    omega (arith, (counted c.before.before.before.before x).0, (size_done c.before.before.before.before x).0, polls_on (sized c.before.before.before.before) x)
 
 loop-top-preserved : tie.Need-loop-top-preserved invariant_loop decreases_loop
 loop-top-preserved c =
-    let n = behind c in
-    let i = (loop n).loop-top.invariant in
-    ((f n).follow-found.auto.1.1.0 ∙ i.0, (f n).follow-found.auto.1.1.1.0 ∙ i.1, λ x. going_done n x)
-
--- nothing is left
-abbrev left : tie.After-end-arg-2-1 invariant_loop decreases_loop → tie.After-loop-top invariant_loop decreases_loop
-left c = c.before.before
+    let i = (loop c.before.before.before.before).loop-top.invariant in
+    ((f c.before.before.before.before).follow-found.auto.marks ∙ i.0, (f c.before.before.before.before).follow-found.auto.s ∙ i.1, λ x. going_done c.before.before.before.before x)
 
 end-requires : tie.Need-end-requires invariant_loop decreases_loop
 end-requires c κs =
-    let l = (left c).before.before in
-    let s = entry l in
-    endable s.requires.0 s.requires.1 (l.loop-top.invariant.2 s.requires.1) (omega (arith, (left c).loop-top-test.false))
-
-abbrev ended : tie.After-slice_known-6-1 invariant_loop decreases_loop → tie.After-end invariant_loop decreases_loop
-ended c = c.before.before.before.before
+    endable c.requires.0 c.requires.1 (c.loop-top.invariant.2 c.requires.1) (omega (arith, c.loop-top-test.false))
 
 returns : tie.Need-returns invariant_loop decreases_loop
 returns c =
-    let e = ended c in
-    let l = (left e.before).before.before in
-    let s = entry l in
-    λ x. holds_ended s.requires.0 x (l.loop-top.invariant.2 x) (omega (arith, (left e.before).loop-top-test.false)) e.end.ensures e.end.auto.1.0
+    λ x. holds_ended c.requires.0 x (c.loop-top.invariant.2 x) (omega (arith, c.loop-top-test.false)) c.end.ensures c.end.auto.regs
 
 pub take_turns_spec : {M : Type 1} → statement M
 take_turns_spec =
@@ -170,8 +144,8 @@ take_turns_spec =
     (tie.spec invariant_loop decreases_loop load-block-requires (λ c κs. search rules) (λ c κs. search rules) loop-top-init poll-l-requires
     (λ c. omega (arith, c.loop-top-test.true)) (λ c κs. search rules) follow-found-requires overflow_add-rest next-top-requires
     (λ c. (size_done c.before (given c.before)).2)
-    (λ c. let n = c.before.before.before in omega (arith, load_few (going_done n (given n)), (counted n (given n)).1))
-    (λ c. let n = c.before.before.before in omega (arith, counted n (given n)))
-    (λ c. let n = behind c in omega (arith, counted n (given n)))
-    loop-top-smaller loop-top-preserved end-requires (λ c. (left (ended c).before).loop-top.invariant.0)
-    (λ c. (left (ended c).before).loop-top.invariant.1) (λ c. (ended c).end.auto.0) (λ c. (ended c).end.auto.1.0) returns)
+    (λ c. omega (arith, load_few (going_done c.before.before.before (given c.before.before.before)), (counted c.before.before.before (given c.before.before.before)).1))
+    (λ c. omega (arith, counted c.before.before.before (given c.before.before.before)))
+    (λ c. omega (arith, counted c.before.before.before.before (given c.before.before.before.before)))
+    loop-top-smaller loop-top-preserved end-requires (λ c. c.loop-top.invariant.0)
+    (λ c. c.loop-top.invariant.1) (λ c. c.end.auto.tallies) (λ c. c.end.auto.regs) returns)

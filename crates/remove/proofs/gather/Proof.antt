@@ -32,12 +32,12 @@ loop-i-preserved c =
     let a = c.loop-i.invariant in
     let h = c.loop-i-test.true in
     ⊎_elim
-    (λ w. rw (w.7, w.8) (gathered_new a h w.0.taken w.1.taken w.3.kept.0 w.3.ensures w.6.taken))
+    (λ w. rw (w.taken-is, w.count-is) (gathered_new a h w.if-base-e.true w.if-e-end.true w.insert.auto.words w.insert.ensures w.if-insert.true))
     (⊎_elim
-    (λ w. rw (w.7, w.8) (gathered_again a h w.0.taken w.1.taken w.3.kept.0 w.3.ensures w.6.left))
+    (λ w. rw (w.taken-is, w.count-is) (gathered_again a h w.if-base-e.true w.if-e-end.true w.insert.auto.words w.insert.ensures w.if-insert.false))
     (⊎_elim
-    (λ w. rw (w.2, w.3) (gathered_out a h (λ p q. omega (arith, w.1.left))))
-    (λ w. rw (w.1, w.2) (gathered_out a h (λ p q. omega (arith, w.0.left))))))
+    (λ w. rw (w.taken-is, w.count-is) (gathered_out a h (λ p q. omega (arith, w.if-e-end.false))))
+    (λ w. rw (w.taken-is, w.count-is) (gathered_out a h (λ p q. omega (arith, w.if-base-e.false))))))
     c.if-base-e.branch-raw
 
 returns : tie.Need-returns invariant_loop decreases_loop
