@@ -173,7 +173,7 @@ class Contracts(unittest.TestCase):
             ("graph/specs/Limits.antt", "most_objects = 65536", "most_objects = 65535"),
             ("desk/specs/Limits.antt", "most_workers = 16", "most_workers = 8"),
             ("kullneyra/specs/Promise.antt", "  pub collected : Collected", "  pub collected : W ≡ 1 → Collected"),
-            ("kullneyra/specs/Promise.antt", "  pub all_marked_lem :", "  pub some_marked :"),
+            ("kullneyra/specs/Promise.antt", "  pub all_marked :", "  pub some_marked :"),
             ("kullneyra/specs/Calls.antt", "answer_in k result number = pick", "answer_in k result number = const 0 pick"),
             ("kullneyra/specs/Calls.antt", "Rattle.layers.specs.Hops.{HopsOf,", "Rattle.layers.specs.Hops.{HopsLike as HopsOf,"),
         ):

@@ -374,10 +374,11 @@ def arrows(top: Path, found: list[File]) -> Iterator[str]:
             needs[file.crate].add(module[1] if module else one.module.partition("::")[0])
         needs[file.crate] |= {match[1] for of, _ in file.written.paths if (match := MODULE.match(of))}
     for number, line in enumerate((top / "crates.txt").read_text(encoding="utf-8").splitlines(), 1):
-        name, colon, below = line.partition("#")[0].partition(":")
+        head, colon, below = line.partition("#")[0].partition(":")
+        name = head.split()[0] if colon else ""  # without its kind, as `staticlib`
         for crate in below.split() if colon else ():
-            if crate not in needs[name.strip()]:
-                yield f"crates.txt:{number}: no file of {name.strip()} needs {crate}"
+            if crate not in needs[name]:
+                yield f"crates.txt:{number}: no file of {name} needs {crate}"
 
 
 def upwards(found: list[File]) -> Iterator[str]:

@@ -268,6 +268,8 @@ class Dead(unittest.TestCase):
         self.write("crates.txt", CLEAN["crates.txt"].replace("above: below io", "above: below io os"))
         self.found("no file of above needs os")
         self.assertEqual(self.faults()[0][0], "crates.txt:3")
+        self.write("crates.txt", CLEAN["crates.txt"].replace("above: below io", "above staticlib: below io os"))
+        self.found("no file of above needs os")
         self.change(CODE, '    io::write_all(1, b"Other");\n', "")
         self.found("no file of above needs io", "no file of above needs os")
 
