@@ -1,6 +1,6 @@
 # The lines that begin with `#:` are what `make help` prints.
 #: make run               proves what the program needs, builds it, and runs it on the sample store; STORE=FOLDER for another
-#: make test              the gate: proves every crate, tries every must-fail edit, and runs every test; some 20 minutes
+#: make test              the gate: proves every crate, tries every must-fail edit, and runs every test; a second time much sooner
 #: make library           proves and builds target/staticlib/libkullneyra.a, for C, C++, Rust and Go
 #: make shared            builds target/sharedlib/libkullneyra.so of it, for programs that link it at run time, and for Python
 #: make oci               builds target/bin/kullneyra-oci, the command over OCI image layouts and the folders of registries
@@ -18,7 +18,7 @@
 #: make clean             removes all that was proved and built here
 #:
 #: What is missing is told before anything is proved. What was proved is proved again only where its files have changed.
-.PHONY: help test run programs library shared packaged deb oci oci-stress steps deal course sheets pause install uninstall clean compare bench bench-instructions FORCE
+.PHONY: help test run programs library from-ci shared packaged deb oci oci-stress steps deal course sheets pause install uninstall clean compare bench bench-instructions FORCE
 .DEFAULT_GOAL = help
 
 # A path may have spaces in it: none is a prerequisite, and each is quoted.
@@ -66,7 +66,13 @@ target/staticlib/libkullneyra.a: FORCE
 
 FORCE:
 
-# The same objects in a shared library: its name has the major version, and it exports the calls and nothing else.
+# The gate's: what rt ci has just proved is put together, and proved no second time.
+from-ci:
+	@tools/prove --from-ci --as programs --log target/programs.log collect deck
+	@tools/library --from-ci
+
+# The same objects in a shared library: its name has the major version, and it exports the calls and nothing else. Its other names are
+# copies here, since rt ci refuses a checkout with a link in it; where it is installed they are links.
 shared: $(SHARED)
 
 $(SHARED): target/staticlib/libkullneyra.a runtime/kullneyra.map VERSION
@@ -75,8 +81,8 @@ $(SHARED): target/staticlib/libkullneyra.a runtime/kullneyra.map VERSION
 	@gcc -shared -o $@.new -Wl,--whole-archive target/staticlib/libkullneyra.a -Wl,--no-whole-archive -Wl,-soname,libkullneyra.so.$(MAJOR) \
 	    -Wl,--version-script=runtime/kullneyra.map -Wl,-z,defs -Wl,-z,relro -Wl,-z,now -Wl,-z,noexecstack
 	@mv $@.new $@
-	@ln -sf $(@F) target/sharedlib/libkullneyra.so.$(MAJOR)
-	@ln -sf $(@F) target/sharedlib/libkullneyra.so
+	@cp $@ target/sharedlib/libkullneyra.so.$(MAJOR)
+	@cp $@ target/sharedlib/libkullneyra.so
 
 # The command over an OCI image layout or the folder of a registry; needs Go and the Debian packages that runtime/go/packages lists.
 oci:
@@ -140,7 +146,7 @@ deb:
 packaged: library shared programs oci pause steps deal
 
 clean:
-	rm -rf target runtime/rust/target runtime/rust/pause/target tests/runtime/own/target
+	rm -rf target crates/*/out runtime/rust/target runtime/rust/pause/target tests/runtime/own/target
 	find tools tests runtime -name __pycache__ -prune -exec rm -rf {} +
 
 compare:

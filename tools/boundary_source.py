@@ -110,8 +110,10 @@ class Group(NamedTuple):
     made: str
 
 
-SIGNATURE = re.compile(r'#\[no_mangle\]\s*pub extern "C" fn (\w+)\s*\(([^()]*)\)\s*->\s*([^\s{]+)')
+SIGNATURE = re.compile(r'#\[unsafe\(no_mangle\)\]\s*pub extern "C" fn (\w+)\s*\(([^()]*)\)\s*->\s*([^\s{]+)')
 EXPORT = re.compile(r"\b(?:no_mangle|extern|export_name)\b")
+# In Rattle's clauses `result` is what a function answers, so the crates call the result words otherwise.
+RESULT = {"res": "result"}
 PARAMETER = re.compile(r"(\w+): (?:(&(?:mut )?)\[(u8|u32|u64)\]|(u32|u64|usize))")
 COUNT = re.compile(r"pub (\w+): u64,")
 NUMBER_OF = re.compile(r"pub fn number_of\b.*?\n\{\s*match r \{(.*?)\n    \}\n\}", re.DOTALL)
@@ -136,7 +138,7 @@ def parameters_of(text: str) -> Iterator[Tuple[int, str, Optional[Parameter]]]:
         word = part.strip()
         if word:
             found = PARAMETER.fullmatch(word)
-            known = Parameter(found[1], found[3] or found[4], found[2] or "") if found else None
+            known = Parameter(RESULT.get(found[1], found[1]), found[3] or found[4], found[2] or "") if found else None
             yield at + part.index(word), word, known
         at += len(part) + 1
 
@@ -169,7 +171,7 @@ def exported_in(path: str, source: str) -> Iterator[Call]:
         result = parameters.pop() if parameters and parameters[-1].name == "result" else None
         if answer != "u32":
             raise Fault(f"{place}: {symbol} answers {answer} and no u32")
-        if result and str(result) not in ("result: &mut [u32]", "result: &mut [u64]"):
+        if result and (result.lent != "&mut " or result.type not in ("u32", "u64")):
             raise Fault(f"{place}: {symbol}: result words are &mut [u32] or &mut [u64]")
         if any(one.name == "result" for one in parameters):
             raise Fault(f"{place}: {symbol}: result words are the last parameter")

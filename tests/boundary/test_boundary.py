@@ -23,7 +23,7 @@ GRAPH, DESK, PLACES = "crates/graph/src/lib.rt", "crates/desk/src/lib.rt", "crat
 LEASES, CARDS = "crates/catalogue/src/check.rt", "crates/cards/src/table.rt"
 HOPS, MARKING, NAMES = "crates/traverse/src/lib.rt", "crates/changes/src/marking.rt", "crates/names/src/lib.rt"
 SOURCES = (*EXPORTS, COUNTS, REFUSALS, GRAPH, DESK, PLACES, LEASES, CARDS, HOPS, MARKING, NAMES)
-HOP_WORDS = 'pub extern "C" fn kullneyra_hop_words(objects: u32, result: &mut [u64]) -> u32'
+HOP_WORDS = 'pub extern "C" fn kullneyra_hop_words(objects: u32, res: &mut [u64]) -> u32'
 HOP_PAGES = '[calls.hop_pages]\nwords = "PAGES"\nrefusals = [4, 7]\nverb = "is"\ndoc = "How many pages {hops} takes."\n\n'
 
 
@@ -77,7 +77,7 @@ class Boundary(unittest.TestCase):
 
     def add_export(self, signature):
         """Another exported function in front of `kullneyra_hop_words`; answers its line."""
-        self.edit(UPDATE, "#[no_mangle]\n" + HOP_WORDS, f"#[no_mangle]\n{signature} {{ 0 }}\n#[no_mangle]\n{HOP_WORDS}")
+        self.edit(UPDATE, "#[unsafe(no_mangle)]\n" + HOP_WORDS, f"#[unsafe(no_mangle)]\n{signature} {{ 0 }}\n#[unsafe(no_mangle)]\n{HOP_WORDS}")
         return self.text(UPDATE)[: self.text(UPDATE).index(signature)].count("\n") + 1
 
 
@@ -199,14 +199,14 @@ class Signatures(Boundary):
         self.assertIn(row, self.text(COMPARE))
         calls = self.text(COMPARE).count("    NumberCall {")
         for new, is_one in (
-            ("objects: u64, result: &mut [u64]", "side.hop_words(given[0], result)"),
-            ("cards: usize, objects: u32, result: &mut [u64]", "side.hop_words(given[0] as usize, given[1] as u32, result)"),
-            ("objects: &[u32], result: &mut [u64]", ""),
-            ("objects: u32, list: &mut [u32], result: &mut [u64]", ""),
-            ("objects: u32, result: &mut [u32]", ""),
-            ("result: &mut [u64]", ""),
+            ("objects: u64, res: &mut [u64]", "side.hop_words(given[0], result)"),
+            ("cards: usize, objects: u32, res: &mut [u64]", "side.hop_words(given[0] as usize, given[1] as u32, result)"),
+            ("objects: &[u32], res: &mut [u64]", ""),
+            ("objects: u32, list: &mut [u32], res: &mut [u64]", ""),
+            ("objects: u32, res: &mut [u32]", ""),
+            ("res: &mut [u64]", ""),
         ):
-            self.edit(UPDATE, "kullneyra_hop_words(objects: u32, result: &mut [u64])", f"kullneyra_hop_words({new})")
+            self.edit(UPDATE, "kullneyra_hop_words(objects: u32, res: &mut [u64])", f"kullneyra_hop_words({new})")
             self.assertEqual(self.run_tool(), (0, ""))
             text = self.text(COMPARE)
             with self.subTest(new):
@@ -243,41 +243,41 @@ class Signatures(Boundary):
         return done.returncode, done.stderr
 
     def test_a_comment_is_no_call(self):
-        self.edit(SCHEDULE, "#[no_mangle]", f"// #[no_mangle]\n// {HOP_WORDS}\n#[no_mangle]")
+        self.edit(SCHEDULE, "#[unsafe(no_mangle)]", f"// #[unsafe(no_mangle)]\n// {HOP_WORDS}\n#[unsafe(no_mangle)]")
         self.assertEqual(self.differing(), [])
 
     def test_not_understood(self):
-        one = "kullneyra_hop_words(objects: u32, result: &mut [u64]) -> u32"
+        one = "kullneyra_hop_words(objects: u32, res: &mut [u64]) -> u32"
         kept = self.text(UPDATE)
         for new in (
-            "kullneyra_hop_words(objects: u16, result: &mut [u64]) -> u32",
-            "kullneyra_hop_words(objects: bool, result: &mut [u64]) -> u32",
-            "kullneyra_hop_words(objects: &[u16], result: &mut [u64]) -> u32",
-            "kullneyra_hop_words(objects: [u32; 4], result: &mut [u64]) -> u32",
-            "kullneyra_hop_words(objects: *const u32, result: &mut [u64]) -> u32",
-            "kullneyra_hop_words(objects: Option<&[u8]>, result: &mut [u64]) -> u32",
-            "kullneyra_hop_words(objects, result: &mut [u64]) -> u32",
-            "kullneyra_hop_words(objects: u32, result: &mut [u64]) -> u64",
-            "kullneyra_hop_words(result: &mut [u64], objects: u32) -> u32",
-            "kullneyra_hop_words(objects: u32, result: &[u64]) -> u32",
-            "kullneyra_hop_words(objects: u32, result: &mut [u8]) -> u32",
-            "kullneyra_hop_words(objects: u32, result: u64) -> u32",
-            "kullneyra_header(objects: u32, result: &mut [u64]) -> u32",
-            "hop_words(objects: u32, result: &mut [u64]) -> u32",
+            "kullneyra_hop_words(objects: u16, res: &mut [u64]) -> u32",
+            "kullneyra_hop_words(objects: bool, res: &mut [u64]) -> u32",
+            "kullneyra_hop_words(objects: &[u16], res: &mut [u64]) -> u32",
+            "kullneyra_hop_words(objects: [u32; 4], res: &mut [u64]) -> u32",
+            "kullneyra_hop_words(objects: *const u32, res: &mut [u64]) -> u32",
+            "kullneyra_hop_words(objects: Option<&[u8]>, res: &mut [u64]) -> u32",
+            "kullneyra_hop_words(objects, res: &mut [u64]) -> u32",
+            "kullneyra_hop_words(objects: u32, res: &mut [u64]) -> u64",
+            "kullneyra_hop_words(res: &mut [u64], objects: u32) -> u32",
+            "kullneyra_hop_words(objects: u32, res: &[u64]) -> u32",
+            "kullneyra_hop_words(objects: u32, res: &mut [u8]) -> u32",
+            "kullneyra_hop_words(objects: u32, res: u64) -> u32",
+            "kullneyra_header(objects: u32, res: &mut [u64]) -> u32",
+            "hop_words(objects: u32, res: &mut [u64]) -> u32",
         ):
             line = self.edit(UPDATE, one, new)
             self.assert_fault(f"{UPDATE}:{line}: ")
             (self.top / UPDATE).write_text(kept, encoding="utf-8")
-        lead = '#[no_mangle]\npub extern "C" fn '
+        lead = '#[unsafe(no_mangle)]\npub extern "C" fn '
         for old, new in (
-            (lead + one, lead + "kullneyra_hop_words(objects: (u32, u32), result: &mut [u64]) -> u32"),
-            (lead + one, lead + "kullneyra_hop_words<T>(objects: u32, result: &mut [u64]) -> u32"),
-            (lead + one, lead + "kullneyra_hop_words(objects: u32, result: &mut [u64])"),
+            (lead + one, lead + "kullneyra_hop_words(objects: (u32, u32), res: &mut [u64]) -> u32"),
+            (lead + one, lead + "kullneyra_hop_words<T>(objects: u32, res: &mut [u64]) -> u32"),
+            (lead + one, lead + "kullneyra_hop_words(objects: u32, res: &mut [u64])"),
             (lead + "kullneyra_hop_words", 'pub extern "C" fn kullneyra_hop_words'),
-            (lead + "kullneyra_hop_words", "#[no_mangle]\npub fn kullneyra_hop_words"),
-            (lead + "kullneyra_hop_words", '#[no_mangle]\nextern "C" fn kullneyra_hop_words'),
-            (lead + "kullneyra_hop_words", '#[no_mangle]\npub extern "system" fn kullneyra_hop_words'),
-            ("#[no_mangle]\npub", '#[export_name = "kullneyra_header"]\npub'),
+            (lead + "kullneyra_hop_words", "#[unsafe(no_mangle)]\npub fn kullneyra_hop_words"),
+            (lead + "kullneyra_hop_words", '#[unsafe(no_mangle)]\nextern "C" fn kullneyra_hop_words'),
+            (lead + "kullneyra_hop_words", '#[unsafe(no_mangle)]\npub extern "system" fn kullneyra_hop_words'),
+            ("#[unsafe(no_mangle)]\npub", '#[unsafe(export_name = "kullneyra_header")]\npub'),
         ):
             line = self.edit(UPDATE, old, new)
             self.assert_fault(f"{UPDATE}:{line}: a signature that is not understood")
@@ -285,7 +285,7 @@ class Signatures(Boundary):
 
     def test_an_export_elsewhere(self):
         """Only the crates ffi_* are linked, so an export of another would be missing without a word."""
-        line = self.edit(COUNTS, "pub struct Counts", f"#[no_mangle]\n{HOP_WORDS} {{ 0 }}\n\npub struct Counts")
+        line = self.edit(COUNTS, "pub struct Counts", f"#[unsafe(no_mangle)]\n{HOP_WORDS} {{ 0 }}\n\npub struct Counts")
         self.assert_fault(f"{COUNTS}:{line}: only ")
 
     def test_a_parameter_in_its_line(self):

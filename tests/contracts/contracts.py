@@ -30,28 +30,28 @@ CALL = re.compile(r"`(\w+(?:::\w+)+)`")
 # What the contract of each exported function cites. One that is not here answers a length.
 LENGTH = ("LengthIn",)
 CITED = {
-    "kullneyra_header": ("headerAnswer", "headerWords"),
+    "kullneyra_header": ("header_answer", "header_words"),
     "kullneyra_read": ("Reads",),
-    "kullneyra_references": ("partAnswer", "partWords"),
+    "kullneyra_references": ("part_answer", "part_words"),
     "kullneyra_mark": ("Marks",),
     "kullneyra_mark_all": ("MarksAll",),
     "kullneyra_begin": ("Begins",),
     "kullneyra_resume": ("Resumes",),
-    "kullneyra_sweep": ("sweepAnswer", "sweepList", "sweepWords", "SweepPromise"),
-    "kullneyra_deal": ("fault", "turnsOf", "Rounds"),
+    "kullneyra_sweep": ("sweep_answer", "sweep_list", "sweep_words", "SweepPromise"),
+    "kullneyra_deal": ("fault", "turns_of", "Rounds"),
     "kullneyra_draw": ("DrawsIn",),
     "kullneyra_deal_seed": ("DealsIn", "DealPromise"),
     "kullneyra_hops": ("HopsIn",),
     "kullneyra_add": ("AddsIn",),
     "kullneyra_remove": ("RemovesIn",),
-    "kullneyra_market_header": ("marketAnswer", "headerWords"),
+    "kullneyra_market_header": ("market_answer", "header_words"),
     "kullneyra_import": ("Imports",),
-    "kullneyra_export": ("exportFault", "bytesAfter", "Returns"),
+    "kullneyra_export": ("export_fault", "bytes_after", "Returns"),
     "kullneyra_scan": ("ScansIn",),
 }
 
 SKIPPED = re.compile(r"""//[^\n]*|b'(?:\\.|[^\\'])'|"(?:\\.|[^\\"])*\"""")
-CLAUSE = re.compile(r"(?:\b(requires|ensures)\s*)?\{")
+CLAUSE = re.compile(r"(?:\b(requires|ensures)(\*?(?: +\w+)?)\s*)?\{")
 EXPORT = re.compile(r'\bextern\s+"C"\s+fn\s+(\w+)')
 IMPORT = re.compile(r"^ghost use [^;]*;", re.MULTILINE)
 PROTOTYPE = re.compile(r"^uint32_t (kullneyra_\w+)\(", re.MULTILINE)
@@ -74,13 +74,13 @@ def bare(source: str) -> str:
 
 
 class Contract(NamedTuple):
-    """A function's signature, and its clauses in their order: `requires` or `ensures`, and the text in its braces."""
+    """A function's signature, and its clauses in their order: `requires` or `ensures`, perhaps with a name, and the text in its braces."""
 
     signature: str
     clauses: list[tuple[str, str]]
 
     def said(self, kind: str) -> list[str]:
-        return [text for one, text in self.clauses if one == kind]
+        return [text for one, text in self.clauses if re.match(r"\w+", one)[0] == kind]
 
 
 def contract(source: str, declaration: str) -> Optional[Contract]:
@@ -95,7 +95,7 @@ def contract(source: str, declaration: str) -> Optional[Contract]:
         while depth:
             depth += {"{": 1, "}": -1}.get(source[at], 0)
             at += 1
-        clauses.append((found[1], flat(source[found.end() : at - 1])))
+        clauses.append((found[1] + found[2], flat(source[found.end() : at - 1])))
     end = first if first is not None else found.start() if found else len(source)
     return Contract(flat(source[declared.start() : end]), clauses)
 

@@ -15,7 +15,7 @@ CALLS = contracts.calls((TOP / PROMISES).read_text(encoding="utf-8"))
 SOURCES = [path.relative_to(TOP) for path in sorted(TOP.glob(EXPORTS))]
 FUNCTIONS = {name: path for path in SOURCES for name in EXPORT.findall((TOP / path).read_text(encoding="utf-8"))}
 
-ASKING = "\n    requires { ⌜ record { n = 1 } ≡ record { n = 1 } ⌝ }"
+ASKING = "\n    requires { record { n = 1 } ≡ record { n = 1 } }"
 
 
 class Contracts(unittest.TestCase):
@@ -115,7 +115,7 @@ class Contracts(unittest.TestCase):
 
     def test_what_is_no_fault(self):
         def change(text):
-            return text.replace("pub fn read", "// requires { }\nfn own(x: u8) -> u8\n    requires { ⌜ x ≡ 1 ⌝ }\n{\n    x\n}\n\npub fn read", 1)
+            return text.replace("pub fn read", "// requires { }\nfn own(x: u8) -> u8\n    requires { x ≡ 1 }\n{\n    x\n}\n\npub fn read", 1)
 
         self.assertEqual(self.changed(self.calls["catalogue::read"][0], change), [])
 
@@ -147,13 +147,14 @@ class Contracts(unittest.TestCase):
         """What every other check lets through."""
         mark, deal = self.calls["kullneyra_mark"][0], self.calls["kullneyra_deal"][0]
         for path, old, new in (
-            (mark, "ensures { λ r. ⌜ Marks (callOf", "ensures { λ r. ⌜ workers ≡ 1 → Marks (callOf"),
+            (mark, "ensures { Marks (call_of", "ensures { workers ≡ 1 → Marks (call_of"),
             (mark, "(settings workers batch cutoff)", "(settings 1 batch cutoff)"),
             (mark, "    workers: u32,\n", "    workers: u8,\n"),
             (mark, "Promise.{Marks,", "Promise.{Words as Marks,"),
-            (deal, "r ≡ fault workers (now (cards .entry)) (length (now (schedule .entry))) ⌝ }", "1 ≡ 1 ⌝ }"),
-            (deal, "(r ≡ 0 → Rounds workers", "(r ≡ 1 → Rounds workers"),
-            (self.calls["sweep::sweep"][0], "    ensures { λ r. ⌜ Collection (now", "    ensures { λ r. ⌜ length (now marks) ≡ 0 → Collection (now"),
+            (deal, "result ≡ fault workers cards.now (length schedule.old) }", "1 ≡ 1 }"),
+            (deal, "result ≡ 0 → Rounds workers", "result ≡ 1 → Rounds workers"),
+            (deal, "ensures rounds {", "ensures turns {"),
+            (self.calls["sweep::sweep"][0], "    ensures collection { Collection marks.now", "    ensures collection { length marks.now ≡ 0 → Collection marks.now"),
         ):
             with self.subTest(new):
                 told = self.difference(path, old, new)
@@ -162,27 +163,27 @@ class Contracts(unittest.TestCase):
 
     def test_bounds_and_records(self):
         for path, old, new in (
-            ("machine/specs/Demand3.antt", "movedBound R W = 7 * R + W", "movedBound R W = 8 * R + W"),
-            ("machine/specs/Demand3.antt", "stretchBound R W = 7 * R + 4 * W + 2", "stretchBound R W = 7 * R + 4 * W + 3"),
-            ("machine/specs/Demand3.antt", "fewestStretches R W = 7 * R + 4 * W - 2", "fewestStretches R W = 7 * R + 4 * W"),
-            ("machine/specs/Demand3.antt", "handedBound R = 3 * R", "handedBound R = 4 * R"),
+            ("machine/specs/Demand3.antt", "moved_bound R W = 7 * R + W", "moved_bound R W = 8 * R + W"),
+            ("machine/specs/Demand3.antt", "stretch_bound R W = 7 * R + 4 * W + 2", "stretch_bound R W = 7 * R + 4 * W + 3"),
+            ("machine/specs/Demand3.antt", "fewest_stretches R W = 7 * R + 4 * W - 2", "fewest_stretches R W = 7 * R + 4 * W"),
+            ("machine/specs/Demand3.antt", "handed_bound R = 3 * R", "handed_bound R = 4 * R"),
             ("machine/specs/Demand3.antt", "  pub once : (e : ℕ) → sum", "  pub once : (e : ℕ) → W ≡ 1 → sum"),
-            ("theorems/specs/Waiting.antt", "replyBound g = 2 * g .batch + 1", "replyBound g = 2 * g .batch + 2"),
-            ("theorems/specs/Waiting.antt", "refusalBound g = g .cutoff", "refusalBound g = 2 * g .cutoff"),
-            ("graph/specs/Limits.antt", "most-objects = 65536", "most-objects = 65535"),
-            ("desk/specs/Limits.antt", "most-workers = 16", "most-workers = 8"),
+            ("theorems/specs/Waiting.antt", "reply_bound g = 2 * g.batch + 1", "reply_bound g = 2 * g.batch + 2"),
+            ("theorems/specs/Waiting.antt", "refusal_bound g = g.cutoff", "refusal_bound g = 2 * g.cutoff"),
+            ("graph/specs/Limits.antt", "most_objects = 65536", "most_objects = 65535"),
+            ("desk/specs/Limits.antt", "most_workers = 16", "most_workers = 8"),
             ("kullneyra/specs/Promise.antt", "  pub collected : Collected", "  pub collected : W ≡ 1 → Collected"),
-            ("kullneyra/specs/Promise.antt", "  pub all-marked :", "  pub some-marked :"),
-            ("kullneyra/specs/Calls.antt", "answerIn k result number = pick", "answerIn k result number = const 0 pick"),
-            ("kullneyra/specs/Calls.antt", "Rattle·layers.specs.Hops.{HopsOf,", "Rattle·layers.specs.Hops.{HopsLike as HopsOf,"),
+            ("kullneyra/specs/Promise.antt", "  pub all_marked_lem :", "  pub some_marked :"),
+            ("kullneyra/specs/Calls.antt", "answer_in k result number = pick", "answer_in k result number = const 0 pick"),
+            ("kullneyra/specs/Calls.antt", "Rattle.layers.specs.Hops.{HopsOf,", "Rattle.layers.specs.Hops.{HopsLike as HopsOf,"),
         ):
             with self.subTest(new):
                 told = self.difference(Path("crates", path), old, new)
                 self.assertTrue(told and told.startswith(f"{SNAPSHOT}:"), told)
 
     def test_a_definition_that_is_gone(self):
-        told = self.difference(Path("crates/theorems/specs/Waiting.antt"), "replyBound", "answerBound")
-        self.assertIn("replyBound is not there", told)
+        told = self.difference(Path("crates/theorems/specs/Waiting.antt"), "reply_bound", "answer_bound")
+        self.assertIn("reply_bound is not there", told)
 
     def test_every_definition_is_there(self):
         for path, names in DEFINITIONS.items():
@@ -191,12 +192,12 @@ class Contracts(unittest.TestCase):
 
     def test_white_space_and_comments(self):
         path = self.calls["kullneyra_hops"][0]
-        self.assertIsNone(self.difference(path, "ensures { λ r. ⌜ HopsIn (now", "ensures {\n        λ r. ⌜ HopsIn // the counts\n        (now"))
+        self.assertIsNone(self.difference(path, "ensures { HopsIn offsets", "ensures {\n        HopsIn // the counts\n        offsets"))
         limits = Path("crates/graph/specs/Limits.antt")
-        self.assertIsNone(self.difference(limits, "most-objects = 65536", "-- n\nmost-objects =\n    65536"))
+        self.assertIsNone(self.difference(limits, "most_objects = 65536", "-- n\nmost_objects =\n    65536"))
 
     def test_not_there_or_changed_by_hand(self):
-        self.assertIn("7 * R + W", self.difference(SNAPSHOT, "movedBound R W = 7 * R + W", "movedBound R W = 7 * R"))
+        self.assertIn("7 * R + W", self.difference(SNAPSHOT, "moved_bound R W = 7 * R + W", "moved_bound R W = 7 * R"))
         (self.top / SNAPSHOT).unlink()
         self.assertIn(f"{SNAPSHOT}:1: ", contracts.difference(self.top))
 

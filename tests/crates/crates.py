@@ -24,18 +24,22 @@ DOCUMENTS = ("README.md", "docs/*.md")
 TOKEN = re.compile(
     r"""(?P<skip>\s+|--[^\n]*|\{-.*?-\}|"(?:\\.|[^"\\])*")|(?P<name>«[^»]*»|[^\s(){}.;,@"«»⌜⌝⟦⟧]+)|(?P<mark>.)""", re.DOTALL
 )
-MARKS = {"pub", "abbrev", "unfoldable", "axiom"}
+MARKS = {"pub", "abbrev", "unfoldable", "opaque", "axiom"}
 IMPORT = re.compile(r"^(pub )?use ([^\s{;]+?)\.\{([^}]*)\}|^use ([^\s{;]+) as (\S+)", re.MULTILINE)
-MODULE = re.compile(r"Rattle·(\w+)(?:·(?:specs|proofs))?\.((?:specs|proofs)\b.*)")
+MODULE = re.compile(r"Rattle\.(\w+)\.((?:specs|proofs)\b.*)")
 QUOTED = re.compile(r"`([^`\n]+)`")
 EDITED = re.compile(r"^file: (\S+)$", re.MULTILINE)
 WRITTEN = re.compile(r"^new:(.*)$", re.MULTILINE)
 
-# Code: what is no code in it, the clauses of its contracts, and what it brings in.
+# What Rattle and a reader ask for is public in the proof of a function.
+ASKED = ("Proof.antt", "Invariants.antt", "Answers.antt")
+
+# Code: what is no code in it, the clauses of its contracts and ghost items, the lemmas that a tactic is given, and what it brings in.
 NO_CODE = re.compile(r"""//[^\n]*|b?'(?:\\.|[^\\'])'|b?"(?:\\[\s\S]|[^\\"])*\"""")
-CLAUSE = re.compile(r"\b(?:requires|ensures)\s*\{")
+CLAUSE = re.compile(r"\b(?:(?:requires|ensures)\*?(?:\s+\w+)?|ghost\s+\w+\s*:)\s*\{")
+TACTIC = re.compile(r"#!?\[tactic\(([^\]]*)\)\]")
 GHOST = re.compile(r"^ghost (use [^;]*);", re.MULTILINE)
-BROUGHT = re.compile(r"^use ([\w:]+?)(?: as (\w+))?;", re.MULTILINE)
+BROUGHT = re.compile(r"^use ([\w:]+?)(?:::\{([^{}]*)\}|(?: as (\w+))?);", re.MULTILINE)
 
 # A function's name and its parameters, of which WIDE are many; so many functions may have as many.
 FUNCTION = re.compile(r"\bfn (\w+)(?:<[^>]*>)?\(([^)]*)\)")
@@ -89,16 +93,16 @@ class Names:
                 pass  # a name that is declared here: a field, or a helper
             else:
                 self.bare.add(token.text)
-                self.bare.add(token.text.strip("_"))
+                self.bare.add(token.text.strip("◌"))
         return self
 
     def has(self, name: str) -> bool:
         """A name is written as it is, or, an operator, part by part; `do` writes the two that it stands for."""
-        if name in self.bare or (name in ("_>>=_", "_>>_") and "do" in self.bare):
+        if name in self.bare or (name in ("◌>>=◌", "◌>>◌") and "do" in self.bare):
             return True
         if name.startswith("«"):
             return False
-        parts = [part for part in name.split("_") if part]
+        parts = [part for part in name.split("◌") if part]
         return parts != [name] and all(part in self.bare for part in parts)
 
 
@@ -217,13 +221,23 @@ def read_antt(path: Path, source: str, edited: Names) -> File:
 
 
 def clauses(code: str) -> Iterator[str]:
-    """What stands between the braces of each `requires` and `ensures`."""
+    """What stands between the braces of each `requires`, `ensures` and ghost item."""
     for found in CLAUSE.finditer(code):
         depth, at = 1, found.end()
         while depth:
             depth += {"{": 1, "}": -1}.get(code[at], 0)
             at += 1
         yield code[found.end() : at - 1]
+
+
+def named_items(brought) -> Iterator[tuple[str, str]]:
+    """The path and the local name of each thing that a `use` of code brings in."""
+    if brought[2] is None:
+        yield brought[1], brought[3] or brought[1].rpartition("::")[2]
+    for part in filter(None, (part.strip() for part in (brought[2] or "").split(","))):
+        name, _, local = part.partition(" as ")
+        path = brought[1] if name == "self" else f"{brought[1]}::{name}"
+        yield path, local or path.rpartition("::")[2]
 
 
 def without_literals(source: str) -> str:
@@ -234,7 +248,7 @@ def without_literals(source: str) -> str:
 def read_code(path: Path, source: str, edited: Names) -> File:
     code = without_literals(source)
     written = Names()
-    for clause in clauses(code):
+    for clause in [*clauses(code), *TACTIC.findall(code)]:
         written.add(tokens(clause))
     brought = []
     for found in GHOST.finditer(code):
@@ -244,9 +258,9 @@ def read_code(path: Path, source: str, edited: Names) -> File:
     words = set(re.findall(r"\w+", bare)) | edited.bare
     for found in BROUGHT.finditer(code):
         line = code.count("\n", 0, found.start()) + 1
-        local = found[2] or found[1].rpartition("::")[2]
-        if local not in words:
-            brought.append(Import(found[1], local, local, line))
+        for of, local in named_items(found):
+            if local not in words:
+                brought.append(Import(of, local, local, line))
     paths = set(re.findall(r"(?<![\w:])(\w+)::", code))
     return File(path, brought, written, edited, code=paths)
 
@@ -306,7 +320,7 @@ def is_drawing(file: File, item: Item) -> bool:
 def is_read(file: File, item: Item, known: set[str]) -> bool:
     """Whether a declaration is there for somebody else than another declaration: the toolchain asks for what is `pub` in the
     proof of a function, and a reader for drawings and for what the documents name."""
-    asked = item.public and file.path.name == "Proof.antt"
+    asked = item.public and file.path.name in ASKED
     return item.kind in ("module", "open") or asked or is_drawing(file, item) or not known.isdisjoint(item.names)
 
 
@@ -366,13 +380,14 @@ def arrows(top: Path, found: list[File]) -> Iterator[str]:
                 yield f"crates.txt:{number}: no file of {name.strip()} needs {crate}"
 
 
-def upwards(found: Iterable[File]) -> Iterator[str]:
+def upwards(found: list[File]) -> Iterator[str]:
     """Definitions and contracts that a reader cannot read without proofs."""
+    crates = {file.crate for file in found}
     for file in found:
         if file.path.parts[1] != "proofs":
             cited = {(one.line, one.module): MODULE.fullmatch(one.module) for one in file.imports}
             for (line, module), ours in cited.items():
-                if ours and ours[2].startswith("proofs"):
+                if ours and ours[1] in crates and ours[2].startswith("proofs"):
                     yield f"crates/{file.path}:{line}: what is promised cites {module}"
 
 

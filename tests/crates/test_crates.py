@@ -14,16 +14,16 @@ CLEAN = {
     "docs/PROMISES.md": "",
     "crates/below/specs/Twice.antt": """\
 -- twice a number; `three` stands in no text but this one
-use Prim.Native.Nat.{ℕ, _+_, _<_}
-use mathlib.Core.Path.{_≡_, refl}
-use mathlib.Core.List.{List, [], _∷_}
+use Rattle.std.specs.Prelude.{ℕ, ◌+◌, ◌<◌}
+use Rattle.std.specs.Prelude.{◌≡◌, refl}
+use Rattle.std.specs.Prelude.{List, [], ◌∷◌}
 
-infixl 60 _⊕_
-pub _⊕_ : ℕ → ℕ → ℕ
-_⊕_ a b = a + b
+infixl 60 ◌⊕◌
+pub ◌⊕◌ : ℕ → ℕ → ℕ
+◌⊕◌ a b = a + b
 
 unfoldable pub twice : ℕ → ℕ
-unfolding _⊕_
+unfolding ◌⊕◌
 twice n = n ⊕ n
 
 -- a list of numbers
@@ -42,68 +42,68 @@ abbrev pub pair : List ℕ
 pair = 1 ∷ []
 """,
     "crates/below/proofs/Laws.antt": """\
-use Prim.Native.Nat.{ℕ, zero, suc, _+_}
-use mathlib.Core.Path.{_≡_, refl}
-use Rattle·below·specs.specs.Twice.{twice, Numbers, none, more}
+use Rattle.std.specs.Prelude.{ℕ, zero, suc, ◌+◌}
+use Rattle.std.specs.Prelude.{◌≡◌, refl}
+use Rattle.below.specs.Twice.{twice, Numbers, none, more}
 
 pub record Same (a b : ℕ) : Type 0 where
   pub same : a ≡ b
 
 module _ {a b : ℕ} (x : Same a b) where
-  sum-same : a + a ≡ b + b
-  sum-same = step (x .same)
+  sum_same : a + a ≡ b + b
+  sum_same = step (x.same)
     where
       step : a ≡ b → a + a ≡ b + b
       step e = rw e refl
 
-  pub twice-same : twice a ≡ twice b
+  pub twice_same : twice a ≡ twice b
   unfolding twice
-  twice-same = sum-same
+  twice_same = sum_same
 
 pub count : Numbers → ℕ
 count none = zero
 count (more n l) = suc (count l)
 """,
     "crates/above/specs/Call.antt": """\
-use Rattle·below.specs.Twice.{twice as doubled, pair}
-use Prim.Native.Nat.{ℕ}
+use Rattle.below.specs.Twice.{twice as doubled, pair}
+use Rattle.std.specs.Prelude.{ℕ}
 
-abbrev pub result : ℕ → ℕ
-result n = doubled n
+abbrev pub told : ℕ → ℕ
+told n = doubled n
 
 pub record Answer (n : ℕ) : Type 0 where
   pub words : pair ≡ pair
 """,
     "crates/above/proofs/Promise.antt": """\
-use Rattle·below.proofs.Laws as laws
-use Rattle·below.proofs.Laws.{Same}
-use Rattle·above·specs.specs.Call.{Answer}
+use Rattle.below.proofs.Laws as laws
+use Rattle.below.proofs.Laws.{Same}
+use Rattle.above.specs.Call.{Answer}
 
 -- nothing in crates/ cites it
 pub promised : {a b : ℕ} → Same a b → Answer (laws.count none) → twice a ≡ twice b
-promised x y = laws.twice-same x
+promised x y = laws.twice_same x
 """,
     "crates/above/proofs/answer/Proof.antt": """\
-use Rattle·above·proofs.proofs.answer.Tie as tie
-use borrow.Author.Needs.{needs}
+use Rattle.above.proofs.answer.Tie as tie
+use Rattle.std.proofs.Common.{rules}
 
-pub answer-spec : {M : Type 1} → statement M
-answer-spec = tie.close (tie.spec (λ c. search needs))
+pub answer_spec : {M : Type 1} → statement M
+answer_spec = tie.close (tie.spec (λ c. search rules))
 """,
     "crates/above/src/lib.rt": """\
 use below::Word;
-ghost use mathlib.Core.Path.{_≡_};
-ghost use Rattle·above·specs.specs.Call.{result};
+ghost use Rattle.std.specs.Prelude.{◌≡◌};
+ghost use Rattle.above.specs.Call.{told};
 
 // `Other` is no name of this file
 pub fn answer(w: Word) -> u64
-    ensures { λ r. do ⌜ r ≡ result (← ⟦w.len()⟧) ⌝ }
+    ensures { result ≡ told (words w.now) }
 {
     io::write_all(1, b"Other");
     w.len()
 }
 """,
-    "crates/above/must-fail/wrong.edit": "# the result is twice the number\nfile: src/lib.rt\nold: ensures { λ r.\nnew: requires { λ r.\n",
+    "crates/above/must-fail/wrong.edit": "# the result is twice the number\nfile: src/lib.rt\nold: ensures { result\nnew: requires { result\n",
 }
 
 LAWS, TWICE, CALL = "crates/below/proofs/Laws.antt", "crates/below/specs/Twice.antt", "crates/above/specs/Call.antt"
@@ -135,15 +135,18 @@ class Dead(unittest.TestCase):
         self.found()
 
     def test_place(self):
-        self.change(LAWS, "{ℕ, zero, suc, _+_}", "{ℕ, zero, suc, _+_, _*_}")
-        self.assertEqual(self.faults(), [[f"{LAWS}:1", "_*_ is imported and not used"]])
+        self.change(LAWS, "{ℕ, zero, suc, ◌+◌}", "{ℕ, zero, suc, ◌+◌, ◌*◌}")
+        self.assertEqual(self.faults(), [[f"{LAWS}:1", "◌*◌ is imported and not used"]])
 
     def test_unused_names(self):
         for path, old, new, wrong in (
-            (LAWS, "_≡_, refl}", "_≡_, refl, sym}", "sym"),
+            (LAWS, "◌≡◌, refl}", "◌≡◌, refl, sym}", "sym"),
             (CALL, "{ℕ}", "{ℕ as Number, ℕ}", "Number"),
-            (CODE, "Path.{_≡_}", "Path.{_≡_, _∙_}", "_∙_"),
+            (CODE, "Prelude.{◌≡◌}", "Prelude.{◌≡◌, ◌∙◌}", "◌∙◌"),
             (CODE, "use below::Word;", "use below::Word;\nuse below::Other;", "Other"),
+            (CODE, "use below::Word;", "use below::{Word, Other};", "Other"),
+            (CODE, "use below::Word;", "use below::{Word, Third as Other};", "Other"),
+            (CODE, "use below::Word;", "use below::{Word, more::Other};", "Other"),
         ):
             with self.subTest(wrong):
                 self.change(path, old, new)
@@ -151,48 +154,68 @@ class Dead(unittest.TestCase):
                 self.write(path, CLEAN[path])
 
     def test_unused_module(self):
-        self.change("crates/above/proofs/answer/Proof.antt", "use borrow", "use Rattle·above·proofs.proofs.answer.Lts as lts\nuse borrow")
+        self.change("crates/above/proofs/answer/Proof.antt", "use Rattle.std", "use Rattle.above.proofs.answer.Lts as lts\nuse Rattle.std")
         self.found("lts is brought in and not used")
 
     def test_names_that_are_no_use(self):
         """A comment, a quoted text, a field, a label, and a name that is bound or declared do not use what they are spelled like."""
         for line in (
-            "-- step-up",
-            'text : String\ntext = "step-up"',
-            "text : Same 0 0 → 0 ≡ 0\ntext x = x .step-up",
-            "text : Same 0 0\ntext = record { step-up = refl }",
-            "text : ℕ\ntext = let step-up = 0 in 0",
-            "record Text : Type 0 where\n  pub step-up : ℕ",
+            "-- step_up",
+            'text : String\ntext = "step_up"',
+            "text : Same 0 0 → 0 ≡ 0\ntext x = x.step_up",
+            "text : Same 0 0\ntext = record { step_up = refl }",
+            "text : ℕ\ntext = let step_up = 0 in 0",
+            "record Text : Type 0 where\n  pub step_up : ℕ",
         ):
             with self.subTest(line):
-                self.change(LAWS, "twice, Numbers", "twice, step-up, Numbers")
+                self.change(LAWS, "twice, Numbers", "twice, step_up, Numbers")
                 with (self.top / LAWS).open("a", encoding="utf-8") as file:
                     file.write(f"\n{line}\n")
-                self.assertIn("step-up is imported and not used", [wrong for _, wrong in self.faults()])
+                self.assertIn("step_up is imported and not used", [wrong for _, wrong in self.faults()])
 
     def test_operators(self):
         """An operator is used between its arguments, as a section, by its whole name and on an `unfolding` line."""
-        for use in ("a ≤ b", "(_≤ b) a", "_≤_ a b", "let x : ℕ = 0 in (≤_ a)"):
+        for use in ("a ≤ b", "(◌≤ b) a", "◌≤◌ a b", "let x : ℕ = 0 in (≤◌ a)"):
             with self.subTest(use):
-                self.change(LAWS, "{ℕ, zero, suc, _+_}", "{ℕ, zero, suc, _+_, _≤_}")
+                self.change(LAWS, "{ℕ, zero, suc, ◌+◌}", "{ℕ, zero, suc, ◌+◌, ◌≤◌}")
                 text = (self.top / LAWS).read_text(encoding="utf-8")
-                self.write(LAWS, text.replace("sum-same = step (x .same)", f"sum-same = step (x .same) ({use})"))
+                self.write(LAWS, text.replace("sum_same = step (x.same)", f"sum_same = step (x.same) ({use})"))
                 self.found()
-        self.change(TWICE, "unfolding _⊕_\ntwice n = n ⊕ n", "unfolding _⊕_\ntwice n = n")
+        self.change(TWICE, "unfolding ◌⊕◌\ntwice n = n ⊕ n", "unfolding ◌⊕◌\ntwice n = n")
         self.found()
-        self.change(LAWS, "{ℕ, zero, suc, _+_}", "{ℕ, zero, suc, _+_, if_then_else_}")
-        self.found("if_then_else_ is imported and not used")
+        self.change(LAWS, "{ℕ, zero, suc, ◌+◌}", "{ℕ, zero, suc, ◌+◌, if◌then◌else◌}")
+        self.found("if◌then◌else◌ is imported and not used")
 
     def test_do_notation(self):
-        self.change(CODE, "Path.{_≡_}", "Path.{_≡_, _>>=_}")
+        self.change(LAWS, "{◌≡◌, refl}", "{◌≡◌, refl, ◌>>=◌}")
+        self.found("◌>>=◌ is imported and not used")
+        text = (self.top / LAWS).read_text(encoding="utf-8")
+        self.write(LAWS, text.replace("count none = zero", "count none = do zero"))
         self.found()
-        self.change(LAWS, "Path.{_≡_, refl}", "Path.{_≡_, refl, _>>=_}")
-        self.found("_>>=_ is imported and not used")
+
+    def test_what_a_tactic_is_given(self):
+        self.change(CODE, "Call.{told}", "Call.{told, Answer}")
+        text = (self.top / CODE).read_text(encoding="utf-8")
+        for attribute in ("#[tactic(auto, using(Answer))]\n", "#[tactic(auto, unfolding(Answer))]\n"):
+            self.write(CODE, text.replace("pub fn answer", f"{attribute}pub fn answer"))
+            self.found()
+        self.write(CODE, text.replace("pub fn answer", "// #[tactic(auto, using(Answer))]\npub fn answer"))
+        self.found("Answer is imported and not used")
+
+    def test_clauses(self):
+        """Those with names, starred ones and ghost items."""
+        self.change(CODE, "Call.{told}", "Call.{told, Answer}")
+        text = (self.top / CODE).read_text(encoding="utf-8")
+        for clause in ("ensures words { Answer result }", "ensures* { Answer result }", "requires small { Answer 0 }"):
+            self.write(CODE, text.replace("\n{\n", f"\n    {clause}\n{{\n"))
+            self.found()
+        self.write(CODE, text + "\nstruct Kept {\n    n: u8,\n    ghost invariant: { Answer n },\n}\n")
+        self.found()
 
     def test_edit_writes(self):
-        self.change(CODE, "Call.{result}", "Call.{result, Answer}")
+        self.change(CODE, "Call.{told}", "Call.{told, Answer}")
         self.found("Answer is imported and not used")
-        self.change("crates/above/must-fail/wrong.edit", "requires { λ r.", "ensures { λ r. Answer r")
+        self.change("crates/above/must-fail/wrong.edit", "requires { result", "ensures { Answer result × result")
         self.found()
 
     def test_uncited(self):
@@ -231,10 +254,15 @@ class Dead(unittest.TestCase):
         path = "crates/above/proofs/answer/Proof.antt"
         self.write(path, CLEAN[path] + "\nspare : ℕ\nspare = 0\n")
         self.found("nothing cites spare")
+        self.write(path, CLEAN[path])
+        for name in ("Invariants", "Answers"):
+            self.write(f"crates/above/proofs/answer/{name}.antt", "abbrev pub asked : ℕ\nasked = 0\n\nspare : ℕ\nspare = 0\n")
+            self.found("nothing cites spare")
+            (self.top / f"crates/above/proofs/answer/{name}.antt").unlink()
 
     def test_cited_by_code_alone(self):
-        self.change(CODE, "r ≡ result (← ⟦w.len()⟧)", "r ≡ 0")
-        self.found("result is imported and not used", "nothing cites result")
+        self.change(CODE, "result ≡ told (words w.now)", "result ≡ 0")
+        self.found("told is imported and not used", "nothing cites told")
 
     def test_arrows(self):
         self.write("crates.txt", CLEAN["crates.txt"].replace("above: below io", "above: below io os"))
@@ -244,15 +272,18 @@ class Dead(unittest.TestCase):
         self.found("no file of above needs io", "no file of above needs os")
 
     def test_promises_cite_proofs(self):
-        self.change(CALL, "use Prim", "use Rattle·below.proofs.Laws.{Same}\nuse Prim")
+        self.change(CALL, "use Rattle.std", "use Rattle.below.proofs.Laws.{Same}\nuse Rattle.std")
         text = (self.top / CALL).read_text(encoding="utf-8")
         self.write(CALL, text.replace("pair ≡ pair", "pair ≡ pair → Same n n"))
-        self.assertEqual(self.faults(), [[f"{CALL}:2", "what is promised cites Rattle·below.proofs.Laws"]])
+        self.assertEqual(self.faults(), [[f"{CALL}:2", "what is promised cites Rattle.below.proofs.Laws"]])
         self.write(CALL, CLEAN[CALL])
-        self.change(CODE, "ghost use mathlib", "ghost use Rattle·below.proofs.Laws.{Same};\nghost use mathlib")
+        self.change(CODE, "ghost use Rattle.std", "ghost use Rattle.below.proofs.Laws.{Same};\nghost use Rattle.std")
         text = (self.top / CODE).read_text(encoding="utf-8")
-        self.write(CODE, text.replace("r ≡ result", "Same r r → r ≡ result"))
-        self.assertEqual(self.faults(), [[f"{CODE}:2", "what is promised cites Rattle·below.proofs.Laws"]])
+        self.write(CODE, text.replace("result ≡ told", "Same result result → result ≡ told"))
+        self.assertEqual(self.faults(), [[f"{CODE}:2", "what is promised cites Rattle.below.proofs.Laws"]])
+        # The kit's are no proofs of ours.
+        self.write(CODE, CLEAN[CODE].replace("specs.Prelude", "proofs.lemmas.Lists"))
+        self.found()
 
     def test_wide(self):
         eight = ",\n    ".join(f"{name}: &[u32; 4]" for name in "abcdefgh")

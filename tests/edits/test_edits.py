@@ -1,5 +1,6 @@
-"""Tests of edits.py: what a first error may be, logs that are missing, empty or old, and folders of edits."""
+"""Tests of edits.py: what may be said first, logs that are missing, whole or old, and folders of edits."""
 
+import os
 import shutil
 import tempfile
 import unittest
@@ -7,20 +8,20 @@ from pathlib import Path
 
 import edits
 
-SPEC = "-- the numbers\nuse Prim.Native.Nat.{ℕ}\n\nlimit : ℕ\nlimit = 6\n\nfigure : limit ≡ 6\nfigure = refl\n"
+SPEC = "-- the numbers\nuse Rattle.std.specs.Prelude.{ℕ}\n\nlimit : ℕ\nlimit = 6\n\nfigure : limit ≡ 6\nfigure = refl\n"
 EDIT = "# one more\nfile: specs/Limits.antt\nold: limit = 6\nnew: limit = 7\n"
 DIFFER = "`figure`: as printed, the two types differ only where one has `6` (expected) and the other has `7` (found)"
-LAST = "fn one::limit: not proved\nlogic=not-proved\n"
+REFUSED = "refused, as it must be: "
 LEAVES = "has no last argument, so what it leaves must be a path whose two ends are equal, and `Path A x y`\n  is none"
 
-# First errors of edits that attack something.
+# What is said first of edits that attack something.
 FACTS = (
     DIFFER,
     "`figure`: computed as far as they go, the two types first differ where one has `2` (expected) and the other has `1` (found)",
     "`run`: computed as far as they go, the two types are `Path A old new`\n  (expected) and `Path A old old` (found)",
     "`home`: computed as far as they go, the two indices differ only where one has `s .workers`",
-    "`kept`: expected type `old ≡ unlessRefused (suc k) new old`, but this has type `old ≡ old`\n  computed as far as they go",
-    "`returns`: `get 24 locals`\n  ≟ `not (c .is-sound .result)`: does not hold (this comparison, made",
+    "`kept`: expected type `old ≡ unless_refused (suc k) new old`, but this has type `old ≡ old`\n  computed as far as they go",
+    "`returns`: `get 24 locals`\n  ≟ `not (c.is_sound.result)`: does not hold (this comparison, made",
     "`stored`: `startsFault ss` ≟ `raise (outside most-starts (length ss)) 13 0`\n  does not hold (this comparison, made",
     "`halves`: `omega`: the goal does not follow from what it read. All of that holds, and the goal fails, at `g .cutoff` = 1",
     "`halves`: `omega`: the part `.0` of the goal does not follow from what it read. All of that holds, and the part fails",
@@ -30,13 +31,22 @@ FACTS = (
     f"`spec`: give a proof of that as the last argument, `simp L t`\n  `simp` {LEAVES}",
     "`again`: expected type `Inv-loop x`\n  but this has type `Inv-loop y`",
     "`moved`: `rw`: no occurrence of the path's left endpoint in the goal: write the family yourself and transport, `subst`",
+    # rt leaves out the end.
+    "`unwritten`: expected type `old ≡ unless_refused (suc k) new old`, but this has type `old ≡ o",
+    "`kept`: expected type `old ≡ unless_refused (suc k) new old ≡ unless_refused (suc k) new",
+    "`stored`: `starts_fault ss` ≟ `raise (outside most_starts (length ss)) 13 0`",
+    "`stored`: `starts_fault ss` ≟ `raise (outside most_starts",
+    "`stored`: `starts_fault ss` ≟ `raise (outside most_starts (length ss)) 13 0` does",
+    "`number_of_spec`: give a proof of that as the last argument, `rw L t` (`rw L ?` shows it as a hole's goal), or add w",
+    "`verdict_number_spec`: `search`: no proof of `mathlib.Core.Path.◌≡◌ 12 (number_of c.args.v)` was found. `grind`",
+    "`loop-k`: `omega`: the goal does not follow from what it read. All of that holds, and the goal fails, a",
     # What follows is advice.
     "`filled`: as printed, the two types differ only where one has `x` (expected) and the other has `y` (found)\n  (`b` is not in scope here)",
     # Words of the crate that sound like a fault are none.
     "`missing`: as printed, the two types differ only where one has `unexpected unbound private` (expected) and the other has `0` (found)",
 )
 
-# First errors of edits that only do not fit.
+# What is said first of edits that only do not fit.
 UNFIT = {
     "missing field(s) of Claimed: lost": "a missing field",
     "`claim`: missing field(s) of Claimed: lost": "a missing field",
@@ -55,6 +65,7 @@ UNFIT = {
     "`number`: an exact case split needs every clause to match there or none to": "a clause that does not fit",
     "`number`: `Fine` is not a constructor of `ℕ`: it is a constructor of `Verdict`": "a clause that does not fit",
     "`close`: `number` was not admitted (it has holes or was rejected), so this cannot be checked": "something that was not admitted",
+    "1 declaration that depends on `loop-i-preserved`, which was rejected, was not checked: check_runs_spec": "what was not checked, since a name is gone",
     "`spec`: unsolved ?k: _ was not determined": "something undetermined",
     "`spec`: the numeral 0 takes its meaning from the type expected here": "something undetermined",
     "No such file or directory": "a file that is not there",
@@ -66,20 +77,17 @@ UNFIT = {
 
 
 class Edits(unittest.TestCase):
-    """Two crates, one of them without edits; what `rt must-fail` leaves of the other."""
+    """Two crates, one of them without edits; what `rt ci` says of the other."""
 
     def setUp(self):
         self.top = Path(tempfile.mkdtemp())
         self.known = edits.WITHOUT_EDITS
         edits.WITHOUT_EDITS = {"bare": "has nothing to attack"}
-        self.place = self.top / "target/must-fail/one/more"
         for path, text in {
             "crates/one/specs/Limits.antt": SPEC,
             "crates/one/src/lib.rt": "pub fn limit() -> u32 { 6 }\n",
             "crates/one/must-fail/more.edit": EDIT,
             "crates/bare/src/lib.rt": "pub fn none() {}\n",
-            "target/must-fail/one/more/specs/Limits.antt": SPEC.replace("limit = 6", "limit = 7"),
-            "target/must-fail/one/more/src/lib.rt": "pub fn limit() -> u32 { 6 }\n",
         }.items():
             self.write(path, text)
         self.log(DIFFER)
@@ -92,12 +100,14 @@ class Edits(unittest.TestCase):
         (self.top / path).parent.mkdir(parents=True, exist_ok=True)
         (self.top / path).write_text(text, encoding="utf-8")
 
-    def log(self, *messages, line=8, last=LAST):
-        errors = [f"{self.place}/specs/Limits.antt:{line}:10: error: {message}\n" for message in messages]
-        self.write("target/must-fail/one/more/.log", "".join(errors) + last)
+    def line(self, told, name="one/more"):
+        self.write("target/ci.log", f"== one\nlogic=proved functions=1\nrt: one proved\nrt: must-fail {name}.edit: {told}\nrt: ok; handles allowed: none\n")
 
-    def told(self):
-        return list(edits.faults(self.top))
+    def log(self, message, line=8):
+        self.line(f"{REFUSED}./specs/Limits.antt:{line}:10: error: {' '.join(message.split())}")
+
+    def told(self, log=None):
+        return list(edits.faults(self.top, log))
 
     def assert_told(self, *parts):
         found = self.told()
@@ -108,87 +118,88 @@ class Edits(unittest.TestCase):
     def test_facts(self):
         for message in FACTS:
             with self.subTest(message):
-                self.log(message, "missing field(s) of Claimed: lost")
+                self.log(message)
                 self.assertEqual(self.told(), [])
 
     def test_unfit(self):
         for message, kind in UNFIT.items():
             with self.subTest(message):
-                self.log(message, DIFFER)
+                self.log(message)
                 self.assert_told(f"one/more fails by {kind}, at specs/Limits.antt:8: ")
 
-    def test_a_note_before(self):
-        note = f"{self.place}/specs/Limits.antt:7:1: note: `rw` took the first instance\n"
-        text = (self.place / ".log").read_text(encoding="utf-8")
-        self.write("target/must-fail/one/more/.log", note + text)
-        self.assertEqual(self.told(), [])
-
-    def test_a_function_without_a_proof_file(self):
-        """Its search tells what fails, in a note; the errors are of those that cite it."""
-        cites = "`other-spec`: `close` was not admitted (it has holes or was rejected), so this cannot be checked"
-        note = f"note: what antt said of a `search` in the proof that rattle made: {self.place}/src/lib.rt:2:8: `returns`: "
-        for errors in ((), (cites,)):
-            self.log(*errors, last=f"{note}`search`: no proof of `Post c`\n  was found. Every way was tried\n{LAST}")
-            self.assertEqual(self.told(), [])
-            self.log(*errors, last=f"{note}`limit` is not in scope\n{LAST}")
-            self.assert_told("one/more fails by an unknown name, at src/lib.rt:2: ")
-        self.log(cites)
-        self.assert_told("one/more fails by something that was not admitted")
-
-    def test_an_error_without_a_line(self):
-        self.write("target/must-fail/one/more/.log", f"{self.place}/proofs/limit/Proof.antt: error: this file exports no `limit-spec`\n{LAST}")
-        self.assert_told("one/more fails by an unknown name, at proofs/limit/Proof.antt:")
+    def test_notes(self):
+        """A function without a proof file is proved by a search; where that finds nothing, a note says so, at the function or in the line itself."""
+        for text in (
+            "`search` found no proof (`invariant_of-result`); the facts known there allow values at which this goal is false",
+            "it is not proved that what the function ensures holds when it returns (`returns`); the facts known there allow values at which this goal i",
+        ):
+            for line in (1, 7):
+                self.line(f"{REFUSED}note: src/lib.rt:{line}:5: {text}")
+                self.assertEqual(self.told(), [])
+        self.line(f"{REFUSED}note: src/lib.rt:1:5: something that nobody has read yet")
+        self.assert_told("one/more fails by no kind that tests/edits/edits.py knows, at src/lib.rt:1: ")
 
     def test_in_its_own_line(self):
         self.log("`limit`: computed as far as they go, the two types are `ℕ` (expected) and `List ℕ` (found)", line=5)
         self.assert_told("one/more does not fit in its own line, specs/Limits.antt:5: ")
 
     def test_no_fact_fails(self):
-        for last, told in (
-            ("", "has an empty log"),
-            ("\n", "has an empty log"),
-            ("note: nothing\nlogic=proved\n", "was not refused by the prover"),
-            ("rattle: killed\n", "was not refused by the prover"),
-            (LAST, "is refused without an error"),
+        for line, told in (
+            ("refused, as it must be", "is refused without an error"),
+            ("BAD EDIT: it changes nothing", "was not refused by the prover: BAD EDIT: it changes nothing"),
+            ("NOT REFUSED: the crate is still proved with this edit", "was not refused by the prover: NOT REFUSED"),
+            ("NOT TRIED: its check was killed", "was not refused by the prover: NOT TRIED"),
+            (f"refused, as it must be (only because a proof file names what the edit took away, so this): {DIFFER}", "is refused only because a proof file names"),
+            (f"refused, as it must be (only by a limit of the prover, which gave no verdict): {DIFFER}", "is refused only by a limit of the prover: "),
         ):
-            with self.subTest(last):
-                self.log(last=last)
+            with self.subTest(line):
+                self.line(line)
                 self.assert_told(f"one/more {told}")
 
     def test_no_log(self):
-        (self.place / ".log").unlink()
-        self.assert_told("one/more has no log: run rt must-fail one, or rt ci")
         shutil.rmtree(self.top / "target")
-        self.assert_told("one/more has no log")
+        self.assert_told("target/ci.log is not there: run make test")
 
-    def test_a_log_of_another_text(self):
-        for path, text in (
-            ("crates/one/must-fail/more.edit", EDIT.replace("new: limit = 7", "new: limit = 8")),
-            ("crates/one/specs/Limits.antt", SPEC.replace("the numbers", "numbers")),
-            ("crates/one/src/lib.rt", "pub fn limit() -> u32 { 7 }\n"),
-            ("crates/one/proofs/New.antt", "-- new\n"),
-        ):
-            before = (self.top / path).read_text(encoding="utf-8") if (self.top / path).exists() else None
-            self.write(path, text)
+    def test_no_line(self):
+        self.write("target/ci.log", "rt: one proved\n")
+        self.assert_told("one/more has no line in the log: run make test")
+        self.line(f"{REFUSED}./specs/Limits.antt:8:10: error: {DIFFER}", "one/less")
+        self.assertEqual(self.told(), ["one/more has no line in the log: run make test", "one/less has a line in the log, and is not there"])
+
+    def test_a_log_of_other_files(self):
+        log = self.top / "target/ci.log"
+        for path, text in {"must-fail/more.edit": EDIT, "specs/Limits.antt": SPEC, "src/lib.rt": "new\n", "proofs/New.antt": "new\n"}.items():
+            self.write(f"crates/one/{path}", text)
+            after = (self.top / "crates/one" / path).stat().st_mtime_ns
             with self.subTest(path):
-                self.assert_told("one/more has a log of another text of ")
-            if before is None:
-                (self.top / path).unlink()
-            else:
-                self.write(path, before)
-        self.assertEqual(self.told(), [])
+                os.utime(log, ns=(after - 1, after - 1))
+                self.assert_told(f"crates/one/{path} was written after target/ci.log")
+            os.utime(log, ns=(after, after))
+            self.assertEqual(self.told(), [])
+
+    def test_a_log_of_its_own(self):
+        """That of some crates: the others are not looked at, and no times."""
+        log = self.top / "some.log"
+        shutil.copy(self.top / "target/ci.log", log)
+        os.utime(log, (1, 1))
+        self.write("crates/two/src/lib.rt", "pub fn two() {}\n")
+        self.assertEqual(self.told(log), [])
+        self.assert_told("two has no edit in must-fail")
 
     def test_folders(self):
         self.write("crates/one/must-fail/deep/other.edit", EDIT)
+        os.utime(self.top / "crates/one/must-fail/deep/other.edit", (1, 1))
         self.assertEqual(len(self.told()), 2)
         shutil.rmtree(self.top / "crates/one/must-fail/deep")
         for name in ("other.edits", "other.edit.txt", "other", ".edit~"):
             self.write(f"crates/one/must-fail/{name}", EDIT)
+            os.utime(self.top / "crates/one/must-fail" / name, (1, 1))
             self.assert_told(f"crates/one/must-fail/{name} is no edit")
             (self.top / "crates/one/must-fail" / name).unlink()
 
     def test_an_emptied_folder(self):
         (self.top / "crates/one/must-fail/more.edit").unlink()
+        self.write("target/ci.log", "rt: ok\n")
         self.assert_told("one has no edit in must-fail")
         shutil.rmtree(self.top / "crates/one/must-fail")
         self.assert_told("one has no edit in must-fail")
@@ -206,6 +217,7 @@ class Edits(unittest.TestCase):
             ("# nothing\n", "changes nothing"),
         ):
             self.write("crates/one/must-fail/more.edit", text)
+            os.utime(self.top / "crates/one/must-fail/more.edit", (1, 1))
             self.assert_told(f"one/more {told}")
 
 

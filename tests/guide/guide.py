@@ -34,10 +34,9 @@ PAGES = ("README.md", "docs/GUIDE.md")
 NOT_RUN = ("the gate itself", "serves until it is stopped", "installs packages", "your own store")
 MOST_NOT_RUN = 5
 
-# Of target/ the copy has what the gate proved and built: files of its own of what a command might write, a link to the rest.
-COPIED = ("bin/collect", "bin/deck", "staticlib", "course", "stamp")
-LINKED = ("rlib",)
-NEEDED = ("bin/collect", "staticlib/libkullneyra.a", "stamp/collect")
+# Of target/ the copy has what the gate proved and built, and the stamps by which nothing of that is made again; of crates/ not what rt keeps there.
+COPIED = ("bin/collect", "bin/collect.stamp", "bin/deck", "bin/deck.stamp", "staticlib", "course")
+NEEDED = ("bin/collect", "bin/collect.stamp", "staticlib/libkullneyra.a")
 SECONDS = 300  # for one block; all of them take less than a minute
 
 FENCE = re.compile(r"^```(.*)$")
@@ -145,7 +144,7 @@ def plan(top: Path) -> list[Step]:
 
 def copy(top: Path, place: Path) -> None:
     """The repository's files with their times, and of target/ what the gate made."""
-    shutil.copytree(top, place, symlinks=True, ignore=shutil.ignore_patterns(".git", "__pycache__", "target"))
+    shutil.copytree(top, place, symlinks=True, ignore=shutil.ignore_patterns(".git", "__pycache__", "target", "out"))
     for name in COPIED:
         source, to = top / "target" / name, place / "target" / name
         to.parent.mkdir(parents=True, exist_ok=True)
@@ -153,9 +152,6 @@ def copy(top: Path, place: Path) -> None:
             shutil.copytree(source, to, ignore=shutil.ignore_patterns("parts.*"))
         elif source.exists():
             shutil.copy2(source, to)
-    for name in LINKED:
-        if (top / "target" / name).exists():
-            (place / "target" / name).symlink_to(top / "target" / name)
 
 
 def environment(top: Path, place: Path) -> dict[str, str]:
@@ -209,7 +205,7 @@ def main() -> int:
         return 1
     for name in NEEDED:
         if not (TOP / "target" / name).exists():
-            print(f"guide: target/{name} is not there, and nothing is proved here: rt check collect and make library make what is needed")
+            print(f"guide: target/{name} is not there, and nothing is proved here: make programs library makes what is needed")
             return 1
     wrong = False
     with tempfile.TemporaryDirectory() as folder:

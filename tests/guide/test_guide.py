@@ -112,9 +112,9 @@ class Guide(unittest.TestCase):
             self.refused(page, why)
 
     def test_copy(self):
-        """Files with their times, what the gate made as files of its own, what it proved as links; nothing else of target/."""
+        """Files with their times, and what the gate made as files of its own; nothing else of target/, and nothing that rt keeps."""
         target = self.top / "target"
-        for name in ("bin/collect", "staticlib/libkullneyra.a", "staticlib/parts.x/one.o", "rlib/laws", "sample/store.cat"):
+        for name in ("bin/collect", "bin/collect.stamp", "staticlib/libkullneyra.a", "staticlib/parts.x/one.o", "sample/store.cat", "../crates/laws/out/rlib/x"):
             (target / name).parent.mkdir(parents=True, exist_ok=True)
             (target / name).write_text(name)
         os.utime(self.top / "quoted.txt", (1, 1))
@@ -125,7 +125,8 @@ class Guide(unittest.TestCase):
             self.assertEqual((place / "quoted.txt").stat().st_mtime, 1)
             self.assertEqual((place / "target/staticlib/libkullneyra.a").stat().st_mtime, 2)
             self.assertFalse((place / "target/staticlib/parts.x").exists() or (place / "target/sample").exists())
-            self.assertTrue((place / "target/rlib").is_symlink())
+            self.assertTrue((place / "target/bin/collect.stamp").is_file() and (place / "crates/laws").is_dir())
+            self.assertFalse((place / "crates/laws/out").exists())
             (place / "target/bin/collect").write_text("another")
             self.assertEqual((target / "bin/collect").read_text(), "bin/collect")
         finally:

@@ -157,7 +157,7 @@ class Output(Folder):
         os.close(reader)
         done = self.start(stdout=writer)
         os.close(writer)
-        self.assertEqual((done.returncode, done.stderr), (-signal.SIGPIPE, b""))
+        self.assertEqual((done.returncode, done.stderr), (0, self.told(errno.EPIPE)))
 
     def limited(self, prepare):
         """What stands in a file that may have 20 bytes, and how the program ended."""

@@ -8,41 +8,68 @@ import unittest
 from pathlib import Path
 
 TOP = Path(__file__).resolve().parents[2]
-TOOLS = ("need", "need-packages", "prove", "library", "install", "in-memory", "rt-in-memory")
+TOOLS = ("need", "need-packages", "prove", "library", "install")
 
-# What rt prints and leaves, for crates whose files hold no `bad`: by stamps, as rt does.
+# What rt prints and leaves, for crates whose files hold no `bad`: by stamps, as rt does. `rt ci` leaves no stamps.
 RT = r"""#!/bin/bash
-cd "$PWD"
-echo "rt $*" >>"$CALLS"
-prove() {
-    stamp=$(cat "crates/$1"/src/* | sha256sum)
-    if [ "$(cat "target/stamp/$1" 2>/dev/null)" = "$stamp" ]; then
-        echo "rt: $1 proved (unchanged since it was last proved)"
-    elif grep -q bad "crates/$1"/src/*; then
+echo "rt $* in ${PWD##*/}" >>"$CALLS"
+name=${PWD##*/}
+build() {
+    stamp=$(cat src/* | sha256sum)
+    [ "$(cat "out/$1/stamp" 2>/dev/null)" != "$stamp" ] || return 0
+    if grep -q bad src/*; then
         echo "src/lib.rt:1:1: error: bad is not proved"
-        echo "rt: $1 NOT PROVED (exit 1, 2 s)"
+        echo "logic=not-proved functions=1"
         exit 1
-    else
-        mkdir -p target/stamp target/rlib target/bin target/log
-        echo "$stamp" >"target/stamp/$1"
-        if [ -e "crates/$1/src/main.rt" ]; then touch "target/bin/$1"; else touch "target/rlib/$1.rlib"; fi
-        echo "rt: $1 proved (2 s)"
     fi
+    mkdir -p "out/$1"
+    echo "$stamp" >"out/$1/stamp"
+    echo "logic=proved functions=1"
 }
 case $1 in
 version) cat "$KIT" ;;
-check)
-    shift
-    for crate in ground $*; do [ "$crate" = ground ] && [ "$seen" = 1 ] || prove "$crate"; seen=1; done
-    echo "rt: ok"
+doc) echo "${KIT%/*}/kit-folder/START-HERE.md" ;;
+lib)
+    build rlib
+    touch "out/rlib/$name.rlib"
+    [[ $name != ffi_* ]] || {
+        cat src/lib.rt ../ground/src/lib.rt >"$name.o"
+        ar rcD "out/lib$name.a" "$name.o"
+        rm "$name.o"
+    }
+    [[ $name != ffi_* ]] || [ -z "$SLOW" ] || eval "$SLOW"
     ;;
-staticlib)
-    mkdir -p "$PWD/target/staticlib"
-    cat "crates/$2/src/lib.rt" crates/ground/src/lib.rt >"$2.o"
-    ar rcD "target/staticlib/lib$2.a" "$2.o"
-    [ -z "$SLOW" ] || eval "$SLOW"
+run)
+    build made
+    cat src/main.rt >"out/$name"
+    echo "rt: running out/$name; to give it other input, run that file yourself"
+    echo "no files"
+    exit 3
+    ;;
+ci)
+    for folder in crates/*/; do
+        name=$(basename "$folder")
+        rm -rf "$folder/out"
+        mkdir -p "$folder/out"
+        case $name in
+        ffi_*) ;;
+        program) cat "$folder/src/main.rt" >"$folder/out/program" ;;
+        *) mkdir "$folder/out/rlib" && touch "$folder/out/rlib/$name.rlib" ;;
+        esac
+    done
     ;;
 esac
+"""
+
+# The compiler of the kit, that proves and compiles one crate.
+RATTLE = r"""#!/bin/bash
+echo "rattle $*" >>"$CALLS"
+name=${PWD##*/}
+! grep -q bad src/* || { echo "logic=not-proved functions=1"; exit 1; }
+cat src/lib.rt ../ground/src/lib.rt >"$name.o"
+ar rcD "out/lib$name.a" "$name.o"
+rm "$name.o"
+echo "logic=proved functions=1"
 """
 
 
@@ -55,7 +82,7 @@ class Repository(unittest.TestCase):
         for name in TOOLS:
             shutil.copy(TOP / "tools" / name, self.top / "tools" / name)
         for name, text in {
-            "crates.txt": "# layers\nground:\nupper: ground # on it\nffi_one: ground upper\nffi_two: ground\nprogram: upper io\n",
+            "crates.txt": "# layers\nground:\nupper: ground # on it\nffi_one staticlib: ground upper\nffi_two staticlib: ground\nprogram: upper\n",
             "crates/ground/src/lib.rt": "ground\n",
             "crates/upper/src/lib.rt": "upper\n",
             "crates/ffi_one/src/lib.rt": "one\n",
@@ -66,8 +93,9 @@ class Repository(unittest.TestCase):
         self.write("VERSION", "1.2.3\n")
         (self.top / "runtime" / "c").mkdir(parents=True)
         shutil.copy(TOP / "runtime" / "c" / "version.c", self.top / "runtime" / "c")
-        self.write("../bin/rt", RT)
-        (self.work / "bin" / "rt").chmod(0o755)
+        for name, text in {"../bin/rt": RT, "../kit-folder/bin/rattle": RATTLE}.items():
+            self.write(name, text)
+            (self.top / name).chmod(0o755)
         self.write("../kit", "kit 1\n")
         self.calls = self.work / "calls"
         self.archive = self.top / "target" / "staticlib" / "libkullneyra.a"
@@ -90,38 +118,62 @@ class Repository(unittest.TestCase):
         """How often rt proved something since the last question."""
         calls = self.calls.read_text().splitlines() if self.calls.exists() else []
         self.calls.unlink(missing_ok=True)
-        return sum(not line.startswith("rt version") for line in calls)
+        return sum(not line.startswith(("rt version", "rt doc")) for line in calls)
 
 
 class Prove(Repository):
     def test_a_line_for_each_crate(self):
         status, out, said = self.run_tool("prove", "--as", "run", "program")
-        self.assertEqual((status, out), (0, ""))
+        self.assertEqual((status, out), (0, ""), said)
         lines = said.splitlines()
-        self.assertEqual(lines[:2], ["run: proved 1 of 3: ground, 2 s", "run: proved 2 of 3: program, 2 s"])
-        self.assertRegex(lines[2], r"^run: 3 crates are proved, \d+ s$")
+        for line, told in zip(lines, ("proved 1 of 3: ground", "proved 2 of 3: upper", "proved 3 of 3: program")):
+            self.assertRegex(line, rf"^run: {told}, \d+ s$")
+        self.assertRegex(lines[3], r"^run: 3 crates are proved, \d+ s$")
+        self.assertEqual((self.top / "target" / "bin" / "program").read_text(), "program\n")
 
     def test_only_what_has_changed(self):
         self.run_tool("prove", "upper")
         self.assertEqual(self.run_tool("prove", "upper"), (0, "", ""))
         self.write("crates/upper/src/lib.rt", "upper, changed\n")
         lines = self.run_tool("prove", "upper")[2].splitlines()
-        self.assertEqual(lines[0], "prove: proved 2 of 2: upper, 2 s")
+        self.assertRegex(lines[0], r"^prove: proved 2 of 2: upper, \d+ s$")
         self.assertRegex(lines[1], r"^prove: 2 crates are proved, 1 of them before, \d+ s$")
+
+    def test_a_program_that_is_made(self):
+        self.run_tool("prove", "program")
+        self.checked()
+        self.assertEqual((self.run_tool("prove", "program"), self.checked()), ((0, "", ""), 0))
+        self.write("crates/upper/src/lib.rt", "upper, changed\n")
+        self.assertEqual(self.run_tool("prove", "program")[0], 0)
+        self.assertGreater(self.checked(), 0)
+        self.write("crates/program/src/main.rt", "program, changed\n")
+        self.assertEqual(self.run_tool("prove", "program")[0], 0)
+        self.assertEqual((self.top / "target" / "bin" / "program").read_text(), "program, changed\n")
 
     def test_not_proved(self):
         self.write("crates/upper/src/lib.rt", "bad\n")
-        status, out, said = self.run_tool("prove", "--log", self.top / "target" / "x.log", "upper")
-        self.assertEqual((status, out), (1, ""))
-        self.assertIn("src/lib.rt:1:1: error: bad is not proved\n", said)
-        self.assertEqual(said.splitlines()[-1], "prove: not proved: upper; what rt said is above, and in target/x.log")
-        self.assertIn("bad is not proved", (self.top / "target" / "x.log").read_text())
+        for name in ("upper", "program"):
+            status, out, said = self.run_tool("prove", "--log", self.top / "target" / "x.log", name)
+            self.assertEqual((status, out), (1, ""))
+            self.assertIn("src/lib.rt:1:1: error: bad is not proved\n", said)
+            self.assertEqual(said.splitlines()[-1], "prove: not proved: upper; what rt said is above, and in target/x.log")
+            self.assertIn("bad is not proved", (self.top / "target" / "x.log").read_text())
+        self.assertFalse((self.top / "target" / "bin" / "program").exists())
+
+    def test_a_program_that_is_not_proved(self):
+        self.run_tool("prove", "program")
+        self.write("crates/program/src/main.rt", "bad\n")
+        status, _, said = self.run_tool("prove", "program")
+        self.assertEqual((status, said.splitlines()[-1]), (1, "prove: not proved: program; what rt said is above, and in target/prove.log"))
+        self.assertEqual((self.top / "target" / "bin" / "program").read_text(), "program\n")
 
     def test_what_was_made_is_gone(self):
+        made = self.top / "target" / "bin" / "program"
         self.run_tool("prove", "program")
-        (self.top / "target" / "bin" / "program").unlink()
-        self.assertEqual(self.run_tool("prove", "program")[0], 0)
-        self.assertTrue((self.top / "target" / "bin" / "program").exists())
+        for change in (made.unlink, lambda: made.write_text("another"), (made.parent / "program.stamp").unlink):
+            change()
+            self.assertEqual(self.run_tool("prove", "program")[0], 0)
+            self.assertEqual(made.read_text(), "program\n")
 
     def test_no_such_crate(self):
         self.assertEqual(self.run_tool("prove", "uper"), (2, "", "prove: crates.txt has no crate uper\n"))
@@ -130,8 +182,54 @@ class Prove(Repository):
         self.assertEqual(self.run_tool("prove", "--plan", "ffi_one")[1].split(), ["ground", "upper", "ffi_one"])
 
     def test_usage(self):
-        for words in ([], ["--more", "x", "upper"], ["--other", "upper"], ["--digest", "upper"]):
+        for words in ([], ["--more", "upper"], ["--other", "upper"], ["--digest", "upper"]):
             self.assertEqual(self.run_tool("prove", *words)[0], 2)
+
+
+class FromCi(Repository):
+    """After rt ci nothing is proved a second time that it has proved and left."""
+
+    def setUp(self):
+        super().setUp()
+        env = {**os.environ, "CALLS": str(self.calls)}
+        subprocess.run([self.work / "bin" / "rt", "ci"], cwd=self.top, check=True, env=env)
+        self.calls.unlink()
+
+    def called(self):
+        calls = self.calls.read_text().splitlines()
+        return sorted(line.split()[0] for line in calls if not line.startswith(("rt version", "rt doc")))
+
+    def test_program(self):
+        self.assertEqual(self.run_tool("prove", "--from-ci", "program"), (0, "", ""))
+        self.assertEqual((self.called(), (self.top / "target" / "bin" / "program").read_text()), ([], "program\n"))
+        self.assertEqual(self.run_tool("prove", "program"), (0, "", ""))
+
+    def test_a_program_that_it_did_not_leave(self):
+        (self.top / "crates/program/out/program").unlink()
+        self.assertEqual(self.run_tool("prove", "--from-ci", "program")[0], 0)
+        self.assertEqual((self.top / "target" / "bin" / "program").read_text(), "program\n")
+
+    def test_library(self):
+        status, _, said = self.run_tool("library", "--from-ci")
+        self.assertEqual((status, self.called()), (0, ["rattle", "rattle"]), said)
+        first = self.archive.read_bytes()
+        self.assertEqual(self.run_tool("library")[2], "")
+        # The usual way makes the same.
+        shutil.rmtree(self.top / "target")
+        self.assertEqual(self.run_tool("library")[0], 0)
+        self.assertEqual(self.archive.read_bytes(), first)
+
+    def test_a_library_that_another_command_made(self):
+        (self.top / "crates/ground/out/rlib/stamp").write_text("of yesterday")
+        self.calls.touch()
+        self.assertEqual(self.run_tool("library", "--from-ci")[0], 0)
+        self.assertNotIn("rattle", self.called())
+        self.assertTrue(self.archive.exists())
+
+    def test_where_the_compiler_fails(self):
+        self.write("../kit-folder/bin/rattle", "#!/bin/sh\nexit 2\n")
+        self.assertEqual(self.run_tool("library", "--from-ci")[0], 0)
+        self.assertTrue(self.archive.exists())
 
 
 class Library(Repository):
@@ -181,7 +279,7 @@ class Library(Repository):
             "a new file": lambda: self.write("crates/ground/specs/Lib.antt", "law\n"),
             "a file that goes": lambda: (self.top / "crates/ground/specs/Lib.antt").unlink(),
             "another name": lambda: (self.top / "crates/ground/src/lib.rt").rename(self.top / "crates/ground/src/lip.rt") and self.write("crates/ground/src/lib.rt", "ground\n"),
-            "an arrow": lambda: self.write("crates.txt", (self.top / "crates.txt").read_text().replace("ffi_two: ground", "ffi_two: ground upper")),
+            "an arrow": lambda: self.write("crates.txt", (self.top / "crates.txt").read_text().replace("ffi_two staticlib: ground", "ffi_two staticlib: ground upper")),
             "the kit": lambda: self.write("../kit", "kit 2\n"),
             "the version": lambda: self.write("VERSION", "1.2.4\n"),
             "the tool": lambda: self.write("tools/library", (self.top / "tools/library").read_text() + "\n"),
@@ -229,7 +327,7 @@ class Help(unittest.TestCase):
         makefile = (TOP / "Makefile").read_text()
         rules = {line.partition(":")[0] for line in makefile.splitlines() if line[:1].isalpha() and ":" in line and ":=" not in line}
         # The parts that others are made of are not told.
-        self.assertEqual(rules - told, {"help", "programs", "packaged", "steps", "FORCE", "target/sample/store.cat", "target/staticlib/libkullneyra.a", "target/course/%"})
+        self.assertEqual(rules - told, {"help", "programs", "from-ci", "packaged", "steps", "FORCE", "target/sample/store.cat", "target/staticlib/libkullneyra.a", "target/course/%"})
         self.assertEqual(told - rules, set())
 
 

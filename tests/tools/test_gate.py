@@ -8,17 +8,18 @@ import unittest
 from pathlib import Path
 
 TOP = Path(__file__).resolve().parents[2]
+OK = "rt: ok; handles allowed: none; must-fail edits: 2 refused; every proof and must-fail edit was done in this run"
 GREEN = "3 passed, 0 failed"
-MADE = "made library steps deal oci"
+MADE = "made from-ci steps deal oci"
 
 
 class Gate(unittest.TestCase):
     def setUp(self):
         self.top = Path(tempfile.mkdtemp())
         (self.top / "tools").mkdir()
-        for name in ("gate", "need-packages", "in-memory", "rt-in-memory"):
+        for name in ("gate", "need-packages"):
             shutil.copy(TOP / "tools" / name, self.top / "tools" / name)
-        self.script("bin/rt", f"echo '{GREEN}'")
+        self.script("bin/rt", f'echo "$@" >>calls; echo "{OK}"; echo "{GREEN}"')
         self.script("bin/make", "shift; echo made $*")
         self.script("tests/one/run", "echo one ran")
 
@@ -37,7 +38,10 @@ class Gate(unittest.TestCase):
         return done.returncode, done.stdout.splitlines()
 
     def test_green(self):
-        self.assertEqual(self.gate(), (0, [GREEN, MADE, "gate: tests/one/run", "one ran", GREEN]))
+        self.assertEqual(self.gate(), (0, [OK, GREEN, MADE, "gate: tests/one/run", "one ran", GREEN]))
+        # One plain `rt ci` at the top; what it said is kept.
+        self.assertEqual((self.top / "calls").read_text(), "ci\n")
+        self.assertEqual((self.top / "target/ci.log").read_text(), f"{OK}\n{GREEN}\n")
 
     def test_every_folder_once(self):
         for name in ("course", "runtime", "two", "three"):
@@ -45,7 +49,7 @@ class Gate(unittest.TestCase):
         status, lines = self.gate()
         told = [f"gate: tests/{name}/run" for name in ("course", "one", "runtime", "two", "three")]
         told += [f"{name} ran" for name in ("course", "one", "runtime", "two", "three")]
-        self.assertEqual((status, sorted(lines)), (0, sorted([GREEN, MADE, GREEN] + told)))
+        self.assertEqual((status, sorted(lines)), (0, sorted([OK, GREEN, MADE, GREEN] + told)))
 
     def test_one_does_not_wait_for_another(self):
         self.script("bin/nproc", "echo 2")
@@ -95,10 +99,23 @@ class Gate(unittest.TestCase):
         self.assertIn("no network", lines)
 
     def test_failing_rt(self):
-        for line in ("echo '2 passed, 1 failed'; exit 1", "echo '2 passed, 1 failed'", "echo nothing", f"echo '{GREEN}'; exit 1"):
+        told = f"echo '{OK}'; echo '{GREEN}'"
+        for line in ("echo '2 passed, 1 failed'; exit 1", "echo '2 passed, 1 failed'", "echo nothing", f"{told}; exit 1", f"echo '{GREEN}'"):
             self.script("bin/rt", line)
             status, lines = self.gate()
-            self.assertEqual((status, lines[-1].startswith("gate: ")), (1, True))
+            self.assertEqual((status, lines[-1].startswith("gate: ")), (1, True), line)
+
+    def test_bad_edits(self):
+        for edits, told in (
+            ("2 refused, 1 bad", True),
+            ("2 refused, 1 of them only by a limit, 12 bad", True),
+            ("0 refused, 1 bad", True),
+            ("2 refused, 1 of them only by a limit", False),
+        ):
+            said = OK.replace("2 refused", edits)
+            self.script("bin/rt", f"echo '{said}'; echo '{GREEN}'")
+            status, lines = self.gate()
+            self.assertEqual((status, lines[-1]), (1, f"gate: must-fail edits are bad: {said}") if told else (0, GREEN))
 
 
 if __name__ == "__main__":

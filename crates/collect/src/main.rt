@@ -4,9 +4,11 @@
 
 ghost use Rattle.std.specs.Prelude.{◌≤◌, length};
 
-use libc::STDOUT_FILENO;
 use program::Loaded;
 use program::limits::{MOST_ORDER_BYTES, MOST_STORE_BYTES, TEXT_ROOM};
+use std::fs;
+use std::io::{Error, Read};
+use std::rt::Files;
 
 // A file: how it was got, and how many bytes of it stand in the buffer.
 #[derive(Clone, Copy)]
@@ -26,56 +28,67 @@ fn unreadable() -> Got
 
 // How a file was got whose limit has been read: it is asked for one byte more. Its length is not
 // asked for, since a pipe has none and a device may tell any.
-fn filled(fd: i32) -> Loaded {
+fn filled(file: &mut impl Read) -> Loaded {
     let mut one = [0u8; 1];
-    let more = libc::read(fd, &mut one);
-    if more < 0 {
-        return Loaded::Unreadable;
+    match file.read(&mut one) {
+        Err(_) => Loaded::Unreadable,
+        Ok(0) => Loaded::Whole,
+        Ok(_) => Loaded::TooLong,
     }
-    if more == 0 {
-        return Loaded::Whole;
-    }
-    Loaded::TooLong
 }
 
 // Reads up to the buffer's length, which is the file's limit.
-fn read_up_to(fd: i32, buffer: &mut [u8]) -> Got
+fn read_up_to(file: &mut impl Read, buffer: &mut [u8]) -> Got
     ensures { result.len ≤ length buffer.new }
 {
     let mut at: usize = 0;
     while at < buffer.len() {
-        let got = libc::read(fd, &mut buffer[at..]);
-        if got < 0 {
-            return unreadable();
+        match file.read(&mut buffer[at..]) {
+            Err(_) => return unreadable(),
+            Ok(0) => {
+                return Got {
+                    file: Loaded::Whole,
+                    len: at,
+                };
+            }
+            Ok(n) => at += n,
         }
-        let n = io::count(got, &buffer[at..]);
-        if n == 0 {
-            return Got {
-                file: Loaded::Whole,
-                len: at,
-            };
-        }
-        at += n;
     }
-    let file = filled(fd);
+    let file = filled(file);
     Got { file, len: at }
 }
 
 // Opens, reads and closes a file.
-fn load(path: &[u8], buffer: &mut [u8]) -> Got
+fn load(rt: &impl Files, path: &str, buffer: &mut [u8]) -> Got
     ensures { result.len ≤ length buffer.new }
 {
-    let fd = os::open_read(path);
-    if fd < 0 {
-        return unreadable();
+    match fs::open(rt, path) {
+        Err(_) => unreadable(),
+        Ok(mut file) => read_up_to(&mut file, buffer),
     }
-    let got = read_up_to(fd, buffer);
-    libc::close(fd);
-    got
+}
+
+// Tells on standard error that the answer was not written whole, and the system's words for why.
+fn tell(rt: &(impl Eprint + Alloc), error: &Error) {
+    let _ = match error.to_string(rt.alloc()) {
+        Ok(text) => {
+            let words = text.as_str();
+            let (why, _) = words.rsplit_once(" (os error ").unwrap_or((words, ""));
+            eprintln!(rt; "collect: the answer was not written whole: {why}")
+        }
+        Err(_) => eprintln!(rt; "collect: the answer was not written whole: {error}"),
+    };
 }
 
 // Makes the answer and writes it. That it could not be written whole is told on standard error.
-fn respond(storefile: Got, store: &[u8], orderfile: Got, order: &[u8], out: &mut [u8])
+fn respond(
+    rt: &(impl Print + Eprint + Alloc),
+    storefile: Got,
+    store: &[u8],
+    orderfile: Got,
+    order: &[u8],
+    out: &mut [u8],
+)
     requires { (storefile.len ≤ length store.now) × (orderfile.len ≤ length order.now) }
 {
     let store_len = storefile.len;
@@ -89,16 +102,16 @@ fn respond(storefile: Got, store: &[u8], orderfile: Got, order: &[u8], out: &mut
         &order[..order_len],
         out,
     );
-    if !io::write_all(STDOUT_FILENO, &out[..n]) {
-        os::fail(b"collect: the answer was not written whole");
+    if let Err(error) = rt.write_all(&out[..n]) {
+        tell(rt, &error);
     }
 }
 
-fn main() {
+fn main(rt: HostRuntime) {
     let mut store = [0u8; MOST_STORE_BYTES];
     let mut order = [0u8; MOST_ORDER_BYTES];
     let mut out = [0u8; TEXT_ROOM];
-    let storefile = load(b"store.cat", &mut store);
-    let orderfile = load(b"order.run", &mut order);
-    respond(storefile, &store, orderfile, &order, &mut out);
+    let storefile = load(&rt, "store.cat", &mut store);
+    let orderfile = load(&rt, "order.run", &mut order);
+    respond(&rt, storefile, &store, orderfile, &order, &mut out);
 }

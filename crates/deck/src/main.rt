@@ -3,13 +3,25 @@
 
 mod print;
 
-use libc::STDOUT_FILENO;
 use print::TEXT_LENGTH;
+use std::io::Error;
 
-fn main() {
+// Tells on standard error that the cards were not written whole, and the system's words for why.
+fn tell(rt: &(impl Eprint + Alloc), error: &Error) {
+    let _ = match error.to_string(rt.alloc()) {
+        Ok(text) => {
+            let words = text.as_str();
+            let (why, _) = words.rsplit_once(" (os error ").unwrap_or((words, ""));
+            eprintln!(rt; "deck: the cards were not written whole: {why}")
+        }
+        Err(_) => eprintln!(rt; "deck: the cards were not written whole: {error}"),
+    };
+}
+
+fn main(rt: HostRuntime) {
     let mut out = [0u8; TEXT_LENGTH];
     let n = print::put_deck(&mut out);
-    if !io::write_all(STDOUT_FILENO, &out[..n]) {
-        os::fail(b"deck: the cards were not written whole");
+    if let Err(error) = rt.write_all(&out[..n]) {
+        tell(&rt, &error);
     }
 }

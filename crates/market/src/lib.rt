@@ -2,7 +2,7 @@
 // written as one. Any text, offsets, targets and buffers may come in.
 #![tactic(auto)]
 
-mod fill;
+mod filling;
 
 ghost use Rattle.std.specs.Prelude.{◌≡◌, ◌≤◌, length};
 ghost use Rattle.graph.specs.Limits.{most_objects};
@@ -75,8 +75,8 @@ pub fn import(text: &[u8], offsets: &mut [u32], targets: &mut [u32], sizes: &mut
     if buffers_wrong(n, m, offsets.len(), targets.len(), sizes.len()) {
         return Answer::Refused(Refusal::Buffer);
     }
-    fill::fill_graph(text, at, n as u32, offsets, targets);
-    fill::clear_sizes(sizes);
+    filling::fill_graph(text, at, n as u32, offsets, targets);
+    filling::clear_sizes(sizes);
     Answer::Read {
         n: n as u32,
         m: m as u32,
