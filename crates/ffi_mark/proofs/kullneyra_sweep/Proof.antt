@@ -16,8 +16,8 @@ returns-then-res-ne2 c =
     let f = ne_eqb (length c.args.res.now) 2 c.if-res-ne2.true in
     (rw f, (rw f, (rw f, λ l. absurd (c.if-res-ne2.true l))))
 
-slice-write-result-2 : tie.Need-slice-write-result-2
-slice-write-result-2 c = simp length-set (omega arith)
+bounds-res-1 : tie.Need-bounds-res-1
+bounds-res-1 c = simp length-set (omega arith)
 
 returns-in-Dead : tie.Need-returns-in-Dead
 returns-in-Dead c =
@@ -43,5 +43,5 @@ pub kullneyra_sweep_spec : {M : Type 1} → statement M
 kullneyra_sweep_spec =
     tie.close
     (tie.spec returns-then-res-ne2 (λ c κs. search rules) (λ c. search rules) (λ c. search rules) (λ c. search rules)
-    slice-write-result-2 (λ c. search rules) (λ c κs. search rules) (λ c. search rules) (λ c. search rules)
+    bounds-res-1 (λ c. search rules) (λ c κs. search rules) (λ c. search rules) (λ c. search rules)
     (λ c. search rules) returns-in-Dead (λ c. search rules) returns-in-Refused)

@@ -15,11 +15,9 @@ returns-then-res-ne2 c =
     let f = ne_eqb (length c.args.res.now) 2 c.if-res-ne2.true in
     (rw f, rw f)
 
-overflow-sub-result : tie.Need-overflow-sub-result
-overflow-sub-result c =
-    let at_part_of = c.before in
-    let start = at_part_of.before.before.before.before.before in
-    let p = at_part_of.part_of-part.ensures start.args.targets.now refl in
+overflow_sub-res : tie.Need-overflow_sub-res
+overflow_sub-res c =
+    let p = c.part_of-part.ensures c.args.targets.now refl in
     let o = p.order in
     omega arith
 
@@ -35,5 +33,5 @@ returns c =
 pub kullneyra_references_spec : {M : Type 1} → statement M
 kullneyra_references_spec =
     tie.close
-    (tie.spec returns-then-res-ne2 (λ c κs. search rules) (λ c. search rules) overflow-sub-result (λ c. search rules) (λ c. search rules)
+    (tie.spec returns-then-res-ne2 (λ c κs. search rules) (λ c. search rules) overflow_sub-res (λ c. search rules) (λ c. search rules)
     returns)
