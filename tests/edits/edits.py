@@ -51,6 +51,8 @@ SAID = re.compile(r"(?P<note>note: )?(?:\./)?(?P<file>\S+?):(?P<line>\d+):\d+: (
 # A fact that fails, in the prover's own words, of which rt may have left out the end.
 FACTS = (
     r"the two (?:types|indices|terms) (?:first differ|differ only|differ|are)\b",
+    r"the two sides (?:first differ|differ\b|are ``|are not convertible)",
+    r"^computed as a goal is, one side reads ``",
     r"expected type ``(?:$|,? but this has type ``)",
     r"`` ≟ ``(?:$|:?(?:$| does(?:$| not(?:$| hold\b))))",
     r"^`omega`: the (?:goal|part `` of the goal) does not follow from what it read",

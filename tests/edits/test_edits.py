@@ -31,7 +31,9 @@ FACTS = (
     f"`spec`: give a proof of that as the last argument, `simp L t`\n  `simp` {LEAVES}",
     "`again`: expected type `Inv-loop x`\n  but this has type `Inv-loop y`",
     "`moved`: `rw`: no occurrence of the path's left endpoint in the goal: write the family yourself and transport, `subst`",
+    "`returns-then-sizes`: computed as a goal is, one side reads `bit_or (get_or s i 0) 1`\n  (left)\n  as printed, the two sides first differ where",
     # rt leaves out the end.
+    "`returns-then-sizes-i-gt-LARGEST_SIZE`: computed as a goal is, one side reads `lib.Bits.bit_or (lib.ListN.get_or {A = ",
     "`unwritten`: expected type `old ≡ unless_refused (suc k) new old`, but this has type `old ≡ o",
     "`kept`: expected type `old ≡ unless_refused (suc k) new old ≡ unless_refused (suc k) new",
     "`stored`: `starts_fault ss` ≟ `raise (outside most_starts (length ss)) 13 0`",
@@ -72,6 +74,7 @@ UNFIT = {
     "internal error in antt: please report this": "a fault of the tool",
     "stopped at the step limit": "a fault of the tool",
     "`spec`: `y` is not in scope\n  the two types differ only where one has `x`": "an unknown name",
+    "`spec`: the type at which the two sides are compared is not yet determined": "something undetermined",
     "`spec`: something that nobody has read yet": "no kind that tests/edits/edits.py knows",
 }
 

@@ -16,9 +16,6 @@ returns-then-seen-ne0 c =
 push-used-requires : tie.Need-push-used-requires
 push-used-requires c κs = let p = c.requires in (p.room, p.used_fits, p.rises)
 
-abbrev pushed : tie.After-struct_known-2-1 → tie.After-push-used
-pushed c = c.before.before.before.before
-
 returns : tie.Need-returns
 returns c =
     record {

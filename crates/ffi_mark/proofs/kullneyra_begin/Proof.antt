@@ -10,29 +10,24 @@ use borrow.Author.Rules.{rules}
 use Rattle.ffi_mark.proofs.kullneyra_begin.Statement.{statement}
 use Rattle.ffi_mark.proofs.kullneyra_begin.Tie as tie
 
-returns : tie.Need-returns
-returns c =
-    let start = c.before.before.before.before.before.before.before.before.before.before in
+returns-then-res-ne-STOP_WORDS : tie.Need-returns-then-res-ne-STOP_WORDS
+returns-then-res-ne-STOP_WORDS c =
     record {
-      words = not_made (ne_eqb (length start.args.res.now) stop_word_count c.if1.true);
+      words = not_made (ne_eqb (length c.args.res.now) stop_word_count c.if-res-ne-STOP_WORDS.true);
       promise = λ z. absurd (omega (arith, z));
     }
 
-returns_2 : tie.Need-returns-2
-returns_2 c =
-    let at_give = c.before.before in
-    let at_call = at_give.before.before.before.before.before.before.before.before.before.before in
-    let at_if1 = at_call.before.before.before.before.before in
-    let start = at_if1.before.before.before.before.before.before.before.before.before.before in
-    let given = at_give.give_stopped.ensures in
+returns : tie.Need-returns
+returns c =
+    let given = c.give_stopped.ensures in
     record {
       words =
-          begins_in (eq-eqb (length start.args.res.now) stop_word_count at_if1.if1.false) given.0 given.1 at_call.begin.ensures refl;
-      promise = begin_promise _ _ given.0 given.1 at_call.begin.ensures refl;
+          begins_in (eq-eqb (length c.args.res.now) stop_word_count c.if-res-ne-STOP_WORDS.false) given.0 given.1 c.begin-answer.ensures refl;
+      promise = begin_promise _ _ given.0 given.1 c.begin-answer.ensures refl;
     }
 
 pub kullneyra_begin_spec : {M : Type 1} → statement M
 kullneyra_begin_spec =
     tie.close
-    (tie.spec returns (λ c κs. search rules) (λ c κs. search rules) (λ c. search rules) (λ c. search rules)
-    (λ c. search rules) (λ c. search rules) (λ c. search rules) returns_2)
+    (tie.spec returns-then-res-ne-STOP_WORDS (λ c κs. search rules) (λ c κs. search rules) (λ c. search rules) (λ c. search rules)
+    (λ c. search rules) (λ c. search rules) (λ c. search rules) returns)

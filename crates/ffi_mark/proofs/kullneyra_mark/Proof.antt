@@ -8,25 +8,20 @@ use borrow.Author.Rules.{rules}
 use Rattle.ffi_mark.proofs.kullneyra_mark.Statement.{statement}
 use Rattle.ffi_mark.proofs.kullneyra_mark.Tie as tie
 
-returns : tie.Need-returns
-returns c =
-    let start = c.before.before.before.before.before.before.before.before.before in
-    let f = ne_eqb (length start.args.res.now) mark_word_count c.if1.true in
+returns-then-res-ne-MARK_WORDS : tie.Need-returns-then-res-ne-MARK_WORDS
+returns-then-res-ne-MARK_WORDS c =
+    let f = ne_eqb (length c.args.res.now) mark_word_count c.if-res-ne-MARK_WORDS.true in
     record {
       words = record { answers = rw f; fills_marks = rw f; fills_work = rw f; fills_tallies = rw f; fills_result = rw f };
       promise = λ z. absurd (omega (arith, z));
     }
 
-returns_2 : tie.Need-returns-2
-returns_2 c =
-    let at_give_marked = c.before.before in
-    let at_mark = at_give_marked.before.before.before.before.before.before.before.before in
-    let at_if1 = at_mark.before.before.before.before in
-    let start = at_if1.before.before.before.before.before.before.before.before.before in
-    let f = eq-eqb (length start.args.res.now) mark_word_count at_if1.if1.false in
-    let done = at_mark.mark.ensures in
+returns : tie.Need-returns
+returns c =
+    let f = eq-eqb (length c.args.res.now) mark_word_count c.if-res-ne-MARK_WORDS.false in
+    let done = c.mark-answer.ensures in
     let h = done.row_is in
-    let given = at_give_marked.give_marked.ensures in
+    let given = c.give_marked.ensures in
     record {
       words =
           record {
@@ -42,5 +37,5 @@ returns_2 c =
 pub kullneyra_mark_spec : {M : Type 1} → statement M
 kullneyra_mark_spec =
     tie.close
-    (tie.spec returns (λ c κs. search rules) (λ c κs. search rules) (λ c. search rules) (λ c. search rules)
-    (λ c. search rules) (λ c. search rules) returns_2)
+    (tie.spec returns-then-res-ne-MARK_WORDS (λ c κs. search rules) (λ c κs. search rules) (λ c. search rules) (λ c. search rules)
+    (λ c. search rules) (λ c. search rules) returns)

@@ -8,10 +8,9 @@ use borrow.Author.Rules.{rules}
 use Rattle.ffi_mark.proofs.kullneyra_mark_all.Statement.{statement}
 use Rattle.ffi_mark.proofs.kullneyra_mark_all.Tie as tie
 
-returns : tie.Need-returns
-returns c =
-    let start = c.before.before.before.before.before.before.before.before in
-    let f = ne_eqb (length start.args.res.now) mark_word_count c.if1.true in
+returns-then-res-ne-MARK_WORDS : tie.Need-returns-then-res-ne-MARK_WORDS
+returns-then-res-ne-MARK_WORDS c =
+    let f = ne_eqb (length c.args.res.now) mark_word_count c.if-res-ne-MARK_WORDS.true in
     record {
       as_mark =
           record {
@@ -21,16 +20,12 @@ returns c =
       finished = λ z. absurd (omega (arith, z));
     }
 
-returns_2 : tie.Need-returns-2
-returns_2 c =
-    let at_give_marked = c.before.before in
-    let at_mark = at_give_marked.before.before.before.before.before.before.before.before in
-    let at_if1 = at_mark.before.before.before.before in
-    let start = at_if1.before.before.before.before.before.before.before.before in
-    let f = eq-eqb (length start.args.res.now) mark_word_count at_if1.if1.false in
-    let done = at_mark.mark_all.ensures.answered in
+returns : tie.Need-returns
+returns c =
+    let f = eq-eqb (length c.args.res.now) mark_word_count c.if-res-ne-MARK_WORDS.false in
+    let done = c.mark_all-answer.ensures.answered in
     let h = done.row_is in
-    let given = at_give_marked.give_marked.ensures in
+    let given = c.give_marked.ensures in
     record {
       as_mark =
           record {
@@ -44,11 +39,11 @@ returns_2 c =
                 };
             promise = mark_promise _ _ given.0 given.1 done;
           };
-      finished = finished_told _ at_mark.mark_all.result given.0 given.1 at_mark.mark_all.ensures.finished;
+      finished = finished_told _ c.mark_all-answer.result given.0 given.1 c.mark_all-answer.ensures.finished;
     }
 
 pub kullneyra_mark_all_spec : {M : Type 1} → statement M
 kullneyra_mark_all_spec =
     tie.close
-    (tie.spec returns (λ c κs. search rules) (λ c κs. search rules) (λ c. search rules) (λ c. search rules)
-    (λ c. search rules) (λ c. search rules) returns_2)
+    (tie.spec returns-then-res-ne-MARK_WORDS (λ c κs. search rules) (λ c κs. search rules) (λ c. search rules) (λ c. search rules)
+    (λ c. search rules) (λ c. search rules) returns)

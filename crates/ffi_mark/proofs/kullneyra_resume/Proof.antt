@@ -9,31 +9,26 @@ use borrow.Author.Rules.{rules}
 use Rattle.ffi_mark.proofs.kullneyra_resume.Statement.{statement}
 use Rattle.ffi_mark.proofs.kullneyra_resume.Tie as tie
 
-returns : tie.Need-returns
-returns c =
-    let start = c.before.before.before.before.before.before.before.before.before.before in
+returns-then-res-ne-STOP_WORDS : tie.Need-returns-then-res-ne-STOP_WORDS
+returns-then-res-ne-STOP_WORDS c =
     record {
-      words = not_made (ne_eqb (length start.args.res.now) stop_word_count c.if1.true);
-      exactly = λ l b. absurd (c.if1.true l);
+      words = not_made (ne_eqb (length c.args.res.now) stop_word_count c.if-res-ne-STOP_WORDS.true);
+      exactly = λ l b. absurd (c.if-res-ne-STOP_WORDS.true l);
       promise = λ z. absurd (omega (arith, z));
     }
 
-returns_2 : tie.Need-returns-2
-returns_2 c =
-    let at_give = c.before.before in
-    let at_call = at_give.before.before.before.before.before.before.before.before.before.before in
-    let at_if1 = at_call.before.before.before.before.before in
-    let start = at_if1.before.before.before.before.before.before.before.before.before.before in
-    let given = at_give.give_stopped.ensures in
+returns : tie.Need-returns
+returns c =
+    let given = c.give_stopped.ensures in
     record {
       words =
-          resumes_in (eq-eqb (length start.args.res.now) stop_word_count at_if1.if1.false) given.0 given.1 at_call.resume.ensures;
-      exactly = λ l b. resume_exactly _ _ given.0 given.1 at_call.resume.ensures b;
-      promise = resume_promise _ _ given.0 given.1 at_call.resume.ensures;
+          resumes_in (eq-eqb (length c.args.res.now) stop_word_count c.if-res-ne-STOP_WORDS.false) given.0 given.1 c.resume-resumed.ensures;
+      exactly = λ l b. resume_exactly _ _ given.0 given.1 c.resume-resumed.ensures b;
+      promise = resume_promise _ _ given.0 given.1 c.resume-resumed.ensures;
     }
 
 pub kullneyra_resume_spec : {M : Type 1} → statement M
 kullneyra_resume_spec =
     tie.close
-    (tie.spec returns (λ c κs. search rules) (λ c κs. search rules) (λ c. search rules) (λ c. search rules)
-    (λ c. search rules) (λ c. search rules) (λ c. search rules) returns_2)
+    (tie.spec returns-then-res-ne-STOP_WORDS (λ c κs. search rules) (λ c κs. search rules) (λ c. search rules) (λ c. search rules)
+    (λ c. search rules) (λ c. search rules) (λ c. search rules) returns)

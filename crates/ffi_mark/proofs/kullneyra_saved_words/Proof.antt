@@ -5,8 +5,7 @@ use Rattle.ffi_mark.proofs.kullneyra_saved_words.Tie as tie
 
 returns : tie.Need-returns
 returns c =
-    let given = c.before.before in
-    rw (← given.before.before.saved_words.ensures) given.give_length.ensures
+    rw (← c.saved_words.ensures) c.give_length.ensures
 
 pub kullneyra_saved_words_spec : {M : Type 1} → statement M
 kullneyra_saved_words_spec = tie.close (tie.spec (λ c κs. search rules) (λ c κs. search rules) (λ c. search rules) returns)

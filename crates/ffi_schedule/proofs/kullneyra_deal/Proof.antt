@@ -6,7 +6,7 @@ use Rattle.ffi_schedule.proofs.kullneyra_deal.Tie as tie
 
 returns : tie.Need-returns
 returns c =
-    let d = c.before.before.before.deal.ensures in
+    let d = c.deal.ensures in
     let number = c.verdict_number.ensures ∙ d.number_is in
     (number, (d.schedule_is, λ z. d.brings (sym number ∙ z)))
 

@@ -4,31 +4,24 @@ use Rattle.kullneyra.proofs.Seeds.{draw_seed_wrong, draw_result_wrong, draw_card
 use Rattle.ffi_schedule.proofs.kullneyra_draw.Statement.{statement}
 use Rattle.ffi_schedule.proofs.kullneyra_draw.Tie as tie
 
-returns : tie.Need-returns
-returns c = draw_seed_wrong _ _ c.if1.true
+returns-then-seed-ne2 : tie.Need-returns-then-seed-ne2
+returns-then-seed-ne2 c = draw_seed_wrong _ _ c.if-seed-ne2.true
 
-returns_2 : tie.Need-returns-2
-returns_2 c = draw_result_wrong _ _ c.before.if1.false c.if2.true
+returns-then-res-ne1 : tie.Need-returns-then-res-ne1
+returns-then-res-ne1 c = draw_result_wrong _ _ c.if-seed-ne2.false c.if-res-ne1.true
 
-returns_3 : tie.Need-returns-3
-returns_3 c =
-    let at_put = c.before.before in
-    let at_answer = at_put.before.before.before in
-    let at_draw = at_answer.before.before in
-    let e = at_draw.before.before.before in
-    draw_card _ _ e.before.if1.false e.if2.false at_draw.draw_from.ensures.0 at_draw.draw_from.ensures.1
-    at_answer.answer.given.1 at_put.put_seed.ensures
+returns-in-Card : tie.Need-returns-in-Card
+returns-in-Card c =
+    draw_card _ _ c.if-seed-ne2.false c.if-res-ne1.false c.draw_from-left.ensures.0 c.draw_from-left.ensures.1
+    c.in-Card.is c.put_seed.ensures
 
-returns_4 : tie.Need-returns-4
-returns_4 c =
-    let at_answer = c.before.before in
-    let at_draw = at_answer.before.before in
-    let e = at_draw.before.before.before in
-    draw_refused _ _ e.before.if1.false e.if2.false at_draw.draw_from.ensures.0 at_draw.draw_from.ensures.1
-    at_answer.answer2.given.1 c.number_of_lem.ensures
+returns-in-Refused : tie.Need-returns-in-Refused
+returns-in-Refused c =
+    draw_refused _ _ c.if-seed-ne2.false c.if-res-ne1.false c.draw_from-left.ensures.0 c.draw_from-left.ensures.1
+    c.in-Refused.is c.number_of.ensures
 
 pub kullneyra_draw_spec : {M : Type 1} → statement M
 kullneyra_draw_spec =
     tie.close
-    (tie.spec returns returns_2 (λ c. search rules) (λ c. search rules) (λ c κs. search rules) (λ c. search rules) (λ c κs. search rules)
-    (λ c. search rules) (λ c. search rules) (λ c κs. search rules) (λ c. search rules) (λ c. search rules) (λ c. search rules) returns_3 returns_4)
+    (tie.spec returns-then-seed-ne2 returns-then-res-ne1 (λ c. search rules) (λ c. search rules) (λ c κs. search rules) (λ c. search rules) (λ c κs. search rules)
+    (λ c. search rules) (λ c. search rules) (λ c κs. search rules) (λ c. search rules) (λ c. search rules) (λ c. search rules) returns-in-Card returns-in-Refused)

@@ -5,8 +5,7 @@ use Rattle.ffi_schedule.proofs.kullneyra_schedule_length.Tie as tie
 
 returns : tie.Need-returns
 returns c =
-    let given = c.before.before in
-    rw (← given.before.before.schedule_length.ensures) given.give_length.ensures
+    rw (← c.schedule_length.ensures) c.give_length.ensures
 
 pub kullneyra_schedule_length_spec : {M : Type 1} → statement M
 kullneyra_schedule_length_spec = tie.close (tie.spec (λ c κs. search rules) (λ c κs. search rules) (λ c. search rules) returns)

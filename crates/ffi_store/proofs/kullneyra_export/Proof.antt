@@ -6,7 +6,7 @@ use Rattle.ffi_store.proofs.kullneyra_export.Tie as tie
 
 returns : tie.Need-returns
 returns c =
-    let d = c.before.before.before.export.ensures in
+    let d = c.export.ensures in
     let number = c.verdict_number.ensures in
     (number ∙ d.0, (d.1.0, λ z. d.1.1 (sym number ∙ z)))
 

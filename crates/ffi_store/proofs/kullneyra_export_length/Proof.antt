@@ -5,8 +5,7 @@ use Rattle.ffi_store.proofs.kullneyra_export_length.Tie as tie
 
 returns : tie.Need-returns
 returns c =
-    let given = c.before.before in
-    rw (← given.before.before.export_length.ensures) given.give_length.ensures
+    rw (← c.export_length.ensures) c.give_length.ensures
 
 pub kullneyra_export_length_spec : {M : Type 1} → statement M
 kullneyra_export_length_spec = tie.close (tie.spec (λ c κs. search rules) (λ c κs. search rules) (λ c. search rules) returns)

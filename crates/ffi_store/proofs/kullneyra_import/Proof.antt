@@ -6,12 +6,9 @@ use borrow.Author.Rules.{rules}
 use Rattle.ffi_store.proofs.kullneyra_import.Statement.{statement}
 use Rattle.ffi_store.proofs.kullneyra_import.Tie as tie
 
-abbrev entry : tie.After-slice-known4 → tie.Start
-entry c = c.before.before.before.before.before
-
-returns : tie.Need-returns
-returns c =
-    let f = ne_eqb (length (entry c.before).args.res.now) 3 c.if1.true in
+returns-then-res-ne3 : tie.Need-returns-then-res-ne3
+returns-then-res-ne3 c =
+    let f = ne_eqb (length c.args.res.now) 3 c.if-res-ne3.true in
     record {
       words =
           record {
@@ -21,21 +18,15 @@ returns c =
             fills_sizes = rw f;
             fills_result = rw f;
           };
-      promise = λ l. absurd (c.if1.true l);
+      promise = λ l. absurd (c.if-res-ne3.true l);
     }
 
-abbrev at_import : tie.After-slice-known7 → tie.After-import
-at_import c = c.before.before.before.before.before.before
-
-returns_2 : tie.Need-returns-2
-returns_2 c =
-    let at_give = c.before.before in
-    let r = at_import at_give.before.before in
-    let at_if1 = r.before.before.before.before in
-    let f = eq-eqb (length (entry at_if1.before).args.res.now) 3 at_if1.if1.left in
-    let done = r.import.ensures.0 in
+returns : tie.Need-returns
+returns c =
+    let f = eq-eqb (length c.args.res.now) 3 c.if-res-ne3.false in
+    let done = c.import.ensures.0 in
     let h = done.returned in
-    let given = at_give.give.ensures in
+    let given = c.give.ensures in
     record {
       words =
           record {
@@ -45,11 +36,11 @@ returns_2 c =
             fills_sizes = rw f done.sizes_are;
             fills_result = rw (f, ← h) given.1;
           };
-      promise = λ l. import_promise _ r.import.ensures.1 given.0 given.1;
+      promise = λ l. import_promise _ c.import.ensures.1 given.0 given.1;
     }
 
 pub kullneyra_import_spec : {M : Type 1} → statement M
 kullneyra_import_spec =
     tie.close
-    (tie.spec returns (λ c κs. search rules) (λ c κs. search rules) (λ c. search rules) (λ c. search rules)
-    (λ c. search rules) (λ c. search rules) returns_2)
+    (tie.spec returns-then-res-ne3 (λ c κs. search rules) (λ c κs. search rules) (λ c. search rules) (λ c. search rules)
+    (λ c. search rules) (λ c. search rules) returns)

@@ -6,12 +6,9 @@ use borrow.Author.Rules.{rules}
 use Rattle.ffi_store.proofs.kullneyra_read.Statement.{statement}
 use Rattle.ffi_store.proofs.kullneyra_read.Tie as tie
 
-abbrev entry : tie.After-slice-known5 → tie.Start
-entry c = c.before.before.before.before.before.before
-
-returns : tie.Need-returns
-returns c =
-    let f = ne_eqb (length (entry c.before).args.res.now) 4 c.if1.true in
+returns-then-res-ne4 : tie.Need-returns-then-res-ne4
+returns-then-res-ne4 c =
+    let f = ne_eqb (length c.args.res.now) 4 c.if-res-ne4.true in
     record {
       words =
           record {
@@ -22,21 +19,15 @@ returns c =
             fills_starts = rw f;
             fills_result = rw f;
           };
-      promise = λ l. absurd (c.if1.true l);
+      promise = λ l. absurd (c.if-res-ne4.true l);
     }
 
-abbrev at_read : tie.After-slice-known9 → tie.After-read
-at_read c = c.before.before.before.before.before.before.before.before
-
-returns_2 : tie.Need-returns-2
-returns_2 c =
-    let at_give = c.before.before in
-    let r = at_read at_give.before.before in
-    let at_if1 = r.before.before.before.before.before in
-    let f = eq-eqb (length (entry at_if1.before).args.res.now) 4 at_if1.if1.left in
-    let done = r.read.ensures.0 in
+returns : tie.Need-returns
+returns c =
+    let f = eq-eqb (length c.args.res.now) 4 c.if-res-ne4.false in
+    let done = c.read.ensures.0 in
     let h = done.returned in
-    let given = at_give.give_found.ensures in
+    let given = c.give_found.ensures in
     record {
       words =
           record {
@@ -47,11 +38,11 @@ returns_2 c =
             fills_starts = rw f done.starts_are;
             fills_result = rw (f, ← h) given.1;
           };
-      promise = λ l. read_promise _ r.read.ensures.1 given.0 given.1;
+      promise = λ l. read_promise _ c.read.ensures.1 given.0 given.1;
     }
 
 pub kullneyra_read_spec : {M : Type 1} → statement M
 kullneyra_read_spec =
     tie.close
-    (tie.spec returns (λ c κs. search rules) (λ c κs. search rules) (λ c. search rules) (λ c. search rules)
-    (λ c. search rules) (λ c. search rules) (λ c. search rules) returns_2)
+    (tie.spec returns-then-res-ne4 (λ c κs. search rules) (λ c κs. search rules) (λ c. search rules) (λ c. search rules)
+    (λ c. search rules) (λ c. search rules) (λ c. search rules) returns)

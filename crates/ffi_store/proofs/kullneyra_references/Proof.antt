@@ -10,34 +10,28 @@ use borrow.Author.Rules.{rules}
 use Rattle.ffi_store.proofs.kullneyra_references.Statement.{statement}
 use Rattle.ffi_store.proofs.kullneyra_references.Tie as tie
 
-returns : tie.Need-returns
-returns c =
-    let start = c.before.before.before.before in
-    let f = ne_eqb (length start.args.res.now) 2 c.if1.true in
+returns-then-res-ne2 : tie.Need-returns-then-res-ne2
+returns-then-res-ne2 c =
+    let f = ne_eqb (length c.args.res.now) 2 c.if-res-ne2.true in
     (rw f, rw f)
 
-sub_result : tie.Need-overflow-sub-result
-sub_result c =
-    let at_part_of = c.before in
-    let start = at_part_of.before.before.before.before.before in
-    let p = at_part_of.part_of.ensures start.args.targets.now refl in
+overflow_sub-res : tie.Need-overflow_sub-res
+overflow_sub-res c =
+    let p = c.part_of-part.ensures c.args.targets.now refl in
     let o = p.order in
     omega arith
 
-returns_2 : tie.Need-returns-2
-returns_2 c =
-    let at_part_of = c.before in
-    let at_if1 = at_part_of.before in
-    let entry = at_if1.before.before.before.before in
-    let r = entry.args.res.now in
-    let l = at_if1.if1.false in
+returns : tie.Need-returns
+returns c =
+    let r = c.args.res.now in
+    let l = c.if-res-ne2.false in
     let f = eq-eqb (length r) 2 l in
-    let p = at_part_of.part_of.ensures entry.args.targets.now refl in
-    let found = at_part_of.part_of.result in
+    let p = c.part_of-part.ensures c.args.targets.now refl in
+    let found = c.part_of-part.result in
     (rw f, rw (f, ← p.starts, ← p.long) (sets_all (found.start ∷ (found.end - found.start) ∷ []) r l))
 
 pub kullneyra_references_spec : {M : Type 1} → statement M
 kullneyra_references_spec =
     tie.close
-    (tie.spec returns (λ c κs. search rules) (λ c. search rules) sub_result (λ c. search rules) (λ c. search rules)
-    returns_2)
+    (tie.spec returns-then-res-ne2 (λ c κs. search rules) (λ c. search rules) overflow_sub-res (λ c. search rules) (λ c. search rules)
+    returns)

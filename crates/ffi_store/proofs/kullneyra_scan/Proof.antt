@@ -6,7 +6,7 @@ use Rattle.ffi_store.proofs.kullneyra_scan.Tie as tie
 
 returns : tie.Need-returns
 returns c =
-    let d = c.before.before.before.before.before.before.before.scan.ensures in
+    let d = c.scan.ensures in
     record { answers = c.verdict_number.ensures ∙ d.0; keeps_work = d.1.0; fills_from = d.1.1.0; fills_to = d.1.1.1 }
 
 pub kullneyra_scan_spec : {M : Type 1} → statement M

@@ -5,9 +5,8 @@ use Rattle.ffi_store.proofs.kullneyra_scan_length.Tie as tie
 
 returns : tie.Need-returns
 returns c =
-    let given = c.before.before in
-    let told = given.before.before.before.before.scan_length.ensures in
-    (rw (← told.0) given.give_length.ensures, told.1)
+    let told = c.scan_length.ensures in
+    (rw (← told.0) c.give_length.ensures, told.1)
 
 pub kullneyra_scan_length_spec : {M : Type 1} → statement M
 kullneyra_scan_length_spec = tie.close (tie.spec (λ c κs. search rules) (λ c κs. search rules) (λ c. search rules) (λ c. search rules) returns)

@@ -5,7 +5,7 @@ use Rattle.ffi_update.proofs.kullneyra_add.Statement.{statement}
 use Rattle.ffi_update.proofs.kullneyra_add.Tie as tie
 
 returns : tie.Need-returns
-returns c = adds_in c.before.before.before.before.before.before.before.before.before.add.ensures c.verdict_number.ensures
+returns c = adds_in c.add.ensures c.verdict_number.ensures
 
 pub kullneyra_add_spec : {M : Type 1} → statement M
 kullneyra_add_spec =

@@ -5,8 +5,7 @@ use Rattle.ffi_update.proofs.kullneyra_hop_words.Tie as tie
 
 returns : tie.Need-returns
 returns c =
-    let given = c.before.before in
-    rw (← given.before.before.hop_words.ensures) given.give_length.ensures
+    rw (← c.hop_words-words.ensures) c.give_length.ensures
 
 pub kullneyra_hop_words_spec : {M : Type 1} → statement M
 kullneyra_hop_words_spec = tie.close (tie.spec (λ c κs. search rules) (λ c κs. search rules) (λ c. search rules) returns)

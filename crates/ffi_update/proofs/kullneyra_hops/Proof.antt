@@ -5,7 +5,7 @@ use Rattle.ffi_update.proofs.kullneyra_hops.Statement.{statement}
 use Rattle.ffi_update.proofs.kullneyra_hops.Tie as tie
 
 returns : tie.Need-returns
-returns c = hops_in c.before.before.before.before.before.hops.ensures c.verdict_number.ensures
+returns c = hops_in c.hops.ensures c.verdict_number.ensures
 
 pub kullneyra_hops_spec : {M : Type 1} → statement M
 kullneyra_hops_spec =

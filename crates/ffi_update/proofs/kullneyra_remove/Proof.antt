@@ -5,7 +5,7 @@ use Rattle.ffi_update.proofs.kullneyra_remove.Statement.{statement}
 use Rattle.ffi_update.proofs.kullneyra_remove.Tie as tie
 
 returns : tie.Need-returns
-returns c = removes_in c.before.before.before.before.before.before.before.before.before.remove.ensures c.verdict_number.ensures
+returns c = removes_in c.remove.ensures c.verdict_number.ensures
 
 pub kullneyra_remove_spec : {M : Type 1} → statement M
 kullneyra_remove_spec =

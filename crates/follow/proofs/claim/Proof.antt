@@ -8,10 +8,6 @@ use borrow.Author.Rules.{rules}
 use Rattle.follow.proofs.claim.Statement.{statement}
 use Rattle.follow.proofs.claim.Tie as tie
 
--- back to the call, from before and behind the first load
-abbrev called : tie.After-struct_known-1 → tie.Start
-called c = c.before.before.before.before.before.before.before
-
 load-first-requires : tie.Need-load-first-requires
 load-first-requires c κs =
     let b = c.args.step.entry.worker in

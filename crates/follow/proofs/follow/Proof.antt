@@ -9,10 +9,6 @@ use borrow.Author.Rules.{rules}
 use Rattle.follow.proofs.follow.Statement.{statement}
 use Rattle.follow.proofs.follow.Tie as tie
 
--- back to the call, from before and behind the advance
-abbrev called : tie.After-struct_known-1 → tie.Start
-called c = c.before.before.before.before
-
 -- a stretch from its start to its end
 long : (b l : ℕ) → b * l + l - b * l ≡ l
 long b l = omega arith

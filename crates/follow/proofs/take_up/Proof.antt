@@ -11,10 +11,6 @@ use borrow.Author.Rules.{rules}
 use Rattle.follow.proofs.take_up.Statement.{statement}
 use Rattle.follow.proofs.take_up.Tie as tie
 
--- back to the call, from before and behind the load
-abbrev called : tie.After-struct_known-1 → tie.Start
-called c = c.before.before.before
-
 load-r-requires : tie.Need-load-r-requires
 load-r-requires c κs =
     let b = c.args.step.entry.worker in

@@ -7,14 +7,6 @@ use borrow.Author.Rules.{rules}
 use Rattle.idle.proofs.ask.Statement.{statement}
 use Rattle.idle.proofs.ask.Tie as tie
 
--- back to the call, from before and behind the load of the named worker's block
-abbrev called : tie.After-struct_known-3-1 → tie.Start
-called c = c.before.before.before.before.before
-
--- back to where it is loaded
-abbrev loaded : tie.After-put-arg-1 → tie.After-load-r
-loaded c = c.before.before.before
-
 returns-then-step-v : tie.Need-returns-then-step-v
 returns-then-step-v c =
     let e = c.args.step.entry in

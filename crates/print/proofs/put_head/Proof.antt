@@ -1,6 +1,5 @@
 -- `print::put_head` meets its contract: the first line, and three numbers, each with its byte behind it.
 use native.Mathlib.Omega.{arith}
-use borrow.Author.Rules.{rules}
 use Rattle.slices.proofs.Written.{same_long}
 use Rattle.matrix.proofs.Texts.{head_length, room_one, room_two, room_three, head_put}
 use Rattle.print.proofs.put_head.Statement.{statement}

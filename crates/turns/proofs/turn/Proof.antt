@@ -10,10 +10,6 @@ use borrow.Author.Rules.{rules}
 use Rattle.turns.proofs.turn.Statement.{statement}
 use Rattle.turns.proofs.turn.Tie as tie
 
--- back to the call, from before and behind the load
-abbrev called : tie.After-struct_known-1 → tie.Start
-called c = c.before.before.before.before.before.before.before
-
 load-r-requires : tie.Need-load-r-requires
 load-r-requires c κs =
     let b = c.args.step.entry.worker in
