@@ -3,7 +3,7 @@
 
 ghost use Rattle.std.specs.Prelude.{◌≡◌, length};
 ghost use Rattle.desk.specs.Kept.{unless_refused};
-ghost use Rattle.hands.specs.Hand.{fault, turns_of, length_of as scheduleLength, Rounds};
+ghost use Rattle.hands.specs.Hand.{fault, turns_of, length_of as schedule_length, Rounds};
 ghost use Rattle.kullneyra.specs.Calls.{LengthIn, seed_of, DrawsIn, DealsIn};
 ghost use Rattle.kullneyra.specs.Promise.{DealPromise};
 
@@ -12,7 +12,7 @@ use seed::{Dealt, Drawn, Seed};
 // How many bytes the schedule of so many cards has; result words: bytes.
 #[unsafe(no_mangle)]
 pub extern "C" fn kullneyra_schedule_length(cards: usize, workers: u32, res: &mut [u64]) -> u32
-    ensures { LengthIn (scheduleLength workers cards) res.old res.new result }
+    ensures { LengthIn (schedule_length workers cards) res.old res.new result }
 {
     kullneyra::give_length(cards::schedule_length(cards, workers), res)
 }

@@ -9,9 +9,9 @@ ghost use Rattle.kullneyra.specs.Calls.{LengthIn, ScansIn};
 ghost use Rattle.kullneyra.specs.Promise.{Reads, Imports};
 ghost use Rattle.matrix.specs.Promise.{Returns};
 ghost use Rattle.matrix.specs.Import.{head_row};
-ghost use Rattle.matrix.specs.Export.{export_fault, bytes_after, length_for as exportLength};
+ghost use Rattle.matrix.specs.Export.{export_fault, bytes_after, length_for as export_length};
 ghost use Rattle.names.specs.Names.{names_of};
-ghost use Rattle.names.specs.Call.{texts_of, blank, length_for as scanLength};
+ghost use Rattle.names.specs.Call.{texts_of, blank, length_for as scan_length};
 
 // `header`; result words: n, m, index.
 #[unsafe(no_mangle)]
@@ -95,7 +95,7 @@ pub extern "C" fn kullneyra_import(
 // How many bytes the Matrix Market text of a graph has; one result word.
 #[unsafe(no_mangle)]
 pub extern "C" fn kullneyra_export_length(offsets: &[u32], targets: &[u32], res: &mut [u64]) -> u32
-    ensures { LengthIn (exportLength offsets.now targets.now) res.old res.new result }
+    ensures { LengthIn (export_length offsets.now targets.now) res.old res.new result }
 {
     kullneyra::give_length(market::export_length(offsets, targets), res)
 }
@@ -123,7 +123,7 @@ pub extern "C" fn kullneyra_scan_length(
     work: &mut [u32],
     res: &mut [u64],
 ) -> u32
-    ensures length_in { LengthIn (scanLength objects (names_of width names.now named.now)
+    ensures length_in { LengthIn (scan_length objects (names_of width names.now named.now)
         (texts_of texts.now ends.now owners.now) (blank work.old)) res.old res.new result }
     ensures work_unchanged { work.new ≡ work.old }
 {

@@ -2,15 +2,15 @@
 #![tactic(auto)]
 
 ghost use Rattle.kullneyra.specs.Calls.{LengthIn, HopsIn, AddsIn, RemovesIn};
-ghost use Rattle.hops.specs.Call.{length_for as hopLength};
-ghost use Rattle.updates.specs.Call.{length_for as updateLength};
+ghost use Rattle.hops.specs.Call.{length_for as hop_length};
+ghost use Rattle.updates.specs.Call.{length_for as update_length};
 
 use desk::Length;
 
 // How many work words the hop counts take; one result word.
 #[unsafe(no_mangle)]
 pub extern "C" fn kullneyra_hop_words(objects: u32, res: &mut [u64]) -> u32
-    ensures { LengthIn (hopLength objects) res.old res.new result }
+    ensures { LengthIn (hop_length objects) res.old res.new result }
 {
     let words: Length = hops::hop_words(objects);
     kullneyra::give_length(words, res)
@@ -33,7 +33,7 @@ pub extern "C" fn kullneyra_hops(
 // How many work words adding and taking out references take; result word: words.
 #[unsafe(no_mangle)]
 pub extern "C" fn kullneyra_update_words(objects: u32, res: &mut [u64]) -> u32
-    ensures { LengthIn (updateLength objects) res.old res.new result }
+    ensures { LengthIn (update_length objects) res.old res.new result }
 {
     let words: Length = updates::update_words(objects);
     kullneyra::give_length(words, res)

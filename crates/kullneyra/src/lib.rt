@@ -7,9 +7,9 @@ ghost use Rattle.std.proofs.lemmas.List.Edits.{sets};
 ghost use Rattle.desk.specs.Length.{length_row};
 ghost use Rattle.desk.specs.Kept.{unless_refused};
 ghost use Rattle.catalogue.specs.Answer.{row, found_row};
-ghost use Rattle.marker.specs.Answer.{row as markRow};
+ghost use Rattle.marker.specs.Answer.{row as mark_row};
 ghost use Rattle.kullneyra.specs.Calls.{header_words, read_words};
-ghost use Rattle.kullneyra.specs.Calls.{LengthIn, mark_word_count, result_words, mark_words, stop_word_count, stop_words, flag as flagWord, seed_words};
+ghost use Rattle.kullneyra.specs.Calls.{LengthIn, mark_word_count, result_words, mark_words, stop_word_count, stop_words, flag as flag_word, seed_words};
 
 use catalogue::{Answer, Found};
 use desk::Length;
@@ -85,8 +85,8 @@ fn give_counts(finished: u64, counts: Counts, res: &mut [u64])
 // An answer of the marker: its number, and its values in the result words.
 pub fn give_marked(answer: Marked, res: &mut [u64]) -> u32
     requires { length res.old ≡ mark_word_count }
-    ensures value { result ≡ (markRow answer).number }
-    ensures res_after { res.new ≡ unless_refused (markRow answer).number (mark_words (markRow answer)) res.old }
+    ensures value { result ≡ (mark_row answer).number }
+    ensures res_after { res.new ≡ unless_refused (mark_row answer).number (mark_words (mark_row answer)) res.old }
 {
     match answer {
         Marked::Finished(counts) => {
@@ -103,7 +103,7 @@ pub fn give_marked(answer: Marked, res: &mut [u64]) -> u32
 
 // A flag as a word.
 fn word_of(flag: bool) -> u64
-    ensures { result ≡ flagWord flag }
+    ensures { result ≡ flag_word flag }
 {
     if flag { 1 } else { 0 }
 }
@@ -111,8 +111,8 @@ fn word_of(flag: bool) -> u64
 // An answer of a call that saves, and whether what it saved is sound.
 pub fn give_stopped(answer: Marked, sound: bool, res: &mut [u64]) -> u32
     requires { length res.old ≡ stop_word_count }
-    ensures value { result ≡ (markRow answer).number }
-    ensures res_after { res.new ≡ unless_refused (markRow answer).number (stop_words (markRow answer) sound) res.old }
+    ensures value { result ≡ (mark_row answer).number }
+    ensures res_after { res.new ≡ unless_refused (mark_row answer).number (stop_words (mark_row answer) sound) res.old }
 {
     let number = give_marked(answer, &mut res[..MARK_WORDS]);
     if number == 0 {

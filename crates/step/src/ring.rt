@@ -1,6 +1,6 @@
 // The token ring by value: who holds the token, its colour and the workers' colours.
 ghost use Rattle.std.specs.Prelude.{◌≡◌, ◌≤◌};
-ghost use Rattle.machine.specs.Ring.{shade as shadeOf, colour_of, blackened as blackenedRing, passed_on};
+ghost use Rattle.machine.specs.Ring.{shade as shade_of, colour_of, blackened as blackened_ring, passed_on};
 ghost use Rattle.step.specs.Ringing.{ring_with, ring_of, RingAt};
 
 // A colour is 1 for black and 0 for white; black workers are bits, worker 0 the lowest.
@@ -25,7 +25,7 @@ pub fn fresh() -> Ring
 // Worker b's colour.
 pub fn shade(r: Ring, b: u32) -> u64
     requires { RingAt r b }
-    ensures { (x : RingAt r b) → result ≡ shadeOf (colour_of x.ring b) }
+    ensures { (x : RingAt r b) → result ≡ shade_of (colour_of x.ring b) }
 {
     (r.black >> b) % 2
 }
@@ -33,7 +33,7 @@ pub fn shade(r: Ring, b: u32) -> u64
 // Worker b turns black.
 pub fn blackened(r: Ring, b: u32) -> Ring
     requires { RingAt r b }
-    ensures { (x : RingAt r b) → result ≡ ring_of (blackenedRing b x.ring) }
+    ensures { (x : RingAt r b) → result ≡ ring_of (blackened_ring b x.ring) }
 {
     let white = 1 - shade(r, b);
     Ring {
