@@ -124,9 +124,14 @@ def edited(edit: Edit, crate: Path) -> tuple[dict[str, str], dict[str, set[int]]
 KEPT = re.compile(r"omega|cc|search|rw|simp|Need-.*")
 QUOTED = re.compile(r"`([^`]*)(?:`|$)")
 
+# A term, and no name, of which rt left out the end, and all behind it: two sides that are not the same begin so.
+CUT = re.compile(r"`[^`\s]+ [^`]*")
+
 
 def kind(message: str) -> Optional[str]:
     """What is wrong with what was said first; None for a fact that fails. What stands first counts: advice may follow."""
+    if CUT.fullmatch(" ".join(message.split())):
+        return None
     text = QUOTED.sub(lambda quoted: quoted[0] if KEPT.fullmatch(quoted[1]) else "``", " ".join(message.split()))
     kinds = [(None, pattern) for pattern in FACTS] + list(UNFIT)
     said = [(found.start(), name) for name, pattern in kinds if (found := re.search(pattern, text))]

@@ -42,6 +42,8 @@ FACTS = (
     "`number_of_spec`: give a proof of that as the last argument, `rw L t` (`rw L ?` shows it as a hole's goal), or add w",
     "`verdict_number_spec`: `search`: no proof of `mathlib.Core.Path.◌≡◌ 12 (number_of c.args.v)` was found. `grind`",
     "`loop-k`: `omega`: the goal does not follow from what it read. All of that holds, and the goal fails, a",
+    # A term of which rt left out the end, and the comparison behind it.
+    "`borrow.Table.Row.get 31 (Rattle.resume.proofs.resume.Lts.T99).locals (Rattle.resume.proof",
     # What follows is advice.
     "`filled`: as printed, the two types differ only where one has `x` (expected) and the other has `y` (found)\n  (`b` is not in scope here)",
     # Words of the crate that sound like a fault are none.
