@@ -17,8 +17,8 @@ module _ {A : Type 0} where
   pub set_past : (p q : List A) (n i : ℕ) (a : A) → length p ≡ n → set (p ++ q) (n + i) a ≡ p ++ set q i a
   set_past p q n i a e = rw (← e) (set_append_add p q i a)
 
-  pub get_d_past : (p q : List A) (n i : ℕ) (d : A) → length p ≡ n → get_or (p ++ q) (n + i) d ≡ get_or q i d
-  get_d_past p q n i d e = rw (← e) (get_or-append-add p q i d)
+  pub get_or_past : (p q : List A) (n i : ℕ) (d : A) → length p ≡ n → get_or (p ++ q) (n + i) d ≡ get_or q i d
+  get_or_past p q n i d e = rw (← e) (get_or-append-add p q i d)
 
   -- as many stores as a list has places, one behind the other, leave just what was stored
   pub sets_all : (vs l : List A) → length l ≡ length vs → sets l 0 vs ≡ vs

@@ -16,7 +16,7 @@ use Rattle.laws.specs.Test.{all}
 use Rattle.laws.specs.Grouping.{grouped, starts}
 use Rattle.laws.proofs.Every.{every_append}
 use Rattle.laws.proofs.Test.{both_is}
-use Rattle.laws.proofs.Grouping.{map_append, length_starts, get_D_starts}
+use Rattle.laws.proofs.Grouping.{map_append, length_starts, get_or_starts}
 use Rattle.laws.proofs.Ordered.{grouped_is, below_is}
 use Rattle.refusal.proofs.None.{first_none}
 use Rattle.graph.specs.Graph.{Graph, graph, objects, references, first, after, references_of}
@@ -182,7 +182,7 @@ module _ (G : Graph) (X : Exportable G) where
       ext_get_or 0 (starts from_of n (pairs_below G n)) G.offsets (l ∙ omega (arith, F.some))
       (λ i h.
       let w : i ≤ n = omega (arith, l) in
-      get_D_starts from_of n i (pairs_below G n) w
+      get_or_starts from_of n i (pairs_below G n) w
       ∙ below_is from_of (λ (v : ℕ). pairs_from v (references_of G v)) (pairs_below G) none next (λ v. keys_from v (references_of G v)) n i w
       ∙ pairs_length i w)
 

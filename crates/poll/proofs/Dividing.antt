@@ -19,7 +19,7 @@ use Rattle.worker.proofs.Parting.{Topped, topped, told_on, told_used, told_one, 
 use Rattle.worker.proofs.Cutting.{split_low, split_high, split_first, split_end, split_below}
 use Rattle.step.specs.Held.{stretch_at}
 use Rattle.poll.specs.Dividing.{Dividing, Cutting, InBack, Divided, HeldIn}
-use Rattle.step.proofs.Parts.{apart_whole, length_stretch, get_D_stretch, length_back, back_here, back_other, length_copied, copied_here, copied_other}
+use Rattle.step.proofs.Parts.{apart_whole, length_stretch, get_or_stretch, length_back, back_here, back_other, length_copied, copied_here, copied_other}
 
 -- a stretch as it is lent
 abbrev lent : ℕ → ℕ → List ℕ → List ℕ
@@ -206,12 +206,12 @@ module _ {L : ℕ} {work : List ℕ} {b a : ℕ} {t : Top} {k : ℕ} where
 
     -- the two words of the pair, read in the work memory
     first_is : get_or work (b * L + (place - 2)) 0 ≡ get_or (stretch_at L b work) (place - 2) 0
-    first_is = sym (get_D_stretch L b work (place - 2) (omega (arith, low, high)))
+    first_is = sym (get_or_stretch L b work (place - 2) (omega (arith, low, high)))
 
     end_is : get_or work (b * L + (place - 2) + 1) 0 ≡ get_or (stretch_at L b work) (place - 2 + 1) 0
     end_is =
         let n : b * L + (place - 2) + 1 ≡ b * L + (place - 2 + 1) = omega arith in
-        rw n (sym (get_D_stretch L b work (place - 2 + 1) (omega (arith, low, high))))
+        rw n (sym (get_or_stretch L b work (place - 2 + 1) (omega (arith, low, high))))
 
     fits : cut.first + left < 2 ^ 32
     fits = omega (arith, q.small (b * L + (place - 2) + 1), end_is, split_end here.holds cut, cut.short)
@@ -321,7 +321,7 @@ module _ {L : ℕ} {work : List ℕ} {b a : ℕ} {t : Top} {k : ℕ} where
     cut_word = rw (lent_is L b work) (omega (arith, back_pair, given_few))
 
     word_here : (i : ℕ) → i < 2 → get_or work (b * L + i) 0 ≡ get_or (lent L b work) i 0
-    word_here i l = sym (ap (λ (s : List ℕ). get_or s i 0) (lent_is L b work) ∙ get_D_stretch L b work i (omega (arith, long_enough)))
+    word_here i l = sym (ap (λ (s : List ℕ). get_or s i 0) (lent_is L b work) ∙ get_or_stretch L b work i (omega (arith, long_enough)))
 
     pub divided_back : ((i : ℕ) → get_or work i 0 < 2 ^ 32)
         → Divided L work b a t k

@@ -41,12 +41,12 @@ pub record SweptTo (sizes marks list out : List ℕ) (at count freed : ℕ) : Ty
   pub objects : Below (take count list) (length sizes)
   pub room : at + (dead_room (length (take count list)) + 27) ≤ length out
 
-module _ {sizes marks out : List ℕ} {at : ℕ} (s : Sweepable sizes marks out at) (list : List ℕ) (AllList : length list ≡ length sizes) where
+module _ {sizes marks out : List ℕ} {at : ℕ} (s : Sweepable sizes marks out at) (list : List ℕ) (all_list : length list ≡ length sizes) where
   free : fault marks sizes list ≡ 0
   free =
       let few : length sizes ≤ most_objects = omega (arith, s.few) in
       let inside : outside most_objects (length sizes) ≡ false = rw (le-ltb (length sizes) 1 s.some, le-ltb most_objects (length sizes) few) refl in
-      fault_free marks sizes list inside s.all_marks AllList s.sizes_fit
+      fault_free marks sizes list inside s.all_marks all_list s.sizes_fit
 
   pub swept_to : {w : Swept} {count freed : ℕ} {list' : List ℕ} → w ≡ Dead count freed → row w ≡ sweeping marks sizes list
       → list' ≡ list_after marks sizes list → SweptTo sizes marks list' out at count freed

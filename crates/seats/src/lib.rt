@@ -3,7 +3,7 @@
 #![tactic(auto)]
 
 ghost use Rattle.std.specs.Prelude.{◌≡◌, length};
-ghost use Rattle.hands.specs.Deck.{digits, deck as all-cards};
+ghost use Rattle.hands.specs.Deck.{digits, deck as all_cards};
 ghost use Rattle.hands.specs.Hand.{turns_of};
 ghost use Rattle.seats.specs.Rounding.{Seats, Seated, Roomy, Rounded, Dealing};
 
@@ -50,7 +50,7 @@ pub fn put_round(
     schedule: &mut [u8],
     at: usize,
 ) -> usize
-    requires deck_value { deck.now ≡ all-cards }
+    requires deck_value { deck.now ≡ all_cards }
     requires roomy { Roomy workers card at (length schedule.old) }
     ensures { Rounded workers card at schedule.old schedule.new result }
 {
@@ -64,7 +64,7 @@ pub fn put_round(
 
 // Writes the rounds of a hand, one behind the other.
 pub fn put_rounds(deck: &[u32; 720], cards: &[u32], workers: u32, schedule: &mut [u8])
-    requires deck_value { deck.now ≡ all-cards }
+    requires deck_value { deck.now ≡ all_cards }
     requires dealing { Dealing cards.now workers (length schedule.old) }
     ensures { schedule.new ≡ turns_of workers cards.now }
 {

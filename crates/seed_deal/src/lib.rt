@@ -2,7 +2,7 @@
 #![tactic(auto)]
 
 ghost use Rattle.std.specs.Prelude.{◌≡◌, length};
-ghost use Rattle.hands.specs.Deck.{deck as all-cards};
+ghost use Rattle.hands.specs.Deck.{deck as all_cards};
 ghost use Rattle.cards.specs.Copying.{Tables};
 ghost use Rattle.seed.specs.Deal.{after_draws, Deals};
 ghost use Rattle.seed_deal.specs.Drawing.{Drawing, Drew};
@@ -21,7 +21,7 @@ fn put_draws(
     workers: u32,
     schedule: &mut [u8],
 ) -> Seed
-    requires deck_value { deck.now ≡ all-cards }
+    requires deck_value { deck.now ≡ all_cards }
     requires drawing { Drawing rounds workers (length schedule.old) }
     ensures { Drew seed rounds workers result schedule.new }
 {

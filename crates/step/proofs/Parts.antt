@@ -8,7 +8,7 @@ use native.Mathlib.Decide.{dec_lt}
 use native.Mathlib.Omega.{arith}
 use lib.ListN.{length, get_or, take, drop, length-append, length-take, length-drop, get_or-append}
 use lib.Seq.{ext_get_or, get_or-take, get_or-drop, length-take-le, paste, length-paste, length_paste_head}
-use Rattle.laws.proofs.Stores.{get_d_past}
+use Rattle.laws.proofs.Stores.{get_or_past}
 use Rattle.worker.proofs.Copy.{paste_before, paste_after}
 use Rattle.step.specs.Held.{stretch_at}
 
@@ -31,8 +31,8 @@ module _ (L : ℕ) where
   pub length_stretch : (b : ℕ) (work : List ℕ) → b * L + L ≤ length work → length (stretch_at L b work) ≡ L
   length_stretch b work h = length-take-le L (drop (b * L) work) (rw length-drop (omega arith))
 
-  pub get_D_stretch : (b : ℕ) (work : List ℕ) (i : ℕ) → i < L → get_or (stretch_at L b work) i 0 ≡ get_or work (b * L + i) 0
-  get_D_stretch b work i l = get_or-take L (drop (b * L) work) i 0 l ∙ get_or-drop (b * L) work i 0
+  pub get_or_stretch : (b : ℕ) (work : List ℕ) (i : ℕ) → i < L → get_or (stretch_at L b work) i 0 ≡ get_or work (b * L + i) 0
+  get_or_stretch b work i l = get_or-take L (drop (b * L) work) i 0 l ∙ get_or-drop (b * L) work i 0
 
   -- a stretch that agrees word by word
   pub same_stretch : (b : ℕ) (work work' : List ℕ) → length work' ≡ length work
@@ -41,7 +41,7 @@ module _ (L : ℕ) where
       ext_get_or 0 (stretch_at L b work') (stretch_at L b work) (simp (length-take, length-drop, long))
       (λ i l.
       let low : i < L = omega (arith, rw length-take at l) in
-      get_D_stretch b work' i low ∙ h i low ∙ sym (get_D_stretch b work i low))
+      get_or_stretch b work' i low ∙ h i low ∙ sym (get_or_stretch b work i low))
 
   -- the work memory with one stretch written anew
   module _ (b : ℕ) (work part : List ℕ) (room : b * L + L ≤ length work) (long : length part ≡ L) (e : ℕ) (is : e ≡ b * L + L) where
@@ -59,8 +59,8 @@ module _ (L : ℕ) where
         ext_get_or 0 (stretch_at L b back) part (length_stretch b back (omega (arith, length_back)) ∙ sym long)
         (λ i l.
         let low : i < L = omega (arith, length_stretch b back (omega (arith, length_back))) in
-        get_D_stretch b back i low
-        ∙ get_d_past (take (b * L) work) _ (b * L) i 0 front_long
+        get_or_stretch b back i low
+        ∙ get_or_past (take (b * L) work) _ (b * L) i 0 front_long
         ∙ get_or-append part _ 0 i (omega (arith, long)))
 
     pub back_other : (a : ℕ) → a ≢ b → stretch_at L a back ≡ stretch_at L a work
@@ -78,8 +78,8 @@ module _ (L : ℕ) where
             let m : e - b * L ≡ L = omega (arith, is) in
             let q : b * L + (L + j) ≡ b * L + L + j = omega arith in
             rw n
-            (get_d_past (take (b * L) work) _ (b * L) (L + j) 0 front_long
-            ∙ get_d_past part _ L j 0 long
+            (get_or_past (take (b * L) work) _ (b * L) (L + j) 0 front_long
+            ∙ get_or_past part _ L j 0 long
             ∙ rw m (get_or-drop L (drop (b * L) work) j 0 ∙ get_or-drop (b * L) work (L + j) 0))
 
   -- words copied from the beginning of stretch b to the beginning of stretch a
@@ -103,15 +103,15 @@ module _ (L : ℕ) where
         (λ i l.
         let low : i < count = omega (arith, length-take-le count (stretch_at L a copied) (omega (arith, n))) in
         get_or-take count (stretch_at L a copied) i 0 low
-        ∙ get_D_stretch a copied i (omega arith)
+        ∙ get_or_stretch a copied i (omega arith)
         ∙ inside i low
-        ∙ sym (get_or-take count (stretch_at L b work) i 0 low ∙ get_D_stretch b work i (omega arith)))
+        ∙ sym (get_or-take count (stretch_at L b work) i 0 low ∙ get_or_stretch b work i (omega arith)))
       where
         inside : (i : ℕ) → i < count → get_or copied (a * L + i) 0 ≡ get_or work (b * L + i) 0
         inside i l =
             get_or-append (take (a * L) work ++ take count (drop (b * L) work)) _ 0 (a * L + i)
             (omega (arith, length_paste_head work (a * L) (drop (b * L) work) count (omega arith) source))
-            ∙ get_d_past (take (a * L) work) _ (a * L) i 0 (length-take-le (a * L) work (omega arith))
+            ∙ get_or_past (take (a * L) work) _ (a * L) i 0 (length-take-le (a * L) work (omega arith))
             ∙ get_or-take count (drop (b * L) work) i 0 l
             ∙ get_or-drop (b * L) work i 0
 

@@ -16,10 +16,10 @@ use Rattle.hands.proofs.Lengths.{round_long}
 use Rattle.tables.specs.Table.{front_bytes, fronts, backs}
 
 -- what stands inside a list needs no default
-get_d_any : (l : List ℕ) (i d e : ℕ) → i < length l → get_or l i d ≡ get_or l i e
-get_d_any [] i d e h = absurd (omega arith)
-get_d_any (x ∷ l) zero d e h = refl
-get_d_any (x ∷ l) (suc i) d e h = get_d_any l i d e (omega arith)
+get_or_any : (l : List ℕ) (i d e : ℕ) → i < length l → get_or l i d ≡ get_or l i e
+get_or_any [] i d e h = absurd (omega arith)
+get_or_any (x ∷ l) zero d e h = refl
+get_or_any (x ∷ l) (suc i) d e h = get_or_any l i d e (omega arith)
 
 -- the deck, with the first card behind its end
 abbrev some_card : ℕ → ℕ
@@ -34,7 +34,7 @@ module _ (W : ℕ) (few : W ≤ card_workers) where
   each i =
       by_cases (dec_lt i deck_size)
       (λ (p : i < deck_size).
-      ap (λ (n : ℕ). length (round_by n)) (get_d_any deck i 12345 0 (omega (arith, deck_long))) ∙ round_long W i few p)
+      ap (λ (n : ℕ). length (round_by n)) (get_or_any deck i 12345 0 (omega (arith, deck_long))) ∙ round_long W i few p)
       (λ (p : ¬ (i < deck_size)).
       ap (λ (n : ℕ). length (round_by n)) (get_or-eq_default deck 12345 (omega (arith, deck_long)))
       ∙ rw all_orders.first at (round_long W 0 few (omega arith)))
@@ -51,7 +51,7 @@ module _ (W : ℕ) (few : W ≤ card_workers) where
     unfolding round_of
     part c h =
         laid_part part_by w 12345 deck c (λ i. long (round_by (some_card i)) (each i)) (omega (arith, deck_long))
-        ∙ ap part_by (get_d_any deck c 12345 0 (omega (arith, deck_long)))
+        ∙ ap part_by (get_or_any deck c 12345 0 (omega (arith, deck_long)))
 
   module _ (many : front_bytes ≤ 2 * W) where
     front_long : (l : List ℕ) → length l ≡ 2 * W → length (take front_bytes l) ≡ front_bytes

@@ -12,7 +12,7 @@ use lib.Dec.{eqb}
 use lib.Seq.{sets-eq, length-sets, get_or-set_same, get_or-set_other, get_or-take, get_or-drop, length-take-le}
 use Rattle.laws.specs.Choice.{pick}
 use Rattle.laws.specs.Every.{Every}
-use Rattle.laws.proofs.Stores.{get_d_past}
+use Rattle.laws.proofs.Stores.{get_or_past}
 use Rattle.worker.specs.declared.registers.Block.{Block}
 use Rattle.worker.specs.Registers.{block_at, words, store_at, put_at, Word, puts_at, Stored}
 
@@ -70,7 +70,7 @@ module _ (regs : List ℕ) (b : ℕ) (room : 9 * b + 9 ≤ length regs) where
 
   module _ (r : Block) where
     inside : (j : ℕ) → get_or (store_at regs b r) (9 * b + j) 0 ≡ get_or (words r ++ drop (9 * b + 9) regs) j 0
-    inside j = rw (split_words r) (get_d_past (take (9 * b) regs) _ (9 * b) j 0 front_long)
+    inside j = rw (split_words r) (get_or_past (take (9 * b) regs) _ (9 * b) j 0 front_long)
 
     outside : (k : ℕ) → (k < 9 * b) ⊎ (9 * b + 9 ≤ k) → get_or (store_at regs b r) k 0 ≡ get_or regs k 0
     outside k (inl h) =
@@ -82,7 +82,7 @@ module _ (regs : List ℕ) (b : ℕ) (room : 9 * b + 9 ≤ length regs) where
         let long : length p ≡ 9 * b + 9 = rw length-append (omega (arith, front_long)) in
         rw (split_words r, ← append_assoc)
         (ap (λ (i : ℕ). get_or (p ++ drop (9 * b + 9) regs) i 0) e
-        ∙ get_d_past p _ (9 * b + 9) (k - (9 * b + 9)) 0 long
+        ∙ get_or_past p _ (9 * b + 9) (k - (9 * b + 9)) 0 long
         ∙ get_or-drop (9 * b + 9) regs (k - (9 * b + 9)) 0
         ∙ ap (λ (i : ℕ). get_or regs i 0) (sym e))
 

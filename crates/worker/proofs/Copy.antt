@@ -7,7 +7,7 @@ use native.Mathlib.Numerals.{add-one}
 use native.Mathlib.Omega.{arith}
 use lib.ListN.{length, get_or, set, take, drop, length-drop, get_or-append}
 use lib.Seq.{paste, paste-suc, length_paste_head, get_or-take, get_or-drop, length-take-le}
-use Rattle.laws.proofs.Stores.{get_d_past}
+use Rattle.laws.proofs.Stores.{get_or_past}
 use Rattle.worker.specs.Stretch.{Copyable}
 
 -- what a copy leaves alone
@@ -23,7 +23,7 @@ pub paste_after : (d s : List ℕ) (at j k : ℕ) → at ≤ length d → j ≤ 
 paste_after d s at j k hd hs h =
     let e : k ≡ at + j + (k - (at + j)) = omega arith in
     ap (λ (i : ℕ). get_or (paste d at s j) i 0) e
-    ∙ get_d_past (take at d ++ take j s) (drop (at + j) d) (at + j) (k - (at + j)) 0 (length_paste_head d at s j hd hs)
+    ∙ get_or_past (take at d ++ take j s) (drop (at + j) d) (at + j) (k - (at + j)) 0 (length_paste_head d at s j hd hs)
     ∙ get_or-drop (at + j) d (k - (at + j)) 0
     ∙ ap (λ (i : ℕ). get_or d i 0) (sym e)
 

@@ -8,7 +8,7 @@ use borrow.Author.Tests.{lt-ltb, le-ltb}
 use lib.ListN.{length, get_or, set, take, drop, length-append, length-drop, length-set}
 use lib.Seq.{get_or_at, get_or-take, paste, take-paste, length-paste, take-add, take_at, take-take, take-set-lt, drop_at, length-take-le}
 use Rattle.laws.specs.Sum.{sum}
-use Rattle.laws.proofs.Stores.{get_d_past, set_past}
+use Rattle.laws.proofs.Stores.{get_or_past, set_past}
 use Rattle.machine.specs.Run.{Run, run, carried, keep, rest, pairs}
 use Rattle.worker.specs.Stretch.{Holds, Split, KeptAbove}
 use Rattle.worker.proofs.Pairs.{length_pairs, pairs_append}
@@ -57,7 +57,7 @@ module _ (s : List ℕ) (used : ℕ) {rs : List Run} (h : Holds s used rs) (abov
   cut_end =
       sym (get_or-take used s (place - 2 + 1) 0 (omega (arith, cut_high, at)))
       ∙ ap (λ (l : List ℕ). get_or l (place - 2 + 1) 0) cut_words
-      ∙ get_d_past (pairs below) _ (place - 2) 1 0 cut_place
+      ∙ get_or_past (pairs below) _ (place - 2) 1 0 cut_place
 
   -- what stands below that pair
   pub cut_below : Holds s (place - 2) below

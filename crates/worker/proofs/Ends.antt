@@ -6,7 +6,7 @@ use native.Mathlib.Numerals.{add-one}
 use native.Mathlib.Omega.{arith}
 use lib.ListN.{length, get_or, set, take, drop, length-set, length-append, length-drop}
 use lib.Seq.{get_or_at, get_or-drop, take_at, paste, length-paste, length-take-le}
-use Rattle.laws.proofs.Stores.{get_d_past}
+use Rattle.laws.proofs.Stores.{get_or_past}
 use Rattle.machine.specs.Run.{Run, run, pairs}
 use Rattle.worker.specs.Stretch.{Told, top_with, EndsWith}
 use Rattle.worker.proofs.Pairs.{length_pairs, pairs_append}
@@ -69,7 +69,7 @@ module _ (s : List ℕ) (at f j : ℕ) (rs : List Run) (x : EndsWith s at (run f
       ∙ get_or_at (pairs rs) f _ 0 (length s - 2 - at) place
 
   pub lower_end : get_or s (length s - 2 + 1) 0 ≡ f + suc j
-  lower_end = word 1 ∙ get_d_past (pairs rs) _ (length s - 2 - at) 1 0 place
+  lower_end = word 1 ∙ get_or_past (pairs rs) _ (length s - 2 - at) 1 0 place
 
   source : length s - 2 - at ≤ length (drop at s)
   source = rw length-drop (omega arith)

@@ -6,7 +6,7 @@ use native.Mathlib.Numerals.{add-one}
 use native.Mathlib.Omega.{arith}
 use lib.ListN.{length, get_or, set, take, length-set, length-append}
 use lib.Seq.{get_or_at, get_or-take, take_at, take-suc-set, take-take}
-use Rattle.laws.proofs.Stores.{get_d_past}
+use Rattle.laws.proofs.Stores.{get_or_past}
 use Rattle.machine.specs.Run.{Run, run, pairs}
 use Rattle.worker.specs.Stretch.{Holds}
 
@@ -72,4 +72,4 @@ module _ (s : List ℕ) (used f j : ℕ) (rs : List Run) (h : Holds s used (run 
   pop_end =
       sym (get_or-take used s (used - 2 + 1) 0 (omega (arith, h.count)))
       ∙ ap (λ (l : List ℕ). get_or l (used - 2 + 1) 0) pair_words
-      ∙ get_d_past (pairs rs) _ (used - 2) 1 0 place
+      ∙ get_or_past (pairs rs) _ (used - 2) 1 0 place
