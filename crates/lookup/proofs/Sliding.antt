@@ -1,12 +1,12 @@
 -- Places that hold no name: none, runs of them in a row, those of a byte that is no digit, of a tail that is not in the index, of the end.
-use Rattle.std.proofs.Common.{◌≡◌, ℕ, ◌+◌, ◌-◌, ◌*◌, ◌%◌, ◌<◌, ◌≤◌, Bool, true, false, eqb, List, length, get_or, sym, ◌∙◌, arith}
+use Rattle.std.proofs.Common.{◌≡◌, ℕ, ◌+◌, ◌-◌, ◌*◌, ◌%◌, ◌<◌, ◌≤◌, Bool, false, eqb, List, length, get_or, sym, ◌∙◌, arith}
 use mathlib.Core.Logic.{by_cases}
 use native.Mathlib.Decide.{dec_lt}
 use borrow.Author.Tests.{eqb-false}
 use Rattle.slices.specs.Bits.{bit}
 use Rattle.names.specs.Names.{is_digit}
 use Rattle.lookup.specs.Index.{tail_at, tail_bytes, tail_values}
-use Rattle.lookup.specs.Places.{Barren, Stops, LastOther, NextPlace}
+use Rattle.lookup.specs.Places.{Barren, Other, Next, Further}
 use Rattle.lookup.proofs.Tails.{tail_slid}
 
 module _ {w : ℕ} {index text : List ℕ} where
@@ -49,19 +49,16 @@ sliding_start {w} {index} {text} {from} {end} f e l v =
 
 module _ {w : ℕ} {index text : List ℕ} {from end h : ℕ} (s : Sliding w index text from end h) where
   -- the tail is there
-  pub slid_hit : Stops w index text from (end - w) true
-  slid_hit =
+  pub slid_hit : (p : ℕ) → p + w ≡ end → Next w index text from p
+  slid_hit p e =
       let l = s.low in
-      record {
-        barren = s.barren;
-        low = omega arith;
-        fits = λ e. omega (arith, s.high);
-        moves = λ (e : true ≡ false). let z : ◌≡◌ {A = ℕ} 0 1 = cc in absurd (omega arith);
-      }
+      let h = s.high in
+      let q : end - w ≡ p = omega arith in
+      record { barren = rw q at s.barren; low = omega arith; fits = omega arith }
 
   -- or it is not, and so no name is at this place
   module _ {r : Bool} (e : r ≡ eqb (bit index h) 1) (n : r ≡ false) where
-    pub here_barren : Barren w index text from (end + 1 - w)
+    here_barren : Barren w index text from (end + 1 - w)
     here_barren =
         let l = s.low in
         let f = s.wide in
@@ -72,27 +69,25 @@ module _ {w : ℕ} {index text : List ℕ} {from end h : ℕ} (s : Sliding w ind
         (barren_tail (end - w) f (rw (b, ← s.value) (eqb-false (bit index h) 1 (sym e ∙ n)))))
 
     -- the next byte is no digit
-    pub slid_other : end < length text → is_digit (get_or text end 0) ≡ false → Stops w index text from (end + 1) false
+    pub slid_other : end < length text → is_digit (get_or text end 0) ≡ false → Further w index text from (end + 1)
     slid_other g d =
         let l = s.low in
         let f = s.wide in
         record {
           barren = barren_join here_barren (barren_byte (end + 1 - w) end d (omega arith));
-          low = omega arith;
-          fits = λ (x : false ≡ true). let z : ◌≡◌ {A = ℕ} 0 1 = cc in absurd (omega arith);
-          moves = λ x. (omega arith, omega arith);
+          moves = omega arith;
+          inside = omega arith;
         }
 
     -- there is none
-    pub slid_end : length text ≤ end → Stops w index text from end false
+    pub slid_end : end ≡ length text → Further w index text from (length text)
     slid_end g =
         let l = s.low in
         let f = s.wide in
         record {
-          barren = barren_join here_barren (barren_end (end + 1 - w) end (omega arith));
-          low = omega arith;
-          fits = λ (x : false ≡ true). let z : ◌≡◌ {A = ℕ} 0 1 = cc in absurd (omega arith);
-          moves = λ x. (omega arith, omega (arith, s.high));
+          barren = barren_join here_barren (barren_end (end + 1 - w) (length text) (omega arith));
+          moves = omega arith;
+          inside = omega arith;
         }
 
     -- it is one
@@ -109,14 +104,8 @@ module _ {w : ℕ} {index text : List ℕ} {from end h : ℕ} (s : Sliding w ind
         }
 
 -- a name of fewer bytes than a tail: every place may hold one
-pub slid_short : {w : ℕ} {index text : List ℕ} {from : ℕ} → from + w ≤ length text → Stops w index text from from true
-slid_short {from = from} l =
-    record {
-      barren = barren_none from;
-      low = omega arith;
-      fits = λ e. l;
-      moves = λ (e : true ≡ false). let z : ◌≡◌ {A = ℕ} 0 1 = cc in absurd (omega arith);
-    }
+pub slid_short : {w : ℕ} {index text : List ℕ} {from : ℕ} → from + w ≤ length text → Next w index text from from
+slid_short {from = from} l = record { barren = barren_none from; low = omega arith; fits = l }
 
 -- ---- from window to window
 
@@ -131,38 +120,26 @@ skipping_start {from = from} h k = record { low = omega arith; high = h; sure = 
 
 module _ {w : ℕ} {index text : List ℕ} {from at known : ℕ} (s : Skipping w index text from at known) where
   -- behind a byte that is no digit
-  pub skip_other : (end r : ℕ) → end ≡ at + w → end ≤ length text → LastOther text known end r → known < r → Skipping w index text from r end
-  skip_other end r e l o h =
-      let i = o.within in
+  pub skip_other : at + w ≤ length text → {i : ℕ} → Other text known (at + w) i → Skipping w index text from (i + 1) (at + w)
+  skip_other e {i} o =
+      let a = o.above in
+      let b = o.below in
       let k = s.sure in
       let j = s.low in
-      let q : r - 1 + 1 ≡ r = omega arith in
-      let b : Barren w index text at (r - 1 + 1) = barren_byte at (r - 1) (o.other h) (omega arith) in
       record {
         low = omega arith;
         high = omega arith;
-        sure = i;
-        barren = barren_join s.barren (rw q at b);
+        sure = omega arith;
+        barren = barren_join s.barren (barren_byte at i o.other b);
       }
 
   -- where sliding ended
-  pub skip_slid : {r : ℕ} {hit : Bool} → Stops w index text at r hit → hit ≡ false → Skipping w index text from r r
-  skip_slid {r} t e =
-      let m = t.moves e in
-      record { low = omega (arith, s.low, t.low); high = m.1; sure = omega arith; barren = barren_join s.barren t.barren }
+  pub skip_slid : {r : ℕ} → Further w index text at r → Skipping w index text from r r
+  skip_slid t = record { low = omega (arith, s.low, t.moves); high = t.inside; sure = omega arith; barren = barren_join s.barren t.barren }
 
-  pub skip_hit : 0 < w → {r : ℕ} {hit : Bool} → Stops w index text at r hit → hit ≡ true → NextPlace w index text from r
-  skip_hit p {r} t e =
-      let f = t.fits e in
-      record { barren = barren_join s.barren t.barren; low = omega (arith, s.low, t.low); high = omega arith; fits = λ g. f }
+  pub skip_hit : {r : ℕ} → Next w index text at r → Next w index text from r
+  skip_hit t = record { barren = barren_join s.barren t.barren; low = omega (arith, s.low, t.low); fits = t.fits }
 
   -- no window is left
-  pub skip_end : length text - at < w → NextPlace w index text from (length text)
-  skip_end h =
-      let g = s.high in
-      record {
-        barren = barren_join s.barren (barren_end at (length text) (omega arith));
-        low = omega (arith, s.low);
-        high = omega arith;
-        fits = λ (x : length text < length text). absurd (omega arith);
-      }
+  pub skip_end : length text - at < w → Barren w index text from (length text)
+  skip_end g = barren_join s.barren (barren_end at (length text) (omega (arith, s.high)))
