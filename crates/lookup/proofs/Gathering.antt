@@ -7,7 +7,7 @@ use native.Mathlib.Decide.{dec_lt}
 use Rattle.laws.proofs.Sum.{hit_same}
 use Rattle.laws.proofs.Test.{tested}
 use Rattle.slices.specs.Bits.{bit, Inserts, word_bits}
-use Rattle.names.specs.Names.{Names, count}
+use Rattle.names.specs.Names.{Names}
 use Rattle.names.specs.Call.{work_word_count}
 use Rattle.lookup.specs.Index.{tail_bytes, tail_values, tail_at, Indexed, KeepsSet}
 use Rattle.lookup.proofs.Tails.{tail_low}
@@ -43,11 +43,6 @@ keeps_set index i x h =
       same = λ (v : ℕ) (l : v < tail_values). rw (get_or-set_other index i (v / word_bits) x 0 (λ (e : v / word_bits ≡ i). omega arith));
     }
 
-pub keeps_next : {index index' : List ℕ} → KeepsSet index index' → (i x : ℕ) → tail_values ≤ word_bits * i → KeepsSet index (set index' i x)
-keeps_next {index' = index'} k i x h =
-    let s = keeps_set index' i x h in
-    record { long = s.long ∙ k.long; same = λ v l. s.same v l ∙ k.same v l }
-
 -- all that is behind it
 module _ (a n : ℕ) (index hints : List ℕ) (l : length index ≡ a + n) (h : length hints ≡ n) where
   part_long : length (put_mid a n index hints) ≡ length index
@@ -70,9 +65,6 @@ keeps_part index hints n e l =
 pub record IndexedTo (N : Names) (k : ℕ) (index : List ℕ) : Type 0 where
   pub long : length index ≡ work_word_count
   pub kept : (j : ℕ) → j < k → bit index (tail_at N.bytes (j * N.width + N.width - tail_bytes)) ≡ 1
-
-pub indexed_none : (N : Names) (index : List ℕ) → length index ≡ work_word_count → IndexedTo N 0 index
-indexed_none N index e = record { long = e; kept = λ (j : ℕ) (h : j < 0). absurd (omega arith) }
 
 pub indexed_next : {N : Names} {k : ℕ} {index : List ℕ} → IndexedTo N k index → {v : ℕ} {r : Bool} {index' : List ℕ}
     → v ≡ tail_at N.bytes (k * N.width + N.width - tail_bytes) → Inserts index v r index' → length index' ≡ length index → IndexedTo N (k + 1) index'
@@ -97,9 +89,6 @@ indexed_kept {N} g s =
 pub hinted : {N : Names} {k : ℕ} {index : List ℕ} → IndexedTo N k index → (i x : ℕ) → tail_values ≤ word_bits * i
     → IndexedTo N k (set index i x)
 hinted {index = index} g i x h = indexed_kept g (keeps_set index i x h)
-
-pub indexed_all : {N : Names} {k : ℕ} {index : List ℕ} → IndexedTo N k index → count N ≤ k → Indexed N index
-indexed_all g h = record { long = g.long; kept = λ f j q. g.kept j (omega arith) }
 
 -- so is an index once the hints are filled in
 pub filled : {N : Names} {index index' : List ℕ} → Indexed N index → KeepsSet index index' → Indexed N index'

@@ -1,5 +1,5 @@
 -- The first eight bytes of two names, each as one number: the lesser number has the lower name.
-use Rattle.std.proofs.Common.{◌≡◌, ℕ, zero, suc, ◌+◌, ◌*◌, ◌<◌, ◌≤◌, List, [], ◌∷◌, length, get_or, take, drop, sym, ◌∙◌, mul-le-mul, arith, get_or-take, le-ltb, lt-ltb, lit<}
+use Rattle.std.proofs.Common.{◌≡◌, ℕ, zero, suc, ◌+◌, ◌*◌, ◌<◌, ◌≤◌, List, length, get_or, take, drop, sym, ◌∙◌, mul-le-mul, arith, get_or-take, le-ltb, lt-ltb, lit<}
 use mathlib.Core.Logic.{by_cases}
 use native.Mathlib.Decide.{dec_lt}
 use Rattle.names.specs.Names.{order}
@@ -49,12 +49,6 @@ number_below (suc k) i l m f g b c h =
 eight_number : (l : List ℕ) → from_be_bytes w64 l ≡ number 8 0 l
 unfolding number power
 eight_number l = omega arith
-
-take_bytes : (n : ℕ) (l : List ℕ) → Bytes l → Bytes (take n l)
-take_bytes zero l b i = omega arith
-take_bytes (suc n) [] b i = omega arith
-take_bytes (suc n) (x ∷ l) b zero = b 0
-take_bytes (suc n) (x ∷ l) b (suc i) = take_bytes n l (λ j. b (suc j)) i
 
 first : (l : List ℕ) → 8 ≤ length l → lead_of l ≡ number 8 0 l
 unfolding lead_of

@@ -22,15 +22,6 @@ pub record Between (N : Names) (bytes : List ℕ) (low high : ℕ) : Type 0 wher
   pub below : (k : ℕ) → k < low → order (name_at N k) bytes ≡ Less
   pub above : (k : ℕ) → high ≤ k → k < count N → order bytes (name_at N k) ≡ Less
 
-pub between_start : (N : Names) (bytes : List ℕ) → Between N bytes 0 (count N)
-between_start N bytes =
-    record {
-      ordered = omega arith;
-      inside = omega arith;
-      below = λ (k : ℕ) (h : k < 0). absurd (omega arith);
-      above = λ (k : ℕ) (h : count N ≤ k) (g : k < count N). absurd (omega arith);
-    }
-
 module _ {N : Names} {bytes : List ℕ} {low high : ℕ} (a : Ascends N) (b : Between N bytes low high) where
   -- a look at name m between them
   module _ (m : ℕ) (l : low ≤ m) (h : m < high) where

@@ -10,9 +10,6 @@ use Rattle.lookup.specs.Places.{Barren, Other, Next, Further}
 use Rattle.lookup.proofs.Tails.{tail_slid}
 
 module _ {w : ℕ} {index text : List ℕ} where
-  pub barren_none : (a : ℕ) → Barren w index text a a
-  barren_none a p h g c = omega arith
-
   pub barren_join : {a b d : ℕ} → Barren w index text a b → Barren w index text b d → Barren w index text a d
   barren_join {a} {b} {d} x y p h g c =
       by_cases (dec_lt p b) (λ (q : p < b). x p h q c) (λ (q : ¬ (p < b)). y p (omega arith) g c)
@@ -41,21 +38,7 @@ pub record Sliding (w : ℕ) (index text : List ℕ) (from end h : ℕ) : Type 0
   pub value : h ≡ tail_at text (end - tail_bytes)
   pub barren : Barren w index text from (end - w)
 
-pub sliding_start : {w : ℕ} {index text : List ℕ} {from end h : ℕ} → tail_bytes ≤ w → end ≡ from + w → end ≤ length text
-    → h ≡ tail_at text (end - tail_bytes) → Sliding w index text from end h
-sliding_start {w} {index} {text} {from} {end} f e l v =
-    let s : end - w ≡ from = omega arith in
-    record { wide = f; low = omega arith; high = l; value = v; barren = rw s (barren_none from) }
-
 module _ {w : ℕ} {index text : List ℕ} {from end h : ℕ} (s : Sliding w index text from end h) where
-  -- the tail is there
-  pub slid_hit : (p : ℕ) → p + w ≡ end → Next w index text from p
-  slid_hit p e =
-      let l = s.low in
-      let h = s.high in
-      let q : end - w ≡ p = omega arith in
-      record { barren = rw q at s.barren; low = omega arith; fits = omega arith }
-
   -- or it is not, and so no name is at this place
   module _ {r : Bool} (e : r ≡ eqb (bit index h) 1) (n : r ≡ false) where
     here_barren : Barren w index text from (end + 1 - w)
@@ -67,28 +50,6 @@ module _ {w : ℕ} {index text : List ℕ} {from end h : ℕ} (s : Sliding w ind
         rw a
         (barren_join s.barren
         (barren_tail (end - w) f (rw (b, ← s.value) (eqb-false (bit index h) 1 (sym e ∙ n)))))
-
-    -- the next byte is no digit
-    pub slid_other : end < length text → is_digit (get_or text end 0) ≡ false → Further w index text from (end + 1)
-    slid_other g d =
-        let l = s.low in
-        let f = s.wide in
-        record {
-          barren = barren_join here_barren (barren_byte (end + 1 - w) end d (omega arith));
-          moves = omega arith;
-          inside = omega arith;
-        }
-
-    -- there is none
-    pub slid_end : end ≡ length text → Further w index text from (length text)
-    slid_end g =
-        let l = s.low in
-        let f = s.wide in
-        record {
-          barren = barren_join here_barren (barren_end (end + 1 - w) (length text) (omega arith));
-          moves = omega arith;
-          inside = omega arith;
-        }
 
     -- it is one
     pub slid_on : end < length text → Sliding w index text from (end + 1) ((8 * h + get_or text end 0) % tail_values)
@@ -103,10 +64,6 @@ module _ {w : ℕ} {index text : List ℕ} {from end h : ℕ} (s : Sliding w ind
           barren = here_barren;
         }
 
--- a name of fewer bytes than a tail: every place may hold one
-pub slid_short : {w : ℕ} {index text : List ℕ} {from : ℕ} → from + w ≤ length text → Next w index text from from
-slid_short {from = from} l = record { barren = barren_none from; low = omega arith; fits = l }
-
 -- ---- from window to window
 
 pub record Skipping (w : ℕ) (index text : List ℕ) (from at known : ℕ) : Type 0 where
@@ -114,9 +71,6 @@ pub record Skipping (w : ℕ) (index text : List ℕ) (from at known : ℕ) : Ty
   pub high : at ≤ length text
   pub sure : at ≤ known
   pub barren : Barren w index text from at
-
-pub skipping_start : {w : ℕ} {index text : List ℕ} {from known : ℕ} → from ≤ length text → from ≤ known → Skipping w index text from from known
-skipping_start {from = from} h k = record { low = omega arith; high = h; sure = k; barren = barren_none from }
 
 module _ {w : ℕ} {index text : List ℕ} {from at known : ℕ} (s : Skipping w index text from at known) where
   -- behind a byte that is no digit

@@ -8,13 +8,6 @@ pub tail_low : (bytes : List ℕ) (p : ℕ) → tail_at bytes p < tail_values
 unfolding tail_at
 tail_low bytes p = omega arith
 
--- from the bytes, one by one
-pub tail_of : (bytes : List ℕ) (p : ℕ) {a b c d e f g h : ℕ} → a ≡ get_or bytes p 0 → b ≡ get_or bytes (p + 1) 0 → c ≡ get_or bytes (p + 2) 0
-    → d ≡ get_or bytes (p + 3) 0 → e ≡ get_or bytes (p + 4) 0 → f ≡ get_or bytes (p + 5) 0 → g ≡ get_or bytes (p + 6) 0 → h ≡ get_or bytes (p + 7) 0
-    → (32768 * (64 * a + 8 * b + c) + 64 * (64 * d + 8 * e + f) + 8 * g + h) % tail_values ≡ tail_at bytes p
-unfolding tail_at
-tail_of bytes p ea eb ec ed ee ef eg eh = rw (ea, eb, ec, ed, ee, ef, eg, eh)
-
 -- one place further: the first byte goes, and the next one comes
 slid : (a b c d e f g h i : ℕ)
     → (8 * ((32768 * (64 * a + 8 * b + c) + 64 * (64 * d + 8 * e + f) + 8 * g + h) % tail_values) + i) % tail_values

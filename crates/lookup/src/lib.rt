@@ -11,7 +11,7 @@ ghost use Rattle.lookup.specs.Index.{nibble, tail_at, lead_of, Indexed, KeepsSet
 ghost use Rattle.lookup.specs.Places.{LastOther, Slides, NextPlace};
 ghost use Rattle.lookup.specs.Search.{Searchable, FoundIs};
 
-use names::{LentNames, WORK};
+use names::LentNames;
 use slices::bits;
 use std::cmp::Ordering;
 

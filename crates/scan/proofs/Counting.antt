@@ -52,9 +52,6 @@ pub record CountingTexts (N : Names) (T : Texts) (k start i : ℕ) : Type 0 wher
   pub right : ends_right start (drop i T.ends) (length T.bytes) ≡ true
   pub left : k + length (targets N (texts_from start (drop i T.ends) T.bytes)) ≡ length (to N T)
 
-pub texts_start : (N : Names) (T : Texts) → ends_right 0 T.ends (length T.bytes) ≡ true → CountingTexts N T 0 0 0
-texts_start N T h = record { few = omega arith; right = h; left = omega arith }
-
 -- a text lies within the bytes
 module _ (bytes ends : List ℕ) (start i : ℕ) (r : ends_right start (drop i ends) (length bytes) ≡ true) (h : i < length ends) where
   pub text_order : start ≤ get_or ends i 0

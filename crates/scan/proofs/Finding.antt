@@ -1,5 +1,5 @@
 -- A name in a text stands at a place that may hold one; so what the places passed and the search say is what the text mentions.
-use Rattle.std.proofs.Common.{◌≡◌, ℕ, ◌+◌, ◌*◌, ◌-◌, ◌≤◌, ◌<◌, List, [], ◌∷◌, ◌++◌, suc, length, get_or, take, drop, Some, None, refl, sym, ap, ◌∙◌, add-one, arith, length-take, length-drop, length-take-le}
+use Rattle.std.proofs.Common.{◌≡◌, ℕ, ◌+◌, ◌*◌, ◌-◌, ◌≤◌, ◌<◌, List, [], ◌∷◌, ◌++◌, suc, length, get_or, take, drop, Some, None, sym, ap, ◌∙◌, add-one, arith, length-take, length-drop}
 use mathlib.Core.Logic.{by_cases}
 use native.Mathlib.Decide.{dec_lt}
 use Rattle.names.specs.Names.{Names, count, window, name_at}
@@ -7,7 +7,7 @@ use Rattle.names.specs.Mentions.{named, mentions}
 use Rattle.names.proofs.Orders.{below_other}
 use Rattle.names.proofs.Mentions.{named_none, named_one, mentions_at, mentions_end, mentions_skip}
 use Rattle.lookup.specs.Places.{Candidate, Barren, Next}
-use Rattle.lookup.specs.Search.{Searchable, FoundIs}
+use Rattle.lookup.specs.Search.{FoundIs}
 use Rattle.lookup.proofs.Tails.{window_at, tail_same}
 use Rattle.lookup.proofs.Searching.{name_fits, name_long}
 use Rattle.scan.specs.Passing.{Ready, Is}
@@ -46,17 +46,6 @@ module _ {N : Names} {index : List ℕ} (r : Ready N index) where
   pub found_one : (bytes : List ℕ) (k : ℕ) → k < count N → bytes ≡ name_at N k → named N bytes ≡ get_or N.objects k 0 ∷ []
   found_one bytes k h e = named_one N bytes k h e (λ i g f. unique bytes i k g h f e)
 
-  -- what it asks
-  pub searchable : (text : List ℕ) (p : ℕ) → p + N.width ≤ length text → Searchable N index (take (p + N.width - p) (drop p text))
-  searchable text p h =
-      let s : p + N.width - p ≡ N.width = omega arith in
-      record {
-        long = r.long;
-        ascends = r.ascends;
-        index_long = r.indexed.long;
-        fits = rw s (length-take-le N.width (drop p text) (omega (arith, length-drop p text)));
-      }
-
 -- ---- the next mention
 
 -- the mentions from where the search began are those from where it stands
@@ -65,9 +54,6 @@ pub record Seeking (N : Names) (text : List ℕ) (from at sure : ℕ) : Type 0 w
   pub high : at ≤ length text
   pub known : at ≤ sure
   pub left : mentions N (drop from text) ≡ mentions N (drop at text)
-
-pub seeking_start : {N : Names} {text : List ℕ} {from sure : ℕ} → from ≤ length text → from ≤ sure → Seeking N text from from sure
-seeking_start h k = record { low = omega arith; high = h; known = k; left = refl }
 
 module _ {N : Names} {index : List ℕ} (r : Ready N index) {text : List ℕ} {from at sure : ℕ} (s : Seeking N text from at sure) where
   -- the same from a place on that nothing is before

@@ -3,7 +3,7 @@ use Rattle.std.proofs.Common.{◌≡◌, ℕ, ◌+◌, ◌≤◌, ◌<◌, true,
 use lib.ListN.{replicate-append-replicate}
 use lib.Seq.{set_split, drop-length}
 use Rattle.slices.specs.Put.{Put}
-use Rattle.slices.proofs.Written.{same_long, nothing, then, as_text}
+use Rattle.slices.proofs.Written.{same_long, then, as_text}
 use Rattle.names.specs.Names.{Names}
 use Rattle.names.specs.Mentions.{mentions, texts_from, sources, targets}
 use Rattle.names.specs.Call.{Texts, from, to, ends_right}
@@ -24,9 +24,6 @@ pub record PuttingText (owner top : ℕ) (all fs ts fs' ts' done left : List ℕ
   pub joined : done ++ left ≡ all
   pub sources : Put fs top (replicate (length done) owner) fs' next
   pub targets : Put ts top done ts' next
-
-pub text_begin : (owner : ℕ) {top : ℕ} (all : List ℕ) {fs ts : List ℕ} → top ≤ length fs → top ≤ length ts → PuttingText owner top all fs ts fs ts [] all top
-text_begin owner all a b = record { joined = refl; sources = nothing a; targets = nothing b }
 
 module _ {owner top : ℕ} {all fs ts fs' ts' done left later : List ℕ} {next o : ℕ} (c : PuttingText owner top all fs ts fs' ts' done left next)
     (e : left ≡ o ∷ later) (a : top + length all ≤ length fs) (b : length ts ≡ length fs) where
@@ -61,18 +58,6 @@ pub record PuttingTexts (N : Names) (T : Texts) (fs ts fs' ts' : List ℕ) (top 
   pub tjoined : tdone ++ targets N (texts_from start (drop i T.ends) T.bytes) ≡ to N T
   pub fput : Put fs 0 fdone fs' top
   pub tput : Put ts 0 tdone ts' top
-
-pub texts_begin : {N : Names} {T : Texts} (fs ts : List ℕ) → ends_right 0 T.ends (length T.bytes) ≡ true → PuttingTexts N T fs ts fs ts 0 0 0
-texts_begin fs ts h =
-    record {
-      right = h;
-      fdone = [];
-      tdone = [];
-      fjoined = refl;
-      tjoined = refl;
-      fput = nothing (omega arith);
-      tput = nothing (omega arith);
-    }
 
 module _ {N : Names} {T : Texts} {fs ts fs' ts' : List ℕ} {top start i : ℕ} (c : PuttingTexts N T fs ts fs' ts' top start i) (p : Puttable N T fs ts) where
   module _ (h : i < length T.ends) where
