@@ -97,9 +97,6 @@ module _ {L₀ : List ℕ} {S₀ : Bag} {x : ℕ} (ok : Addable L₀ S₀ x) {L 
   pub root_linked : HasLinks L root
   root_linked = omega (arith, a.long, linked ok root (omega (arith, a.holds root, root_there k L root)))
 
-  pub root_fits : root + 1 < 4294967296
-  root_fits = omega (arith, root_linked, a.long, ok.sound.few)
-
   -- what stands in slot k and behind it
   slots : (v : ℕ) → times v (contents_from k L (drop k S)) ≡ times v (slot_of k L (get_or S k None)) + times v (contents_from (suc k) L (drop (suc k) S))
   slots v = times_at v k L S (omega (arith, adding_low, a.slots_are))
@@ -153,7 +150,3 @@ module _ {L₀ : List ℕ} {S₀ : Bag} {x : ℕ} (ok : Addable L₀ S₀ x) {L 
     adding_end =
         becomes L₀ L (record { slots = set S k (Some root); size = S₀.size + 1 }) (λ (v : ℕ). hit v x + times v (contents L₀ S₀)) (length (contents L₀ S₀) + 1)
         (once ok) (linked ok) ok.sound.few a.long (simp length-set a.slots_are) end_holds end_sized (omega (arith, ok.sound.counted)) a.same
-
--- there is room for one more
-pub size_fits : {L₀ : List ℕ} {S₀ : Bag} {x : ℕ} → Addable L₀ S₀ x → S₀.size + 1 < 4294967296
-size_fits ok = omega (arith, ok.sound.counted, ok.room)

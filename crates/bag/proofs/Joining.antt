@@ -174,7 +174,3 @@ module _ {L₀ : List ℕ} {A₀ B₀ : Bag} (ok : Joinable L₀ A₀ B₀) wher
                 (omega (arith, ok.first.counted, ok.second.counted)) j.same;
             emptied = refl;
           }
-
--- the objects of both are few
-pub sizes_fit : {L₀ : List ℕ} {A₀ B₀ : Bag} → Joinable L₀ A₀ B₀ → A₀.size + B₀.size < 4294967296
-sizes_fit ok = omega (arith, ok.first.counted, ok.second.counted, ok.room)
