@@ -9,7 +9,9 @@ pub returns-then-graph_outside : goal.returns-then-graph_outside
 returns-then-graph_outside c = finds_4 (so c.graph_outside.ensures c.if-graph_outside.true)
 
 pub overflow_sub-offsets : goal.overflow_sub-offsets
-overflow_sub-offsets c = omega (arith, counts_low _ _ (so c.graph_outside.ensures c.if-graph_outside.false))
+overflow_sub-offsets c =
+    let low = counts_low (objects (graph c.args.offsets.now c.args.targets.now)) (length c.args.targets.now) (so c.graph_outside.ensures c.if-graph_outside.false) in
+    omega arith
 
 pub buffers_wrong-requires : goal.buffers_wrong-requires
 buffers_wrong-requires c = (counts_low _ _ (so c.graph_outside.ensures c.if-graph_outside.false)).1
