@@ -90,6 +90,7 @@ pub fn top_of(r: Block) -> Top
 }
 
 // Writes each worker's stretch out as the call leaves it.
+// Stays (3): once what `chunks_exact_mut` lends is given back, a proof knows its length alone, and not the words written.
 pub fn settle(setup: Setup, work: &mut [u32], regs: &[u32])
     requires { Settling setup.workers setup.stretch work.old regs.now }
     ensures { Settled setup.workers setup.stretch work.old regs.now work.new }
