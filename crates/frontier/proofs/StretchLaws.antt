@@ -4,8 +4,8 @@ use mathlib.Core.Bool.{Bool, true, false}
 use mathlib.Core.List.{List, [], ◌∷◌, ◌++◌, append_assoc, append-nil}
 use Prim.Native.Nat.{ℕ, suc, ◌+◌, ◌-◌, ◌*◌, ◌≤◌, ◌<◌}
 use native.Mathlib.Omega.{arith}
-use lib.ListN.{length, get_or, take, drop, replicate, length-drop, take-append-drop}
-use lib.Seq.{drop-cons, take-suc, drop_at}
+use lib.ListN.{length, get_or, take, drop, replicate, length-drop}
+use lib.Seq.{drop-cons, take-suc}
 use borrow.Author.Tests.{lt-ltb, le-ltb}
 use Rattle.laws.specs.Decides.{Decides}
 use Rattle.laws.specs.Every.{Every}
@@ -15,10 +15,8 @@ use Rattle.graph.specs.Graph.{Graph}
 use Rattle.machine.specs.Run.{Run, carried, pairs}
 use Rattle.machine.specs.Sound.{Within, Whole, WholeButLast, WholeInside}
 use Rattle.theorems.proofs.Runs.{whole_tail}
-use Rattle.worker.proofs.Pairs.{length_pairs}
 use Rattle.worker.specs.Registers.{status_given}
 use Rattle.saved.specs.Layout.{runs_in}
-use Rattle.frontier.specs.declared.runs.Runs.{Runs}
 use Rattle.frontier.specs.Runs.{run_of, RunIs, RunsSound, RunsCounted, runs_for, StretchSound, LoadIs}
 
 -- ---- runs before and behind others
@@ -212,48 +210,3 @@ module _ {G : Graph} {ms : List ℕ} {status batch : ℕ} {st : List ℕ} where
     pub idle_zeros : StretchSound G ms status batch st (runs_for status st) → st ≡ replicate (length st) 0
     unfolding pairs
     idle_zeros s = (subst (λ (l : List Run). StretchSound G ms status batch st l) (none_for status st h) s).words ∙ sym (whole_left st)
-
-  -- one that carries
-  module _ (h : status_given ≤ status) where
-    sound_all : StretchSound G ms status batch st (runs_for status st) → StretchSound G ms status batch st (runs_in st)
-    sound_all s = subst (λ (l : List Run). StretchSound G ms status batch st l) (runs_all status st h) s
-
-    pub sound_runs : StretchSound G ms status batch st (runs_for status st) → RunsSound G ms (runs_in st)
-    sound_runs s = let t = sound_all s in record { within = t.within; whole = t.whole }
-
-    module _ {found : Runs} (x : RunsCounted G ms st found) where
-      pub wrong_none : found.pairs ≡ 0 → StretchSound G ms status batch st (runs_for status st) → ⊥
-      wrong_none z s = omega (arith, (sound_all s).supplied h, x.number)
-
-      pub wrong_batch : found.carried < batch → StretchSound G ms status batch st (runs_for status st) → ⊥
-      wrong_batch z s = omega (arith, (sound_all s).batch_carried, x.total)
-
-      -- what stands behind the runs
-      pub stretch_zeros : StretchSound G ms status batch st (runs_for status st)
-          → drop (2 * found.pairs) st ≡ replicate (length (drop (2 * found.pairs) st)) 0
-      stretch_zeros s =
-          let long : length (pairs (runs_in st)) ≡ 2 * found.pairs = omega (arith, length_pairs (runs_in st), x.number) in
-          ap (drop (2 * found.pairs)) (sound_all s).words
-          ∙ drop_at (pairs (runs_in st)) (replicate (length st - length (pairs (runs_in st))) 0) (2 * found.pairs) long
-          ∙ ap (λ (k : ℕ). replicate {A = ℕ} k 0) (rw length-drop (omega (arith, long)))
-
-      pub stretch_right : (found.pairs ≡ 0 → ⊥) → batch ≤ found.carried
-          → drop (2 * found.pairs) st ≡ replicate (length (drop (2 * found.pairs) st)) 0 → LoadIs G ms status batch st found.carried
-      stretch_right n b d =
-          let all = runs_all status st h in
-          let long : length (pairs (runs_in st)) ≡ 2 * found.pairs = omega (arith, length_pairs (runs_in st), x.number) in
-          let zeros : drop (2 * found.pairs) st ≡ replicate (length st - length (pairs (runs_in st))) 0 =
-          d ∙ ap (λ (k : ℕ). replicate {A = ℕ} k 0) (rw length-drop (omega (arith, long))) in
-          record {
-            right =
-                subst (λ (l : List Run). StretchSound G ms status batch st l) (sym all)
-                record {
-                  within = x.right.within;
-                  whole = x.right.whole;
-                  words = sym (take-append-drop (2 * found.pairs) st) ∙ ap (λ (l : List ℕ). l ++ drop (2 * found.pairs) st) x.words ∙ ap (λ (l : List ℕ). pairs (runs_in st) ++ l) zeros;
-                  supplied = λ q. omega (arith, n, x.number);
-                  batch_carried = omega (arith, x.total);
-                };
-            total = x.total ∙ ap carried (sym all);
-            low = x.low;
-          }

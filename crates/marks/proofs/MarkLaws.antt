@@ -12,7 +12,7 @@ use lib.Dec.{eqb}
 use mir.Val.{bool_byte}
 use borrow.Author.Tests.{eqb-true}
 use lib.ListN.{length, get_or, take, drop, replicate, drop_of_length-le, length-replicate}
-use lib.Seq.{drop-cons, take-suc, take-length}
+use lib.Seq.{drop-cons, take-suc}
 use borrow.Author.Count.{below_more}
 use Rattle.laws.specs.Span.{span}
 use Rattle.laws.specs.Sum.{sum, hit}
@@ -31,7 +31,7 @@ use Rattle.graph.proofs.Scan.{below_all}
 use Rattle.machine.specs.Machine.{live}
 use Rattle.machine.specs.Sound.{Marked}
 use Rattle.marks.specs.declared.Window.{Window}
-use Rattle.marks.specs.Marks.{MarksCounted, MarksLow, StartsBelow, StartsThere, StartsCounted, distinct, PartMarked, AllMarked, RowEnd, GapEnd, PartsThere}
+use Rattle.marks.specs.Marks.{MarksCounted, MarksLow, StartsBelow, StartsThere, distinct, PartMarked, AllMarked, RowEnd, GapEnd, PartsThere}
 
 -- ---- `count_marks`: what is left makes up the whole
 
@@ -238,15 +238,6 @@ module _ {starts ms seen₀ : List ℕ} where
         cases : (b : Bool) → r ≡ b → StartsAt starts ms seen₀ seen' (distinct⁺ + k) (i + 1)
         cases true t = new_next t (ap (λ (n : ℕ). distinct⁺ + n) (e ∙ ap bool_byte t))
         cases false t = again_next t (omega (arith, e ∙ ap bool_byte t))
-
-  pub starts_end : {seen : List ℕ} {distinct⁺ i : ℕ} → StartsAt starts ms seen₀ seen distinct⁺ i → length starts ≤ i
-      → StartsCounted starts ms distinct⁺
-  starts_end {i = i} x h =
-      let all : i ≡ length starts = omega (arith, x.high) in
-      record {
-        right = λ k q. x.each k (omega arith);
-        distinct = x.number ∙ ap (distinct (length ms)) (ap (λ (k : ℕ). take k starts) all ∙ take-length starts);
-      }
 
 -- a set of zeros is empty
 pub zeros_for : {starts ms : List ℕ} (k : ℕ) → length ms ≤ word_bits * k → StartsBelow starts (length ms)

@@ -21,10 +21,10 @@ use Rattle.marks.specs.declared.Counted.{Counted}
 use Rattle.frontier.specs.declared.runs.Loads.{Loads}
 use Rattle.validate.specs.Checked.{Checked, Saves}
 use Rattle.tallies.specs.Counts.{TalliesThere, RangesLow, SumsLow, Agree}
-use Rattle.protocol.specs.Heads.{WorkersThere, HeadsSound, HeadsCounted}
+use Rattle.protocol.specs.Heads.{HeadsCounted}
 use Rattle.protocol.specs.Ring.{LinksSound}
-use Rattle.marks.specs.Marks.{MarksThere, MarksLow, MarksSound, StartsBelow, StartsMarked, StartsCounted, distinct}
-use Rattle.frontier.specs.Runs.{LoadsThere, LoadedAre, StretchesSound, TargetsSound}
+use Rattle.marks.specs.Marks.{MarksLow, MarksSound, StartsBelow, StartsMarked, StartsCounted, distinct}
+use Rattle.frontier.specs.Runs.{LoadedAre, StretchesSound, TargetsSound}
 use Rattle.validate.proofs.Rebuilt.{Words32}
 use Rattle.validate.proofs.Told.{marks_in}
 use Rattle.validate.proofs.Parts.{SumsAre, saves}
@@ -62,9 +62,6 @@ sums_of heads marks distinct loads =
     }
 
 module _ {G : Graph} {starts : List ℕ} {W : ℕ} {g : Setting} {w : List ℕ} (ch : Checked G starts W g w) where
-  pub workers_there : WorkersThere W w
-  workers_there = record { low = ch.accepted.workers_limit; long = omega (arith, ch.long) }
-
   pub tallies_there : TalliesThere W w
   tallies_there = record { low = ch.accepted.workers_limit; long = omega (arith, ch.long) }
 
@@ -82,14 +79,6 @@ module _ {G : Graph} {starts : List ℕ} {W : ℕ} {g : Setting} {w : List ℕ} 
     unfolding state_of
     long = ap length is ∙ (state_sized (objects G) W w ch.long).marks_length
 
-    pub marks_there : MarksThere G.offsets ms
-    marks_there =
-        record {
-          few = omega (arith, long, ch.objects_limit);
-          long = omega (arith, long, ch.accepted.some_object);
-          rises = λ v h. ch.accepted.formed.rises v (omega (arith, long));
-        }
-
     pub starts_below : StartsBelow starts (length ms)
     starts_below i h =
         let v = get_or starts i 0 in
@@ -97,19 +86,6 @@ module _ {G : Graph} {starts : List ℕ} {W : ℕ} {g : Setting} {w : List ℕ} 
 
     pub objects_low : length ms ≤ 65536
     objects_low = omega (arith, long, ch.objects_limit)
-
-    pub loads_there : HeadsSound W g.batch w → LoadsThere G ms W w
-    loads_there heads =
-        record {
-          formed = ch.accepted.formed;
-          some = ch.accepted.some_object;
-          objects_limit = ch.objects_limit;
-          references_limit = ch.references_limit;
-          marks_length = long;
-          workers_limit = ch.accepted.workers_limit;
-          long = ch.long;
-          batch_none = λ b h q. (heads b h).batch_none (omega arith);
-        }
 
     pub marks_wrong : ¬ MarksLow W ms → Saves G starts W g w → ⊥
     marks_wrong n r = n (rw is (marks_needed ch r))
