@@ -20,13 +20,12 @@ fn digits_of(v: u64) -> Digits
 {
     let mut bytes = [0u8; 20];
     let mut left = v;
-    for k in 0..20 {
-        let i = 19 - k;
+    for i in (0..20).rev() {
         bytes[i] = (48 + left % 10) as u8;
         if left < 10 {
             return Digits { bytes, from: i };
         }
-        left = left / 10;
+        left /= 10;
     }
     Digits { bytes, from: 0 }
 }
@@ -36,10 +35,9 @@ pub fn put(out: &mut [u8], at: usize, s: &[u8]) -> usize
     requires { at + length s.now ≤ length out.old }
     ensures { Put out.old at s.now out.new result }
 {
-    for i in 0..s.len() {
-        out[at + i] = s[i];
-    }
-    at + s.len()
+    let end = at + s.len();
+    out[at..end].copy_from_slice(s);
+    end
 }
 
 // Writes a number.
@@ -47,9 +45,7 @@ fn put_number(out: &mut [u8], at: usize, v: u64) -> usize
     requires { at + 20 ≤ length out.old }
     ensures { PutIn 20 out.old at (decimal v) out.new result }
 {
-    let d = digits_of(v);
-    let bytes = d.bytes;
-    let from = d.from;
+    let Digits { bytes, from } = digits_of(v);
     put(out, at, &bytes[from..])
 }
 
