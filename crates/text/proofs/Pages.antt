@@ -1,6 +1,6 @@
 -- One text behind another on a page, and the room that is left.
-use Rattle.std.proofs.Common.{◌≡◌, List, ◌++◌, ℕ, ◌+◌, ◌≤◌, ◌∙◌, arith}
-use Rattle.slices.proofs.Written.{then_in, room_left, as_text_in}
+use Rattle.std.proofs.Common.{◌≡◌, refl, List, [], ◌++◌, ℕ, ◌+◌, ◌≤◌, length, ◌∙◌, arith}
+use Rattle.slices.proofs.Written.{nothing, exactly, then_in, room_left, as_text_in}
 use Rattle.text.specs.declared.Page.{Page}
 use Rattle.text.specs.Pages.{Room, Wrote}
 
@@ -20,3 +20,7 @@ module _ {m : ℕ} {t : List ℕ} {before page : Page} (w : Wrote m t before pag
   -- the same text, written another way
   pub as_page : {u : List ℕ} → t ≡ u → Wrote m u before page
   as_page e = record { same_buffer = w.same_buffer; put = as_text_in e w.put }
+
+-- nothing written
+pub blank : (page : Page) → page.at ≤ length page.out.now → Wrote 0 [] page page
+blank page h = record { same_buffer = refl; put = exactly (nothing h) }
