@@ -11,7 +11,7 @@ use graph::LARGEST_SIZE;
 use records::{
     HEADER, HEADER_LENGTH, LEASE, LEASE_LENGTH, NOTHING, OBJECT, RECORD_LENGTH, REFERENCE,
 };
-use refusal::Verdict;
+use refusal::Checked;
 use slices::{word4, word8};
 
 // The most leases.
@@ -25,12 +25,10 @@ const REFERENCE_HEAD: u32 = 196620;
 const SUBJECT_HEAD: u32 = 327692;
 
 // The first fault of the whole catalogue.
-pub fn catalogue_fault(bytes: &[u8]) -> Verdict
+pub fn catalogue_fault(bytes: &[u8]) -> Checked
     ensures { number_of result ≡ catalogue_fault bytes.now }
 {
-    if let Verdict::Faulty(refusal) = record_fault(bytes, HEADER, 0) {
-        return Verdict::Faulty(refusal);
-    }
+    record_fault(bytes, HEADER, 0)?;
     let head = header_of(bytes);
     records_fault(bytes, head.n, head.m)
 }
@@ -45,7 +43,7 @@ pub fn leases_place(n: u32, m: u32) -> usize
 
 // The first fault after the header, where n objects and then m references are due, and then leases.
 // Most catalogues have none up to the leases, so a quick look comes first.
-fn records_fault(bytes: &[u8], n: u32, m: u32) -> Verdict
+fn records_fault(bytes: &[u8], n: u32, m: u32) -> Checked
     requires { (16 ≤ length bytes.now) × ((n ≤ most_objects) × (m ≤ most_references)) }
     ensures { number_of result ≡ faults n (dues n m) (drop 16 bytes.now) }
 {
@@ -126,7 +124,7 @@ fn references_right(bytes: &[u8], n: u32, end: usize) -> bool
 }
 
 // Record by record, to the first one with a fault.
-fn first_fault(bytes: &[u8], n: u32, m: u32) -> Verdict
+fn first_fault(bytes: &[u8], n: u32, m: u32) -> Checked
     requires { (16 ≤ length bytes.now) × ((n ≤ most_objects) × (m ≤ most_references)) }
     ensures { number_of result ≡ faults n (dues n m) (drop 16 bytes.now) }
 {
@@ -134,9 +132,7 @@ fn first_fault(bytes: &[u8], n: u32, m: u32) -> Verdict
     let mut i: u32 = 0;
     while i < n + m {
         let due = due_at(i, n);
-        if let Verdict::Faulty(refusal) = fault_at(bytes, at, due, n) {
-            return Verdict::Faulty(refusal);
-        }
+        fault_at(bytes, at, due, n)?;
         at += RECORD_LENGTH;
         i += 1;
     }
@@ -151,7 +147,7 @@ fn due_at(i: u32, n: u32) -> u16
 }
 
 // The leases, which go to the end of the bytes.
-fn leases_fault(bytes: &[u8], from: usize, n: u32) -> Verdict
+fn leases_fault(bytes: &[u8], from: usize, n: u32) -> Checked
     requires { from ≤ length bytes.now }
     ensures { number_of result ≡ lease_faults n most_leases (drop from bytes.now) }
 {
@@ -159,11 +155,9 @@ fn leases_fault(bytes: &[u8], from: usize, n: u32) -> Verdict
     let mut left = MOST_LEASES;
     while left > 0 {
         if at == bytes.len() {
-            return Verdict::Fine;
+            return Ok(());
         }
-        if let Verdict::Faulty(refusal) = fault_at(bytes, at, LEASE, n) {
-            return Verdict::Faulty(refusal);
-        }
+        fault_at(bytes, at, LEASE, n)?;
         at += LEASE_LENGTH;
         left -= 1;
     }
@@ -171,18 +165,18 @@ fn leases_fault(bytes: &[u8], from: usize, n: u32) -> Verdict
 }
 
 // What still stands behind the most leases.
-fn surplus_fault(bytes: &[u8], at: usize, n: u32) -> Verdict
+fn surplus_fault(bytes: &[u8], at: usize, n: u32) -> Checked
     requires { at ≤ length bytes.now }
     ensures { number_of result ≡ surplus_fault n (drop at bytes.now) }
 {
     if at == bytes.len() {
-        return Verdict::Fine;
+        return Ok(());
     }
     fault_at(bytes, at, NOTHING, n)
 }
 
 // The fault of the record at a place.
-fn fault_at(bytes: &[u8], at: usize, due: u16, n: u32) -> Verdict
+fn fault_at(bytes: &[u8], at: usize, due: u16, n: u32) -> Checked
     requires { at ≤ length bytes.now }
     ensures { number_of result ≡ record_fault due n (drop at bytes.now) }
 {

@@ -9,7 +9,7 @@ ghost use Rattle.catalogue.specs.Answer.{row, found_row, header_row, misfits, Re
 ghost use Rattle.catalogue.specs.Acceptance.{Acceptance};
 
 use records::HEADER;
-use refusal::{Refusal, Verdict};
+use refusal::{Checked, Refusal};
 
 // The words of the start buffer: the index and the most leases.
 pub const STARTS: usize = graph::MOST_STARTS;
@@ -67,8 +67,8 @@ pub fn header(bytes: &[u8]) -> Answer
     ensures { row result ≡ header_row bytes.now }
 {
     match faults::record_fault(bytes, HEADER, 0) {
-        Verdict::Faulty(refusal) => Answer::Refused(refusal),
-        Verdict::Fine => {
+        Err(refusal) => Answer::Refused(refusal),
+        Ok(()) => {
             let head = faults::header_of(bytes);
             Answer::Read {
                 n: head.n,
@@ -109,7 +109,7 @@ pub fn read(
     ensures acceptance { Acceptance bytes.now (found_row result)
         offsets.new targets.new sizes.new starts.new }
 {
-    if let Verdict::Faulty(refusal) = check::catalogue_fault(bytes) {
+    if let Err(refusal) = check::catalogue_fault(bytes) {
         return Found::Refused(refusal);
     }
     let head = faults::header_of(bytes);
