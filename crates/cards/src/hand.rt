@@ -1,6 +1,6 @@
 // The schedule of a hand: its length, and its rounds, copied out of those of all cards or made worker
 // by worker.
-ghost use Rattle.std.specs.Prelude.{◌≡◌, ℕ, ◌/◌, ◌≤◌, length, eqb, ⊤};
+ghost use Rattle.std.specs.Prelude.{◌≡◌, ℕ, ◌/◌, ◌≤◌, length, eqb};
 ghost use Rattle.hands.specs.Deck.{card_workers};
 ghost use Rattle.hands.specs.Hand.{turns_of, bytes_of};
 ghost use Rattle.seats.specs.Rounding.{Roomy, Rounded, Dealing};
@@ -51,7 +51,7 @@ pub struct ByDigits {
 impl Rounds for ByDigits {
     ghost workers = { λ s. s.workers };
 
-    ghost right = { λ s. ⊤ };
+    ghost right = { λ s. Unit {0} };
 
     fn put_round(&self, card: u32, schedule: &mut [u8], at: usize) -> usize {
         seats::put_round(table::all()[card as usize], self.workers, schedule, at)

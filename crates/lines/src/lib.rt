@@ -1,7 +1,7 @@
 // The lines that the program prints, each written to a page behind what it has.
 #![tactic(auto)]
 
-ghost use Rattle.std.specs.Prelude.{◌≡◌, ◌+◌, ◌*◌, ◌/◌, ◌≤◌, ◌<◌, ◌++◌, length};
+ghost use Rattle.std.specs.Prelude.{◌+◌, ◌/◌, ◌++◌, length};
 ghost use Rattle.text.specs.Pages.{Room, Wrote};
 ghost use Rattle.lines.specs.Rooms.{counts_room, tally_room, dead_room};
 ghost use Rattle.lines.specs.Lines.{refusal_line, state_line, found_lines, worker_lines, count_lines};

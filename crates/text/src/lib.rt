@@ -1,7 +1,7 @@
 // Lines of text in a lent buffer: words, decimal numbers, line ends.
 #![tactic(auto)]
 
-ghost use Rattle.std.specs.Prelude.{◌≡◌, ◌+◌, ◌≤◌, ◌++◌, length};
+ghost use Rattle.std.specs.Prelude.{◌+◌, ◌≤◌, ◌++◌, length};
 ghost use Rattle.slices.specs.Put.{Put};
 ghost use Rattle.text.specs.Pages.{Room, Wrote};
 ghost use Rattle.text.specs.Text.{Aligned, decimal, spaced, line};
