@@ -42,6 +42,7 @@ pub fn put(out: &mut [u8], at: usize, s: &[u8]) -> usize
 
 // A lent buffer, and how many of its bytes are written. Each method writes behind these, and leaves
 // every other byte as it is.
+#[derive(Drop)]
 pub struct Page<'a> {
     pub out: &'a mut [u8],
     pub at: usize,
