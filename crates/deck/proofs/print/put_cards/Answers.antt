@@ -1,4 +1,4 @@
-use Rattle.std.proofs.Common.{◌≡◌, ◌*◌, suc, ap, length, take_all, add-one, arith}
+use Rattle.std.proofs.Common.{◌≡◌, ◌*◌, suc, ap, take_all, add-one, arith}
 use Rattle.laws.specs.Blocks.{laid}
 use Rattle.text.proofs.Pages.{blank, then, as_page}
 use Rattle.hands.specs.Deck.{deck}
@@ -24,4 +24,4 @@ pub returns : goal.returns
 unfolding deck_text
 returns c =
     let e : c.loop-n.n-index ≡ 720 = omega arith in
-    as_page (ap (laid card_line) (take_all 720 deck (omega (arith, deck_long)))) (rw e at c.loop-n.invariant)
+    as_page (rw e at c.loop-n.invariant) (ap (laid card_line) (take_all 720 deck (omega (arith, deck_long))))
