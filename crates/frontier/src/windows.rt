@@ -35,10 +35,8 @@ fn carry_runs(carried: &mut [u32], base: u32, end: u32, stretch: &[u32]) -> bool
     requires { (end ≤ base + word_bits * length carried.old) × (length stretch.now ≤ stretch_length most_objects) }
     ensures { RunsCarried base end carried.old stretch.now result carried.new }
 {
-    let pairs = stretch.len() / 2;
-    for i in 0..pairs {
-        let from = stretch[2 * i];
-        let to = stretch[2 * i + 1];
+    let (pairs, _) = stretch.as_chunks::<2>();
+    for &[from, to] in pairs {
         if to <= from {
             return true;
         }
