@@ -4,12 +4,11 @@
 
 mod filling;
 
-ghost use Rattle.std.specs.Prelude.{◌≡◌, ◌≤◌, length};
-ghost use Rattle.graph.specs.Limits.{most_objects};
+ghost use Rattle.std.specs.Prelude.{◌≡◌, length};
 ghost use Rattle.refusal.specs.Number.{number_of};
 ghost use Rattle.catalogue.specs.Answer.{row};
 ghost use Rattle.desk.specs.Length.{length_row};
-ghost use Rattle.matrix.specs.Import.{misfits, head_row, Imports};
+ghost use Rattle.matrix.specs.Import.{head_row, Imports};
 ghost use Rattle.matrix.specs.Promise.{Accepts, Returns};
 ghost use Rattle.matrix.specs.Export.{length_for, export_fault, bytes_after};
 
@@ -17,28 +16,13 @@ use catalogue::Answer;
 use desk::Length;
 use refusal::{Refusal, Verdict};
 
-// Check 7 of what is lent to import.
-fn buffers_wrong(n: u64, m: u64, offsets: usize, targets: usize, sizes: usize) -> bool
-    requires { n ≤ most_objects }
-    ensures { result ≡ misfits n m offsets targets sizes }
-{
-    if offsets as u64 != n + 1 {
-        return true;
-    }
-    if targets as u64 != m {
-        return true;
-    }
-    sizes as u64 != n
-}
-
 // The counts of a text, from what stands before its pairs.
 pub fn market_header(text: &[u8]) -> Answer
     ensures { row result ≡ head_row text.now }
 {
-    let head = parse::head_of(text);
-    if !head.good {
+    let Some(head) = parse::head_of(text) else {
         return Answer::Refused(Refusal::Text);
-    }
+    };
     if checks::counts_outside(head.rows as usize, head.entries as usize) {
         return Answer::Refused(Refusal::Count);
     }
@@ -55,28 +39,25 @@ pub fn import(text: &[u8], offsets: &mut [u32], targets: &mut [u32], sizes: &mut
         offsets.new targets.new sizes.new }
     ensures accepts { Accepts text.now (row result) }
 {
-    let head = parse::head_of(text);
-    if !head.good {
+    let Some(head) = parse::head_of(text) else {
         return Answer::Refused(Refusal::Text);
-    }
-    let n = head.rows;
-    let m = head.entries;
-    let at = head.next;
-    let body = parse::body_at(text, at, n, m);
-    if !body.good {
+    };
+    let n = head.rows as usize;
+    let m = head.entries as usize;
+    let Some(fits) = parse::body_at(text, head.next, head.rows, head.entries) else {
         return Answer::Refused(Refusal::Text);
-    }
-    if checks::counts_outside(n as usize, m as usize) {
+    };
+    if checks::counts_outside(n, m) {
         return Answer::Refused(Refusal::Count);
     }
-    if !body.fits {
+    if !fits {
         return Answer::Refused(Refusal::Object);
     }
-    if buffers_wrong(n, m, offsets.len(), targets.len(), sizes.len()) {
+    if offsets.len() != n + 1 || targets.len() != m || sizes.len() != n {
         return Answer::Refused(Refusal::Buffer);
     }
-    filling::fill_graph(text, at, n as u32, offsets, targets);
-    filling::clear_sizes(sizes);
+    filling::fill_graph(text, head.next, n as u32, offsets, targets);
+    sizes.fill(0);
     Answer::Read {
         n: n as u32,
         m: m as u32,
