@@ -2,11 +2,13 @@
 use mathlib.Core.Path.{◌≡◌, refl, ap, sym, ◌∙◌}
 use mathlib.Core.List.{List}
 use mathlib.Core.Logic.{by_cases, ◌⊎◌, inl, inr, ⊎_elim}
+use mathlib.Core.Bool.{Bool, true, ◌||◌}
 use Prim.Native.Nat.{ℕ, zero, suc, ◌+◌, ◌*◌, ◌-◌, ◌≤◌, ◌<◌}
 use native.Mathlib.Numerals.{add-one}
 use native.Mathlib.Decide.{dec_lt, ℕ_discrete}
 use native.Mathlib.Omega.{arith}
-use borrow.Author.Tests.{lt-ltb, le-ltb}
+use borrow.Author.Tests.{lt-ltb, le-ltb, ne_eqb, eqb-true}
+use lib.Dec.{eqb}
 use lib.ListN.{length, drop, get_or, replicate, length-append, length-drop, length-replicate, get_or-replicate, get_or-append, drop_of_length-le}
 use lib.Seq.{drop-drop, drop-cons, get_or-append-add}
 use Rattle.laws.specs.Words.{word, Bytes}
@@ -137,22 +139,23 @@ module _ (n i : ℕ) (b : List ℕ) (h : Bytes b) (l : 16 + 12 * i + 12 ≤ leng
         ends = record { from_below = rw drop-drop f; to_below = rw drop-drop t };
       }))
 
--- from one number up to another, where i is the next: while the flags, summed, are 0 nothing was wrong
-pub record Looking (n from to : ℕ) (b : List ℕ) (wrong i : ℕ) : Type 0 where
+-- the head of a reference or of a subject
+pub link_head : (x : ℕ) → (eqb x 196620 || eqb x 327692) ≡ true → (x ≡ 196620) ⊎ (x ≡ 327692)
+link_head x e =
+    by_cases (ℕ_discrete x 196620) (λ h. inl h)
+    (λ h. let n = rw (ne_eqb x 196620 h) at e in inr (eqb-true x 327692 n))
+
+-- from one number up to another, where i is the next: as long as all tests were passed no record has a fault
+pub record Looking (n from to : ℕ) (b : List ℕ) (right : Bool) (i : ℕ) : Type 0 where
   pub begun : from ≤ i
   pub within : i ≤ to
-  pub clear : wrong ≡ 0 → Clear n from i b
+  pub clear : right ≡ true → Clear n from i b
 
-pub looking_none : (n from to : ℕ) (b : List ℕ) → from ≤ to → Looking n from to b 0 from
+pub looking_none : (n from to : ℕ) (b : List ℕ) → from ≤ to → Looking n from to b true from
 looking_none n from to b h = record { begun = omega arith; within = h; clear = λ e k g p. absurd (omega arith) }
 
--- a test that sets a flag, where the flag is not set: the test was passed, and the flag was not set before
-pub passed : {T L : Type 0} {before after : ℕ} → T ⊎ L → (T → after ≡ 1) → (L → after ≡ before) → after ≡ 0 → L × (before ≡ 0)
-passed (inl w) set kept e = absurd (omega (arith, set w))
-passed (inr w) set kept e = (w, sym (kept w) ∙ e)
-
-module _ {n from to : ℕ} {b : List ℕ} {wrong i : ℕ} (a : Looking n from to b wrong i) where
-  pub looking_next : i < to → {after : ℕ} → (after ≡ 0 → (wrong ≡ 0) × (record_fault (due_at n i) n (drop (16 + 12 * i) b) ≡ 0))
+module _ {n from to : ℕ} {b : List ℕ} {right : Bool} {i : ℕ} (a : Looking n from to b right i) where
+  pub looking_next : i < to → {after : Bool} → (after ≡ true → (right ≡ true) × (record_fault (due_at n i) n (drop (16 + 12 * i) b) ≡ 0))
       → Looking n from to b after (i + 1)
   looking_next h f =
       record {
@@ -162,7 +165,7 @@ module _ {n from to : ℕ} {b : List ℕ} {wrong i : ℕ} (a : Looking n from to
             by_cases (ℕ_discrete k i) (λ (q : k ≡ i). rw q (f e).1) (λ q. a.clear (f e).0 k g (omega (arith, q)));
       }
 
-  pub looking_end : to ≤ i → wrong ≡ 0 → Clear n from to b
+  pub looking_end : to ≤ i → right ≡ true → Clear n from to b
   looking_end h e k g p = a.clear e k g (omega arith)
 
 -- all of them

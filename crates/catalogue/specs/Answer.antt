@@ -1,10 +1,9 @@
 -- SPECIFICATION 1 and 2: the answers of the header call and of the reader, and the buffers afterwards.
-use Rattle.std.specs.Prelude.{List, Bool, true, false, not, ◌||◌, ℕ, zero, suc, ◌+◌, ◌≡◌, length, eqb}
+use Rattle.std.specs.Prelude.{List, Bool, true, false, not, ◌||◌, ℕ, zero, suc, ◌+◌, ◌≡◌, length, eqb, Result, Ok, Err}
 use Rattle.refusal.specs.Number.{number}
-use Rattle.catalogue.specs.declared.Answer.{Answer}
-use Rattle.catalogue.specs.declared.Answer.TheVariants.{Read, Refused}
+use Rattle.refusal.specs.declared.Refusal.{Refusal}
+use Rattle.faults.specs.declared.Header.{Header}
 use Rattle.catalogue.specs.declared.Found.{Found}
-use Rattle.catalogue.specs.declared.Found.TheVariants.{Read as found_read, Refused as found_refused}
 use Rattle.records.specs.Store.{Store, objects, references, offsets_of, targets_of, starts_of, start_words, padded}
 use Rattle.records.specs.Layout.{header}
 use Rattle.records.specs.Reading.{Reading, refused, accepted, reading, record_fault, n_field, m_field, index_field}
@@ -21,9 +20,9 @@ abbrev pub refusal_row : ℕ → Row
 refusal_row k = record { refusal = k; n = 0; m = 0; index = 0 }
 
 -- the number and the values of each answer
-abbrev pub row : Answer → Row
-row (Read n m index) = record { refusal = 0; n = n; m = m; index = index }
-row (Refused r) = refusal_row (number r)
+abbrev pub row : Result Header Refusal → Row
+row (Ok h) = record { refusal = 0; n = h.n; m = h.m; index = h.index }
+row (Err r) = refusal_row (number r)
 
 -- what a header says, by the number of its fault
 abbrev pub header_values : ℕ → List ℕ → Row
@@ -47,9 +46,9 @@ abbrev pub unread : ℕ → ReadRow
 unread k = record { refusal = k; n = 0; m = 0; index = 0; starts = 0 }
 
 -- the number and the values of each answer of the reader
-abbrev pub found_row : Found → ReadRow
-found_row (found_read n m index starts) = record { refusal = 0; n = n; m = m; index = index; starts = starts }
-found_row (found_refused r) = unread (number r)
+abbrev pub found_row : Result Found Refusal → ReadRow
+found_row (Ok f) = record { refusal = 0; n = f.n; m = f.m; index = f.index; starts = f.starts }
+found_row (Err r) = unread (number r)
 
 -- lengths are exact: n + 1 offsets, m targets, n sizes, and the words of the starts
 abbrev pub misfits : ℕ → ℕ → ℕ → ℕ → ℕ → ℕ → Bool

@@ -1,6 +1,7 @@
 // The checks of the whole catalogue, record by record.
-ghost use Rattle.std.specs.Prelude.{◌≡◌, true, ◌+◌, ◌*◌, ◌≤◌, length, drop};
+ghost use Rattle.std.specs.Prelude.{◌≡◌, true, ◌||◌, ◌+◌, ◌*◌, ◌≤◌, length, drop, eqb};
 ghost use Rattle.records.specs.Reading.{due_at, dues, leases_at, record_fault, surplus_fault, lease_faults, faults, Clear, catalogue_fault};
+ghost use Rattle.records.specs.Kinds.{kind_number, due_number};
 ghost use Rattle.records.specs.Store.{most_leases};
 ghost use Rattle.refusal.specs.Number.{number_of};
 ghost use Rattle.graph.specs.Limits.{most_objects, most_references};
@@ -8,10 +9,8 @@ ghost use Rattle.records.specs.Fill.{Listed};
 
 use faults::{header_of, record_fault};
 use graph::LARGEST_SIZE;
-use records::{
-    HEADER, HEADER_LENGTH, LEASE, LEASE_LENGTH, NOTHING, OBJECT, RECORD_LENGTH, REFERENCE,
-};
-use refusal::Verdict;
+use records::{HEADER_LENGTH, Kind, LEASE_LENGTH, RECORD_LENGTH};
+use refusal::Checked;
 use slices::{word4, word8};
 
 // The most leases.
@@ -25,12 +24,10 @@ const REFERENCE_HEAD: u32 = 196620;
 const SUBJECT_HEAD: u32 = 327692;
 
 // The first fault of the whole catalogue.
-pub fn catalogue_fault(bytes: &[u8]) -> Verdict
+pub fn catalogue_fault(bytes: &[u8]) -> Checked
     ensures { number_of result ≡ catalogue_fault bytes.now }
 {
-    if let Verdict::Faulty(refusal) = record_fault(bytes, HEADER, 0) {
-        return Verdict::Faulty(refusal);
-    }
+    record_fault(bytes, Some(Kind::Header), 0)?;
     let head = header_of(bytes);
     records_fault(bytes, head.n, head.m)
 }
@@ -45,7 +42,7 @@ pub fn leases_place(n: u32, m: u32) -> usize
 
 // The first fault after the header, where n objects and then m references are due, and then leases.
 // Most catalogues have none up to the leases, so a quick look comes first.
-fn records_fault(bytes: &[u8], n: u32, m: u32) -> Verdict
+fn records_fault(bytes: &[u8], n: u32, m: u32) -> Checked
     requires { (16 ≤ length bytes.now) × ((n ≤ most_objects) × (m ≤ most_references)) }
     ensures { number_of result ≡ faults n (dues n m) (drop 16 bytes.now) }
 {
@@ -76,21 +73,14 @@ fn objects_right(bytes: &[u8], n: usize) -> bool
     requires { 16 + 12 * n ≤ length bytes.now }
     ensures { result ≡ true → Clear n 0 n bytes.now }
 {
-    let mut misfits: u32 = 0;
-    let mut oversized: u32 = 0;
+    let mut headed = true;
+    let mut small = true;
     for i in 0..n {
         let at = HEADER_LENGTH + RECORD_LENGTH * i;
-        if word4(bytes, at) != OBJECT_HEAD {
-            misfits = 1;
-        }
-        if word8(bytes, at + 4) > LARGEST_SIZE {
-            oversized = 1;
-        }
+        headed &= word4(bytes, at) == OBJECT_HEAD;
+        small &= word8(bytes, at + 4) <= LARGEST_SIZE;
     }
-    if misfits != 0 {
-        return false;
-    }
-    oversized == 0
+    headed && small
 }
 
 // The references and subjects, up to the record with the number `end`, in the same way.
@@ -98,93 +88,76 @@ fn references_right(bytes: &[u8], n: u32, end: usize) -> bool
     requires { (n ≤ end) × (16 + 12 * end ≤ length bytes.now) }
     ensures { result ≡ true → Clear n n end bytes.now }
 {
-    let mut misfits: u32 = 0;
-    let mut from_above: u32 = 0;
-    let mut to_above: u32 = 0;
+    let mut headed = true;
+    let mut from_below = true;
+    let mut to_below = true;
     for i in n as usize..end {
         let at = HEADER_LENGTH + RECORD_LENGTH * i;
-        let head = word4(bytes, at);
-        if head != REFERENCE_HEAD {
-            if head != SUBJECT_HEAD {
-                misfits = 1;
-            }
-        }
-        if word4(bytes, at + 4) >= n {
-            from_above = 1;
-        }
-        if word4(bytes, at + 8) >= n {
-            to_above = 1;
-        }
+        headed &= is_link(word4(bytes, at));
+        from_below &= word4(bytes, at + 4) < n;
+        to_below &= word4(bytes, at + 8) < n;
     }
-    if misfits != 0 {
-        return false;
-    }
-    if from_above != 0 {
-        return false;
-    }
-    to_above == 0
+    headed && from_below && to_below
+}
+
+// Whether a record that begins so is a reference or a subject.
+fn is_link(head: u32) -> bool
+    ensures { result ≡ (eqb head 196620 || eqb head 327692) }
+{
+    (head == REFERENCE_HEAD) | (head == SUBJECT_HEAD)
 }
 
 // Record by record, to the first one with a fault.
-fn first_fault(bytes: &[u8], n: u32, m: u32) -> Verdict
+fn first_fault(bytes: &[u8], n: u32, m: u32) -> Checked
     requires { (16 ≤ length bytes.now) × ((n ≤ most_objects) × (m ≤ most_references)) }
     ensures { number_of result ≡ faults n (dues n m) (drop 16 bytes.now) }
 {
     let mut at = HEADER_LENGTH;
-    let mut i: u32 = 0;
-    while i < n + m {
-        let due = due_at(i, n);
-        if let Verdict::Faulty(refusal) = fault_at(bytes, at, due, n) {
-            return Verdict::Faulty(refusal);
-        }
+    for i in 0..n + m {
+        fault_at(bytes, at, Some(due_at(i, n)), n)?;
         at += RECORD_LENGTH;
-        i += 1;
     }
     leases_fault(bytes, at, n)
 }
 
 // The kind of the record after the header with this number.
-fn due_at(i: u32, n: u32) -> u16
-    ensures { result ≡ due_at n i }
+fn due_at(i: u32, n: u32) -> Kind
+    ensures { kind_number result ≡ due_at n i }
 {
-    if i < n { OBJECT } else { REFERENCE }
+    if i < n { Kind::Object } else { Kind::Reference }
 }
 
 // The leases, which go to the end of the bytes.
-fn leases_fault(bytes: &[u8], from: usize, n: u32) -> Verdict
+fn leases_fault(bytes: &[u8], from: usize, n: u32) -> Checked
     requires { from ≤ length bytes.now }
     ensures { number_of result ≡ lease_faults n most_leases (drop from bytes.now) }
 {
     let mut at = from;
-    let mut left = MOST_LEASES;
-    while left > 0 {
+    for k in 0..MOST_LEASES {
         if at == bytes.len() {
-            return Verdict::Fine;
+            return Ok(());
         }
-        if let Verdict::Faulty(refusal) = fault_at(bytes, at, LEASE, n) {
-            return Verdict::Faulty(refusal);
-        }
+        fault_at(bytes, at, Some(Kind::Lease), n)?;
         at += LEASE_LENGTH;
-        left -= 1;
     }
     surplus_fault(bytes, at, n)
 }
 
 // What still stands behind the most leases.
-fn surplus_fault(bytes: &[u8], at: usize, n: u32) -> Verdict
+fn surplus_fault(bytes: &[u8], at: usize, n: u32) -> Checked
     requires { at ≤ length bytes.now }
     ensures { number_of result ≡ surplus_fault n (drop at bytes.now) }
 {
     if at == bytes.len() {
-        return Verdict::Fine;
+        return Ok(());
     }
-    fault_at(bytes, at, NOTHING, n)
+    fault_at(bytes, at, None, n)
 }
 
 // The fault of the record at a place.
-fn fault_at(bytes: &[u8], at: usize, due: u16, n: u32) -> Verdict
+fn fault_at(bytes: &[u8], at: usize, due: Option<Kind>, n: u32) -> Checked
     requires { at ≤ length bytes.now }
-    ensures { number_of result ≡ record_fault due n (drop at bytes.now) }
+    ensures { number_of result ≡ record_fault (due_number due) n (drop at bytes.now) }
 {
     record_fault(&bytes[at..], due, n)
 }

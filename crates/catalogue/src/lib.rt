@@ -8,75 +8,28 @@ ghost use Rattle.graph.specs.Limits.{most_objects};
 ghost use Rattle.catalogue.specs.Answer.{row, found_row, header_row, misfits, Reads};
 ghost use Rattle.catalogue.specs.Acceptance.{Acceptance};
 
-use records::HEADER;
-use refusal::{Refusal, Verdict};
+pub use faults::Header;
+use records::Kind;
+use refusal::Refusal;
 
 // The words of the start buffer: the index and the most leases.
 pub const STARTS: usize = graph::MOST_STARTS;
 
-// What `header` answers: n, m and the index, or why it refuses.
-#[derive(Clone, Copy)]
-pub enum Answer {
-    Read { n: u32, m: u32, index: u32 },
-    Refused(Refusal),
-}
-
-// What `read` answers: the same, and how many starts there are.
-#[derive(Clone, Copy)]
-pub enum Found {
-    Read {
-        n: u32,
-        m: u32,
-        index: u32,
-        starts: u32,
-    },
-    Refused(Refusal),
-}
-
-// The number of a refusal, 0 where the header was read.
-pub fn refusal_of(answer: Answer) -> u8
-    ensures { result ≡ (row answer).refusal }
-{
-    match answer {
-        Answer::Read {
-            n: _,
-            m: _,
-            index: _,
-        } => 0,
-        Answer::Refused(refusal) => refusal::number_of(refusal),
-    }
-}
-
-// The same of `read`, 0 where the catalogue was read.
-pub fn fault_of(found: Found) -> u8
-    ensures { result ≡ (found_row found).refusal }
-{
-    match found {
-        Found::Read {
-            n: _,
-            m: _,
-            index: _,
-            starts: _,
-        } => 0,
-        Found::Refused(refusal) => refusal::number_of(refusal),
-    }
+// What `read` answers: what the header says, and how many starts there are.
+#[derive(Clone, Copy, Debug, PartialEq, Eq)]
+pub struct Found {
+    pub n: u32,
+    pub m: u32,
+    pub index: u32,
+    pub starts: u32,
 }
 
 // Reads only the header record.
-pub fn header(bytes: &[u8]) -> Answer
+pub fn header(bytes: &[u8]) -> Result<Header, Refusal>
     ensures { row result ≡ header_row bytes.now }
 {
-    match faults::record_fault(bytes, HEADER, 0) {
-        Verdict::Faulty(refusal) => Answer::Refused(refusal),
-        Verdict::Fine => {
-            let head = faults::header_of(bytes);
-            Answer::Read {
-                n: head.n,
-                m: head.m,
-                index: head.index,
-            }
-        }
-    }
+    faults::record_fault(bytes, Some(Kind::Header), 0)?;
+    Ok(faults::header_of(bytes))
 }
 
 // Whether a lent length is not exactly the catalogue's.
@@ -84,16 +37,7 @@ fn lent_wrong(n: u32, m: u32, offsets: usize, targets: usize, sizes: usize, star
     requires { n ≤ most_objects }
     ensures { result ≡ misfits n m offsets targets sizes starts }
 {
-    if offsets != n as usize + 1 {
-        return true;
-    }
-    if targets != m as usize {
-        return true;
-    }
-    if sizes != n as usize {
-        return true;
-    }
-    starts != STARTS
+    offsets != n as usize + 1 || targets != m as usize || sizes != n as usize || starts != STARTS
 }
 
 // Checks the whole catalogue, then the lent lengths, and then fills the buffers.
@@ -103,19 +47,14 @@ pub fn read(
     targets: &mut [u32],
     sizes: &mut [u64],
     starts: &mut [u32],
-) -> Found
+) -> Result<Found, Refusal>
     ensures reads { Reads bytes.now offsets.old targets.old sizes.old starts.old (found_row result)
         offsets.new targets.new sizes.new starts.new }
     ensures acceptance { Acceptance bytes.now (found_row result)
         offsets.new targets.new sizes.new starts.new }
 {
-    if let Verdict::Faulty(refusal) = check::catalogue_fault(bytes) {
-        return Found::Refused(refusal);
-    }
-    let head = faults::header_of(bytes);
-    let n = head.n;
-    let m = head.m;
-    let index = head.index;
+    check::catalogue_fault(bytes)?;
+    let Header { n, m, index } = faults::header_of(bytes);
     if lent_wrong(
         n,
         m,
@@ -124,15 +63,15 @@ pub fn read(
         sizes.len(),
         starts.len(),
     ) {
-        return Found::Refused(Refusal::Buffer);
+        return Err(Refusal::Buffer);
     }
     fill::fill_sizes(bytes, sizes);
     fill::fill_graph(bytes, n, offsets, targets);
-    let count = fill::fill_starts(bytes, check::leases_place(n, m), index, starts);
-    Found::Read {
+    let starts = fill::fill_starts(bytes, check::leases_place(n, m), index, starts);
+    Ok(Found {
         n,
         m,
         index,
-        starts: count,
-    }
+        starts,
+    })
 }

@@ -8,17 +8,14 @@ ghost use Rattle.refusal.specs.Number.{number_of};
 ghost use Rattle.desk.specs.Limits.{most_workers};
 ghost use Rattle.desk.specs.Checks.{outside, settings_outside, counts_outside, saved_wrong, lengths_wrong, graph_faults, store_fault, schedule_fits};
 
-use desk::{Lengths, MOST_SETTING, MOST_WORKERS, SavedWords, Settings, places};
-use refusal::{Refusal, Verdict};
+use desk::{Lengths, MOST_SETTING, MOST_WORKERS, Settings, places};
+use refusal::{Checked, Refusal};
 
 // Whether a number is not 1 to the largest.
 pub fn out_of_range(x: usize, most: usize) -> bool
     ensures { result ≡ outside most x }
 {
-    if x < 1 {
-        return true;
-    }
-    most < x
+    x < 1 || most < x
 }
 
 // Check 8 of W alone.
@@ -32,13 +29,9 @@ pub fn workers_outside(workers: u32) -> bool
 pub fn settings_outside(s: Settings) -> bool
     ensures { result ≡ settings_outside s.workers s.batch s.cutoff }
 {
-    if workers_outside(s.workers) {
-        return true;
-    }
-    if out_of_range(s.batch as usize, MOST_SETTING as usize) {
-        return true;
-    }
-    out_of_range(s.cutoff as usize, MOST_SETTING as usize)
+    workers_outside(s.workers)
+        || out_of_range(s.batch as usize, MOST_SETTING as usize)
+        || out_of_range(s.cutoff as usize, MOST_SETTING as usize)
 }
 
 // Check 4 of n alone.
@@ -52,30 +45,24 @@ pub fn objects_outside(objects: u32) -> bool
 pub fn counts_outside(n: usize, m: usize) -> bool
     ensures { result ≡ counts_outside n m }
 {
-    if out_of_range(n, graph::MOST_OBJECTS) {
-        return true;
-    }
-    graph::MOST_REFERENCES < m
+    out_of_range(n, graph::MOST_OBJECTS) || graph::MOST_REFERENCES < m
 }
 
 // Check 4, from the number of offsets and of targets.
 pub fn graph_outside(offsets: usize, targets: usize) -> bool
     ensures { result ≡ counts_outside (offsets - 1) targets }
 {
-    if offsets < 1 {
-        return true;
-    }
-    counts_outside(offsets - 1, targets)
+    counts_outside(offsets.saturating_sub(1), targets)
 }
 
 // Check 7 of saved words, with n and W within their ranges.
-fn saved_wrong(n: usize, workers: u32, saved: SavedWords) -> bool
+fn saved_wrong(n: usize, workers: u32, saved: Option<usize>) -> bool
     requires { (n ≤ most_objects) × (workers ≤ most_workers) }
     ensures { result ≡ saved_wrong n workers saved }
 {
     match saved {
-        SavedWords::Absent => false,
-        SavedWords::Lent(words) => words != places::saved(n, workers),
+        None => false,
+        Some(words) => words != places::saved(n, workers),
     }
 }
 
@@ -84,60 +71,50 @@ pub fn lengths_wrong(n: usize, workers: u32, l: Lengths) -> bool
     requires { (n ≤ most_objects) × (workers ≤ most_workers) }
     ensures { result ≡ lengths_wrong n workers l }
 {
-    let saved = l.saved;
-    if saved_wrong(n, workers, saved) {
-        return true;
-    }
-    if l.marks != n {
-        return true;
-    }
-    if l.work != workers as usize * places::stretch(n) {
-        return true;
-    }
-    l.tallies != workers as usize * places::TALLY
+    saved_wrong(n, workers, l.saved)
+        || l.marks != n
+        || l.work != workers as usize * places::stretch(n)
+        || l.tallies != workers as usize * places::TALLY
 }
 
 // Checks 4 and 10: offsets and targets that are a graph.
-pub fn check_graph(offsets: &[u32], targets: &[u32]) -> Verdict
+pub fn check_graph(offsets: &[u32], targets: &[u32]) -> Checked
     ensures { number_of result ≡ graph_faults offsets.now targets.now }
 {
     if graph_outside(offsets.len(), targets.len()) {
-        return Verdict::Faulty(Refusal::Count);
+        return Err(Refusal::Count);
     }
     if !graph::well_formed(offsets, targets) {
-        return Verdict::Faulty(Refusal::Graph);
+        return Err(Refusal::Graph);
     }
-    Verdict::Fine
+    Ok(())
 }
 
 // Checks 10, 13 and 5 of a store whose n and m are within their ranges: a graph, and starts in it.
-pub fn check_store(offsets: &[u32], targets: &[u32], starts: &[u32]) -> Verdict
+pub fn check_store(offsets: &[u32], targets: &[u32], starts: &[u32]) -> Checked
     ensures { number_of result ≡ store_fault offsets.now targets.now starts.now }
 {
     if !graph::well_formed(offsets, targets) {
-        return Verdict::Faulty(Refusal::Graph);
+        return Err(Refusal::Graph);
     }
     if out_of_range(starts.len(), graph::MOST_STARTS) {
-        return Verdict::Faulty(Refusal::Starts);
+        return Err(Refusal::Starts);
     }
-    let n = offsets.len() - 1;
-    if !graph::is_below(n, starts) {
-        return Verdict::Faulty(Refusal::Object);
+    if !graph::is_below(offsets.len() - 1, starts) {
+        return Err(Refusal::Object);
     }
-    Verdict::Fine
+    Ok(())
 }
 
 // Whether no byte is above this one. Bytes are compared as they are, so that the processor takes many at once.
 fn is_at_most(most: u8, bytes: &[u8]) -> bool
     ensures { result ≡ all_below (most + 1) bytes.now }
 {
-    let mut wrong: u8 = 0;
-    for i in 0..bytes.len() {
-        if most < bytes[i] {
-            wrong = 1;
-        }
+    let mut fits = true;
+    for &b in bytes {
+        fits &= b <= most;
     }
-    wrong == 0
+    fits
 }
 
 // Whether every byte is below W; false too where W is outside its range.
@@ -156,15 +133,11 @@ fn entries_fit(schedule: &[u8], workers: u32) -> bool
     ensures { result ≡ schedule_fits workers schedule.now }
 {
     // Looks at every entry, so that the loop is compiled without a jump out of it.
-    let entries = schedule.len() / 2;
-    let mut wrong: u32 = 0;
-    for k in 0..entries {
-        let b = schedule[2 * k] as u32;
-        if workers <= b {
-            wrong = 1;
-        }
+    let mut fits = true;
+    for entry in schedule.chunks_exact(2) {
+        fits &= u32::from(entry[0]) < workers;
     }
-    wrong == 0
+    fits
 }
 
 // Check 9: whole entries, each with a worker below W. Nearly always whom it names is below W too, and then all bytes are
@@ -172,12 +145,8 @@ fn entries_fit(schedule: &[u8], workers: u32) -> bool
 pub fn schedule_fits(schedule: &[u8], workers: u32) -> bool
     ensures { result ≡ schedule_fits workers schedule.now }
 {
-    let entries = schedule.len() / 2;
-    if 2 * entries != schedule.len() {
+    if schedule.len() % 2 != 0 {
         return false;
     }
-    if all_below(schedule, workers) {
-        return true;
-    }
-    entries_fit(schedule, workers)
+    all_below(schedule, workers) || entries_fit(schedule, workers)
 }

@@ -1,5 +1,5 @@
 -- SPECIFICATION 2: the checks that several calls make, each with its number.
-use Rattle.std.specs.Prelude.{ℕ, ◌*◌, Bool, true, false, not, ◌||◌, List, [], ◌∷◌, length, ltb, eqb}
+use Rattle.std.specs.Prelude.{ℕ, ◌*◌, Bool, true, false, not, ◌||◌, List, [], ◌∷◌, length, ltb, eqb, Option, None, Some}
 use Rattle.laws.specs.Choice.{both}
 use Rattle.refusal.specs.Order.{raise, first}
 use Rattle.graph.specs.Graph.{Graph, graph, objects, all_below, well_formed}
@@ -7,8 +7,6 @@ use Rattle.graph.specs.Limits.{most_objects, most_references, most_starts}
 use Rattle.desk.specs.Limits.{most_workers, most_setting}
 use Rattle.desk.specs.Lengths.{stretch_length, tally_word_count, saved_length}
 use Rattle.desk.specs.declared.Lengths.{Lengths}
-use Rattle.desk.specs.declared.SavedWords.{SavedWords}
-use Rattle.desk.specs.declared.SavedWords.TheVariants.{Absent, Lent}
 
 -- not 1 to the largest
 abbrev pub outside : ℕ → ℕ → Bool
@@ -37,9 +35,9 @@ abbrev pub objects_fault : ℕ → ℕ
 objects_fault n = raise (outside most_objects n) 4 0
 
 -- 7, of saved words where they are lent: another number than the layout has
-abbrev pub saved_wrong : ℕ → ℕ → SavedWords → Bool
-saved_wrong n W Absent = false
-saved_wrong n W (Lent k) = not (eqb k (saved_length n W))
+abbrev pub saved_wrong : ℕ → ℕ → Option ℕ → Bool
+saved_wrong n W None = false
+saved_wrong n W (Some k) = not (eqb k (saved_length n W))
 
 -- 7: not n marks, not W × (2n + 4) work words, not 4 × W tally words, or a wrong number of saved words
 abbrev pub lengths_wrong : ℕ → ℕ → Lengths → Bool

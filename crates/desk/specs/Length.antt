@@ -1,8 +1,7 @@
 -- SPECIFICATION 2: a call for a length answers a number and the length, which is 0 beside a refusal.
-use Rattle.std.specs.Prelude.{ℕ, zero, suc}
+use Rattle.std.specs.Prelude.{ℕ, zero, suc, Result, Ok, Err}
+use Rattle.refusal.specs.declared.Refusal.{Refusal}
 use Rattle.refusal.specs.Number.{number}
-use Rattle.desk.specs.declared.Length.{Length}
-use Rattle.desk.specs.declared.Length.TheVariants.{Is, Refused}
 
 -- the number answered, 0 for no fault, and the length
 pub record LengthRow : Type 0 where
@@ -13,9 +12,9 @@ abbrev pub length_with : ℕ → ℕ → LengthRow
 length_with number long = record { number = number; long = long }
 
 -- an answer so
-abbrev pub length_row : Length → LengthRow
-length_row (Is k) = length_with 0 k
-length_row (Refused r) = length_with (number r) 0
+abbrev pub length_row : Result ℕ Refusal → LengthRow
+length_row (Ok k) = length_with 0 k
+length_row (Err r) = length_with (number r) 0
 
 -- by the number of the fault
 abbrev pub length_by : ℕ → ℕ → LengthRow

@@ -1,19 +1,16 @@
 -- The fault of one record, case by case.
 use mathlib.Core.Path.{◌≡◌, refl, sym, ◌∙◌}
 use mathlib.Core.List.{List}
-use mathlib.Core.Logic.{◌⊎◌, inl, inr}
-use Prim.Native.Nat.{ℕ, zero, suc, ◌≤◌, ◌<◌}
+use Prim.Native.Nat.{ℕ, zero, suc, ◌≤◌}
 use native.Mathlib.Omega.{arith}
-use borrow.Author.Tests.{lt-ltb, le-ltb, eq-eqb, ne_eqb}
+use borrow.Author.Tests.{le-ltb, eq-eqb}
 use lib.ListN.{length}
-use lib.Dec.{eqb, ltb}
-use mathlib.Core.Bool.{true, false, not, ◌||◌}
+use lib.Dec.{eqb}
+use mathlib.Core.Bool.{false, not}
 use Rattle.refusal.specs.Order.{raise}
-use Rattle.graph.specs.Limits.{most_objects, most_references, largest_size}
-use Rattle.records.specs.Reading.{Heads}
 use Rattle.records.specs.Layout.{header, object, reference, lease, subject}
 use Rattle.records.specs.Reading.{Kind, header_kind, object_kind, reference_kind, lease_kind, subject_kind, unknown, kind_of, length_of}
-use Rattle.records.specs.Reading.{length_field, kind_field, size_field, pair_field, lease_field}
+use Rattle.records.specs.Reading.{length_field, kind_field}
 use Rattle.records.specs.Reading.{misfit, misplaced, overfull, miscounted, misnamed, oversized, contents_fault, record_fault}
 
 -- the faults 4 to 6 of a record
@@ -23,21 +20,6 @@ contents k n b = raise (miscounted k b) 4 (raise (misnamed k n b) 5 (raise (over
 -- the faults from 3 on, by where it stands and what it says
 abbrev pub placed : Kind → ℕ → ℕ → List ℕ → ℕ
 placed k due n b = raise (misplaced due k) 3 (raise (overfull due k) 13 (contents k n b))
-
--- of each kind, by the numbers that were read
-pub header_told : {b : List ℕ} {n m index : ℕ} → Heads b n m index
-    → raise (ltb n 1 || ltb most_objects n || ltb most_references m) 4 (raise (not (ltb index n)) 5 0) ≡ contents header_kind 0 b
-header_told e = rw (← e.n_is, ← e.m_is, ← e.index_is)
-
-pub object_told : {size : ℕ} (b : List ℕ) → size ≡ size_field b → raise (ltb largest_size size) 6 0 ≡ contents object_kind 0 b
-object_told b e = rw e
-
-pub reference_told : {from to : ℕ} (n : ℕ) (b : List ℕ) → from ≡ (pair_field b).from → to ≡ (pair_field b).to
-    → raise (not (ltb from n) || not (ltb to n)) 5 0 ≡ contents reference_kind n b
-reference_told n b e g = rw (e, g)
-
-pub lease_told : {object : ℕ} (n : ℕ) (b : List ℕ) → object ≡ lease_field b → raise (not (ltb object n)) 5 0 ≡ contents lease_kind n b
-lease_told n b e = rw e
 
 -- the number of a kind, and d for an unknown one
 abbrev pub number_for : Kind → ℕ → ℕ
@@ -57,29 +39,11 @@ kind_number (suc (suc (suc (suc zero)))) = refl
 kind_number (suc (suc (suc (suc (suc zero))))) = refl
 kind_number (suc (suc (suc (suc (suc (suc x)))))) = refl
 
--- a number that is none of the five
-pub not_known : (k : ℕ) → (k ≡ 1 → ⊥) → (k ≡ 2 → ⊥) → ((k ≡ 3) ⊎ (k ≡ 5) → ⊥) → (k ≡ 4 → ⊥) → kind_of k ≡ unknown
-not_known zero a b c d = refl
-not_known (suc zero) a b c d = absurd (a refl)
-not_known (suc (suc zero)) a b c d = absurd (b refl)
-not_known (suc (suc (suc zero))) a b c d = absurd (c (inl refl))
-not_known (suc (suc (suc (suc zero)))) a b c d = absurd (d refl)
-not_known (suc (suc (suc (suc (suc zero))))) a b c d = absurd (c (inr refl))
-not_known (suc (suc (suc (suc (suc (suc k)))))) a b c d = refl
-
-module _ (due n : ℕ) (b : List ℕ) where
-  pub too_short : length b < 4 → 1 ≡ record_fault due n b
-  unfolding record_fault
-  too_short h = simp (lt-ltb (length b) 4 h)
-
-  module _ (h : 4 ≤ length b) where
-    pub cut_off : length b < length_field b → 1 ≡ record_fault due n b
-    unfolding record_fault
-    cut_off g = simp (le-ltb (length b) 4 h, lt-ltb (length b) (length_field b) g)
-
-    pub whole : length_field b ≤ length b → record_fault due n b ≡ contents_fault (kind_of (kind_field b)) due n b
-    unfolding record_fault
-    whole g = rw (le-ltb (length b) 4 h, le-ltb (length b) (length_field b) g)
+-- the record is there as far as its length says
+pub whole : (due n : ℕ) (b : List ℕ) → 4 ≤ length b → length_field b ≤ length b
+    → record_fault due n b ≡ contents_fault (kind_of (kind_field b)) due n b
+unfolding record_fault
+whole due n b h g = rw (le-ltb (length b) 4 h, le-ltb (length b) (length_field b) g)
 
 -- a kind by its number: the length of its record, and what is due where it stands
 pub record Known (x place : ℕ) (k : Kind) : Type 0 where
@@ -112,10 +76,6 @@ pub record Sort (x place : ℕ) (k : Kind) (kind long : ℕ) (b : List ℕ) : Ty
 
 -- from the kind on
 module _ {x place : ℕ} {k : Kind} {kind long : ℕ} {b : List ℕ} (w : Sort x place k kind long b) (due n : ℕ) where
-  pub wrong_length : (long ≡ length_of k → ⊥) → 2 ≡ contents_fault (kind_of kind) due n b
-  wrong_length h =
-      rw (w.is, w.known.kind_known, w.known.by_length b, ne_eqb (length_field b) (length_of k) (λ e. h (w.length_is ∙ e)))
-
   module _ (h : long ≡ length_of k) where
     fits : misfit k b ≡ false
     fits = rw (w.known.by_length b, eq-eqb (length_field b) (length_of k) (sym w.length_is ∙ h))
@@ -123,18 +83,7 @@ module _ {x place : ℕ} {k : Kind} {kind long : ℕ} {b : List ℕ} (w : Sort x
     pub right_length : placed k due n b ≡ contents_fault (kind_of kind) due n b
     right_length = rw (w.is, w.known.kind_known, fits)
 
-    pub wrong_place : misplaced due k ≡ true → 3 ≡ contents_fault (kind_of kind) due n b
-    wrong_place g = rw g at right_length
-
     pub right_frame : due ≡ place → contents k n b ≡ contents_fault (kind_of kind) due n b
     right_frame g =
         let e : placed k due n b ≡ contents k n b = rw (g, w.known.in_place.0, w.known.in_place.1) in
         sym e ∙ right_length
-
--- another number than the one that is due
-pub other_place : (due x : ℕ) → (due ≡ x → ⊥) → not (eqb due x) ≡ true
-other_place due x h = rw (ne_eqb due x h)
-
--- a kind that is none of the five
-pub unknown_kind : (due n kind : ℕ) (b : List ℕ) → kind_of kind ≡ unknown → 2 ≡ contents_fault (kind_of kind) due n b
-unknown_kind due n kind b e = rw e

@@ -4,18 +4,17 @@
 ghost use Rattle.std.specs.Prelude.{◌≡◌, ◌≤◌, length};
 ghost use Rattle.records.specs.Reading.{kind_of, header_kind, object_kind, reference_kind, lease_kind, length_field, Heads};
 ghost use Rattle.records.specs.Reading.{misplaced, overfull, miscounted, misnamed, oversized, contents_fault, record_fault};
+ghost use Rattle.records.specs.Kinds.{due_number};
 ghost use Rattle.refusal.specs.Order.{raise};
 ghost use Rattle.refusal.specs.Number.{number_of};
 
 use graph::{LARGEST_SIZE, MOST_OBJECTS, MOST_REFERENCES};
-use records::{
-    HEADER, HEADER_LENGTH, LEASE, LEASE_LENGTH, NOTHING, OBJECT, RECORD_LENGTH, REFERENCE, SUBJECT,
-};
-use refusal::{Refusal, Verdict};
+use records::Kind;
+use refusal::{Checked, Refusal};
 use slices::{word2, word4, word8};
 
 // What a header says.
-#[derive(Clone, Copy)]
+#[derive(Clone, Copy, Debug, PartialEq, Eq)]
 pub struct Header {
     pub n: u32,
     pub m: u32,
@@ -34,126 +33,105 @@ pub fn header_of(bytes: &[u8]) -> Header
     }
 }
 
-// The fault of the record with which the bytes begin.
-pub fn record_fault(bytes: &[u8], due: u16, n: u32) -> Verdict
-    ensures { number_of result ≡ record_fault due n bytes.now }
+// The fault of the record with which the bytes begin, where such a one is due.
+#[tactic(auto, unfolding(records::specs::Reading::record_fault))]
+pub fn record_fault(bytes: &[u8], due: Option<Kind>, n: u32) -> Checked
+    ensures { number_of result ≡ record_fault (due_number due) n bytes.now }
 {
     if bytes.len() < 4 {
-        return Verdict::Faulty(Refusal::Short);
+        return Err(Refusal::Short);
     }
-    let long = word2(bytes, 0) as usize;
+    let long = usize::from(word2(bytes, 0));
     if bytes.len() < long {
-        return Verdict::Faulty(Refusal::Short);
+        return Err(Refusal::Short);
     }
     kind_fault(bytes, long, word2(bytes, 2), due, n)
 }
 
 // 2 and later of a record that is there as far as its length says. The kind decides which length it
 // must have, where it may stand, and what its contents must be.
-fn kind_fault(bytes: &[u8], long: usize, kind: u16, due: u16, n: u32) -> Verdict
+fn kind_fault(bytes: &[u8], long: usize, number: u16, due: Option<Kind>, n: u32) -> Checked
     requires { (long ≡ length_field bytes.now) × (long ≤ length bytes.now) }
-    ensures { number_of result ≡ contents_fault (kind_of kind) due n bytes.now }
+    ensures { number_of result ≡ contents_fault (kind_of number) (due_number due) n bytes.now }
 {
+    let kind = Kind::try_from(number)?;
+    if long != kind.length() {
+        return Err(Refusal::Kind);
+    }
     match kind {
-        HEADER => {
-            if long != HEADER_LENGTH {
-                return Verdict::Faulty(Refusal::Kind);
-            }
-            if due != HEADER {
-                return Verdict::Faulty(Refusal::Place);
+        Kind::Header => {
+            if due != Some(Kind::Header) {
+                return Err(Refusal::Place);
             }
             header_fault(bytes)
         }
-        OBJECT => {
-            if long != RECORD_LENGTH {
-                return Verdict::Faulty(Refusal::Kind);
-            }
-            if due != OBJECT {
-                return Verdict::Faulty(Refusal::Place);
+        Kind::Object => {
+            if due != Some(Kind::Object) {
+                return Err(Refusal::Place);
             }
             object_fault(bytes)
         }
-        REFERENCE | SUBJECT => {
-            if long != RECORD_LENGTH {
-                return Verdict::Faulty(Refusal::Kind);
-            }
-            if due != REFERENCE {
-                return Verdict::Faulty(Refusal::Place);
+        Kind::Reference | Kind::Subject => {
+            if due != Some(Kind::Reference) {
+                return Err(Refusal::Place);
             }
             reference_fault(bytes, n)
         }
-        LEASE => {
-            if long != LEASE_LENGTH {
-                return Verdict::Faulty(Refusal::Kind);
-            }
-            lease_fault(bytes, due, n)
-        }
-        0 | 6..=65535 => Verdict::Faulty(Refusal::Kind),
+        Kind::Lease => lease_fault(bytes, due, n),
     }
 }
 
 // 4 and 5 of a header.
-fn header_fault(bytes: &[u8]) -> Verdict
+fn header_fault(bytes: &[u8]) -> Checked
     requires { 16 ≤ length bytes.now }
     ensures { number_of result ≡ raise (miscounted header_kind bytes.now) 4 (raise (misnamed header_kind 0 bytes.now) 5 0) }
 {
     let head = header_of(bytes);
     let n = head.n;
-    if n < 1 {
-        return Verdict::Faulty(Refusal::Count);
-    }
-    if n as usize > MOST_OBJECTS {
-        return Verdict::Faulty(Refusal::Count);
-    }
-    if head.m as usize > MOST_REFERENCES {
-        return Verdict::Faulty(Refusal::Count);
+    if n < 1 || n as usize > MOST_OBJECTS || head.m as usize > MOST_REFERENCES {
+        return Err(Refusal::Count);
     }
     if head.index >= n {
-        return Verdict::Faulty(Refusal::Object);
+        return Err(Refusal::Object);
     }
-    Verdict::Fine
+    Ok(())
 }
 
 // 6 of an object.
-fn object_fault(bytes: &[u8]) -> Verdict
+fn object_fault(bytes: &[u8]) -> Checked
     requires { 12 ≤ length bytes.now }
     ensures { number_of result ≡ raise (oversized object_kind bytes.now) 6 0 }
 {
     if word8(bytes, 4) > LARGEST_SIZE {
-        return Verdict::Faulty(Refusal::Size);
+        return Err(Refusal::Size);
     }
-    Verdict::Fine
+    Ok(())
 }
 
 // 5 of a reference or a subject.
-fn reference_fault(bytes: &[u8], n: u32) -> Verdict
+fn reference_fault(bytes: &[u8], n: u32) -> Checked
     requires { 12 ≤ length bytes.now }
     ensures { number_of result ≡ raise (misnamed reference_kind n bytes.now) 5 0 }
 {
-    if word4(bytes, 4) >= n {
-        return Verdict::Faulty(Refusal::Object);
+    if word4(bytes, 4) >= n || word4(bytes, 8) >= n {
+        return Err(Refusal::Object);
     }
-    if word4(bytes, 8) >= n {
-        return Verdict::Faulty(Refusal::Object);
-    }
-    Verdict::Fine
+    Ok(())
 }
 
 // 3, 13 and 5 of a lease. Behind the most leases one more is too many, and not out of its place.
-fn lease_fault(bytes: &[u8], due: u16, n: u32) -> Verdict
+fn lease_fault(bytes: &[u8], due: Option<Kind>, n: u32) -> Checked
     requires { 8 ≤ length bytes.now }
-    ensures { number_of result ≡ raise (misplaced due lease_kind) 3
-        (raise (overfull due lease_kind) 13 (raise (misnamed lease_kind n bytes.now) 5 0)) }
+    ensures { number_of result ≡ raise (misplaced (due_number due) lease_kind) 3
+        (raise (overfull (due_number due) lease_kind) 13 (raise (misnamed lease_kind n bytes.now) 5 0)) }
 {
-    if due == NOTHING {
-        return Verdict::Faulty(Refusal::Starts);
+    match due {
+        None => return Err(Refusal::Starts),
+        Some(Kind::Lease) => {}
+        Some(_) => return Err(Refusal::Place),
     }
-    if due != LEASE {
-        return Verdict::Faulty(Refusal::Place);
+    if word4(bytes, 4) >= n {
+        return Err(Refusal::Object);
     }
-    let object = word4(bytes, 4);
-    if object >= n {
-        return Verdict::Faulty(Refusal::Object);
-    }
-    Verdict::Fine
+    Ok(())
 }

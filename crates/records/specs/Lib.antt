@@ -4,6 +4,7 @@ pub mod Fill
 pub mod Layout
 pub mod ReadGraph
 pub mod Reading
+pub mod Kinds
 pub mod Signed
 pub mod Store
 pub mod Subject

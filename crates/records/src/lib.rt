@@ -1,20 +1,22 @@
 // The catalogue's records (SPECIFICATION 1): their layout, what is read from them, and the store that
-// they are. The definitions stand in specs/, and what is proved of them in proofs/; here are the kinds'
-// numbers and the lengths. Crates `faults` and `fill` have the code on records, `catalogue` the calls.
+// they are. The definitions stand in specs/, and what is proved of them in proofs/; here are the kinds
+// and the lengths. Crates `faults` and `fill` have the code on records, `catalogue` the calls.
 #![tactic(auto)]
 
-// What is due at a place: one of the kinds, or nothing more.
-pub const NOTHING: u16 = 0;
+ghost use Rattle.std.specs.Prelude.{◌≡◌};
+ghost use Rattle.records.specs.Kinds.{kind_number, kind_length, decoded};
 
-pub const HEADER: u16 = 1;
+use refusal::Refusal;
 
-pub const OBJECT: u16 = 2;
-
-pub const REFERENCE: u16 = 3;
-
-pub const LEASE: u16 = 4;
-
-pub const SUBJECT: u16 = 5;
+// The kinds of records.
+#[derive(Clone, Copy, Debug, PartialEq, Eq)]
+pub enum Kind {
+    Header,
+    Object,
+    Reference,
+    Lease,
+    Subject,
+}
 
 // The length of a header's record, of an object's, a reference's or a subject's, and of a lease's.
 pub const HEADER_LENGTH: usize = 16;
@@ -22,3 +24,49 @@ pub const HEADER_LENGTH: usize = 16;
 pub const RECORD_LENGTH: usize = 12;
 
 pub const LEASE_LENGTH: usize = 8;
+
+impl Kind {
+    // How long a record of this kind is.
+    pub fn length(self) -> usize
+        ensures { result ≡ kind_length self }
+    {
+        match self {
+            Kind::Header => HEADER_LENGTH,
+            Kind::Object | Kind::Reference | Kind::Subject => RECORD_LENGTH,
+            Kind::Lease => LEASE_LENGTH,
+        }
+    }
+}
+
+// The number that a record says its kind by.
+impl From<Kind> for u16 {
+    ghost from_gives = { λ kind n. n ≡ kind_number kind };
+
+    fn from(kind: Kind) -> u16 {
+        match kind {
+            Kind::Header => 1,
+            Kind::Object => 2,
+            Kind::Reference => 3,
+            Kind::Lease => 4,
+            Kind::Subject => 5,
+        }
+    }
+}
+
+// The kind of a record that says this number.
+impl TryFrom<u16> for Kind {
+    type Error = Refusal;
+
+    ghost try_from_gives = { λ number kind. kind ≡ decoded number };
+
+    fn try_from(number: u16) -> Result<Kind, Refusal> {
+        match number {
+            1 => Ok(Kind::Header),
+            2 => Ok(Kind::Object),
+            3 => Ok(Kind::Reference),
+            4 => Ok(Kind::Lease),
+            5 => Ok(Kind::Subject),
+            _ => Err(Refusal::Kind),
+        }
+    }
+}

@@ -1,8 +1,6 @@
 -- SPECIFICATION 2: the number of each refusal.
-use Rattle.std.specs.Prelude.{ℕ}
+use Rattle.std.specs.Prelude.{ℕ, Result, Ok, Err}
 use Rattle.refusal.specs.declared.Refusal.{Refusal}
-use Rattle.refusal.specs.declared.Verdict.{Verdict}
-use Rattle.refusal.specs.declared.Verdict.TheVariants.{Fine, Faulty}
 use Rattle.refusal.specs.declared.Refusal.TheVariants.{Short, Kind, Place, Count, Object, Size, Buffer, Setting, Schedule, Graph, Large, File, Starts, Saved, Cards, Seed, Marks, Text, Names}
 
 -- the number that is returned for each cause
@@ -27,7 +25,7 @@ number Marks = 17
 number Text = 18
 number Names = 19
 
--- the number of what a check finds: 0 for no fault
-abbrev pub number_of : Verdict → ℕ
-number_of Fine = 0
-number_of (Faulty r) = number r
+-- the number that an answer is told by: 0 for no fault
+abbrev pub number_of : {A : Type 0} → Result A Refusal → ℕ
+number_of (Ok x) = 0
+number_of (Err r) = number r

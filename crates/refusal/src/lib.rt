@@ -5,7 +5,7 @@ ghost use Rattle.std.specs.Prelude.{◌≡◌};
 ghost use Rattle.refusal.specs.Number.{number, number_of};
 
 // Why a call is refused.
-#[derive(Clone, Copy)]
+#[derive(Clone, Copy, Debug, PartialEq, Eq)]
 pub enum Refusal {
     // 1: too few bytes left for a record, or promised records missing.
     Short,
@@ -47,46 +47,44 @@ pub enum Refusal {
     Names,
 }
 
-// What a check finds.
-#[derive(Clone, Copy)]
-pub enum Verdict {
-    Fine,
-    Faulty(Refusal),
-}
+// What a check finds: no fault, or why the call is refused.
+pub type Checked = Result<(), Refusal>;
 
 // The number of a cause.
-pub fn number_of(r: Refusal) -> u8
-    ensures { result ≡ number r }
-{
-    match r {
-        Refusal::Short => 1,
-        Refusal::Kind => 2,
-        Refusal::Place => 3,
-        Refusal::Count => 4,
-        Refusal::Object => 5,
-        Refusal::Size => 6,
-        Refusal::Buffer => 7,
-        Refusal::Setting => 8,
-        Refusal::Schedule => 9,
-        Refusal::Graph => 10,
-        Refusal::Large => 11,
-        Refusal::File => 12,
-        Refusal::Starts => 13,
-        Refusal::Saved => 14,
-        Refusal::Cards => 15,
-        Refusal::Seed => 16,
-        Refusal::Marks => 17,
-        Refusal::Text => 18,
-        Refusal::Names => 19,
+impl From<Refusal> for u8 {
+    ghost from_gives = { λ r n. n ≡ number r };
+
+    fn from(refusal: Refusal) -> u8 {
+        match refusal {
+            Refusal::Short => 1,
+            Refusal::Kind => 2,
+            Refusal::Place => 3,
+            Refusal::Count => 4,
+            Refusal::Object => 5,
+            Refusal::Size => 6,
+            Refusal::Buffer => 7,
+            Refusal::Setting => 8,
+            Refusal::Schedule => 9,
+            Refusal::Graph => 10,
+            Refusal::Large => 11,
+            Refusal::File => 12,
+            Refusal::Starts => 13,
+            Refusal::Saved => 14,
+            Refusal::Cards => 15,
+            Refusal::Seed => 16,
+            Refusal::Marks => 17,
+            Refusal::Text => 18,
+            Refusal::Names => 19,
+        }
     }
 }
 
-// The number of what a check finds, 0 for no fault.
-pub fn verdict_number(v: Verdict) -> u8
-    ensures { result ≡ number_of v }
+// The number that an answer is told by, 0 for no fault.
+pub fn number_of<T: Drop>(answer: &Result<T, Refusal>) -> u8
+    ensures { result ≡ number_of answer.now }
 {
-    match v {
-        Verdict::Fine => 0,
-        Verdict::Faulty(refusal) => number_of(refusal),
+    match answer {
+        Ok(_) => 0,
+        Err(refusal) => u8::from(*refusal),
     }
 }

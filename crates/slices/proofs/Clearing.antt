@@ -5,8 +5,8 @@ use Prim.Native.Nat.{ℕ, suc, ◌+◌, ◌-◌, ◌≤◌, ◌<◌}
 use native.Mathlib.Nat.{sub-zero}
 use native.Mathlib.Numerals.{add-one}
 use native.Mathlib.Omega.{arith}
-use lib.ListN.{length, get_or, set, take, drop, replicate, length-set, length-append, length-replicate, replicate-append-replicate, take-append-drop}
-use lib.Seq.{drop-cons, drop-length, set_at, length-take-le}
+use lib.ListN.{length, get_or, set, take, drop, replicate, length-set, length-append, length-drop, length-replicate, replicate-append-replicate, take-append-drop}
+use lib.Seq.{drop-cons, drop-drop, drop-length, set_at, length-take-le}
 use Rattle.slices.specs.Slices.{cleared}
 
 -- nothing to clear, and all of it
@@ -53,3 +53,11 @@ module _ {w₀ : List ℕ} {from to i : ℕ} {w : List ℕ} (a : Clearing w₀ f
   clearing_end h =
       let e : i ≡ to = omega (arith, a.high) in
       a.words ∙ ap (cleared w₀ from) e
+
+-- what filling a part with zeros leaves
+pub filled : (w : List ℕ) (from to : ℕ) {zeros : List ℕ} → from ≤ to → to ≤ length w → zeros ≡ replicate (length (take (to - from) (drop from w))) 0
+    → take from w ++ (zeros ++ drop (to - from) (drop from w)) ≡ cleared w from to
+filled w from to {zeros} h g e =
+    let n : length (take (to - from) (drop from w)) ≡ to - from = length-take-le (to - from) (drop from w) (rw length-drop (omega arith)) in
+    let m : from + (to - from) ≡ to = omega arith in
+    rw (e, n, drop-drop, m)

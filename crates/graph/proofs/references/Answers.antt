@@ -1,0 +1,6 @@
+use Rattle.std.proofs.Common.{refl}
+use Rattle.graph.proofs.View.{view_found}
+use Rattle.graph.proofs.references.Goals as goal
+
+pub returns : goal.returns
+returns c = view_found (c.part_of.ensures c.args.targets.now refl)

@@ -1,0 +1,39 @@
+-- SPECIFICATION 1 and 2: the kinds of records in the code, and their numbers.
+use Rattle.std.specs.Prelude.{ℕ, zero, suc, Option, None, Some, Result, Ok, Err}
+use Rattle.refusal.specs.declared.Refusal.{Refusal}
+use Rattle.refusal.specs.declared.Refusal.TheVariants.{Kind as kind_refusal}
+use Rattle.records.specs.declared.Kind.{Kind}
+use Rattle.records.specs.declared.Kind.TheVariants.{Header, Object, Reference, Lease, Subject}
+use Rattle.records.specs.Layout.{header, object, reference, lease, subject, header_length, record_length, lease_length}
+use Rattle.records.specs.Reading.{nothing}
+
+-- the number of a kind
+abbrev pub kind_number : Kind → ℕ
+kind_number Header = header
+kind_number Object = object
+kind_number Reference = reference
+kind_number Lease = lease
+kind_number Subject = subject
+
+-- the length of its records
+abbrev pub kind_length : Kind → ℕ
+kind_length Header = header_length
+kind_length Object = record_length
+kind_length Reference = record_length
+kind_length Lease = lease_length
+kind_length Subject = record_length
+
+-- the kind with a number; where there is none, that is 2
+abbrev pub decoded : ℕ → Result Kind Refusal
+decoded zero = Err kind_refusal
+decoded (suc zero) = Ok Header
+decoded (suc (suc zero)) = Ok Object
+decoded (suc (suc (suc zero))) = Ok Reference
+decoded (suc (suc (suc (suc zero)))) = Ok Lease
+decoded (suc (suc (suc (suc (suc zero))))) = Ok Subject
+decoded (suc (suc (suc (suc (suc (suc k)))))) = Err kind_refusal
+
+-- the number of what is due: a kind, or nothing more
+abbrev pub due_number : Option Kind → ℕ
+due_number None = nothing
+due_number (Some kind) = kind_number kind
