@@ -133,12 +133,12 @@ module _ {offsets targets starts : List ℕ} {g : Setting} {marks work : List �
           long = x.long;
         }
 
-    pub size_some : (1 ≤ size) × (t.first + size ≤ t.end) × (size ≤ l.batch)
+    size_some : (1 ≤ size) × (t.first + size ≤ t.end) × (size ≤ l.batch)
     size_some = (omega (arith, is), omega (arith, is), omega (arith, is))
 
     module _ {marks' work' : List ℕ} {d : Found} {t' : Top} (y : PartDone part_of size marks' work' d)
         (told : Told (run_from (t.first + size) left ++ y.below) t' work') where
-      pub going_next : Going (graph offsets targets) starts g marks' work' t' (load_with (l.batch - size) (l.carried + d.opened) l.polls) (f + size) (w + d.won)
+      going_next : Going (graph offsets targets) starts g marks' work' t' (load_with (l.batch - size) (l.carried + d.opened) l.polls) (f + size) (w + d.won)
       unfolding part_of
       going_next =
           let a : size - size + (l.batch - size) ≡ l.batch - size = omega arith in
@@ -161,3 +161,24 @@ module _ {offsets targets starts : List ℕ} {g : Setting} {marks work : List �
                   carried_from (t.first + size) left,
                 );
           }
+
+-- ---- a poll and a part: what is followed, and what is left behind it
+module _ {offsets targets starts marks work : List ℕ} {g : Setting} {t : Top} {l l' : Load} {f w : ℕ}
+    (x : Going (graph offsets targets) starts g marks work t l f w) (h : t.first < t.end) (p : l' ≡ polled_of g.batch l)
+    {size : ℕ} (is : size ≡ min l'.batch (t.end - t.first)) where
+  unfoldable pub part_ready : PartReady offsets targets marks work t.first size t.used
+  part_ready = part_of (polled_as x h p) h (batch_as x h p) is
+
+  pub part_size : (1 ≤ size) × (t.first + size ≤ t.end) × (size ≤ l'.batch)
+  part_size = size_some (polled_as x h p) h (batch_as x h p) is
+
+  pub part_followed : {marks' work' : List ℕ} {d : Found} {t' : Top}
+      → ((y : PartReady offsets targets marks work t.first size t.used) → PartDone y size marks' work' d)
+      → ((more : ℕ) (rs : List Run) → t.end ≡ t.first + size + more → Holds work' d.used rs
+      → Told (run_from (t.first + size) more ++ rs) t' work')
+      → Going (graph offsets targets) starts g marks' work' t' (load_with (l'.batch - size) (l'.carried + d.opened) l'.polls) (f + size) (w + d.won)
+  unfolding part_of part_ready
+  part_followed follows comes =
+      let y = follows part_ready in
+      going_next (polled_as x h p) h (batch_as x h p) is y
+      (comes (t.end - t.first - size) y.below (omega (arith, part_size.1)) y.holds)

@@ -4,7 +4,8 @@ use mathlib.Core.Path.{◌≡◌, refl, ap, ◌∙◌}
 use mathlib.Core.List.{List, [], ◌∷◌, ◌++◌}
 use native.Mathlib.Omega.{arith}
 use native.Mathlib.Numerals.{add-one}
-use lib.ListN.{length, get_or, set}
+use lib.ListN.{length, get_or, set, take, drop, length-drop}
+use lib.Seq.{get_or-take, get_or-drop, length-take-le}
 use Rattle.laws.proofs.Sum.{default}
 use Rattle.graph.specs.Graph.{Graph, graph, references, first, after, degree, target}
 use Rattle.graph.proofs.OverMarked.{after_limit}
@@ -66,6 +67,12 @@ module _ {offsets targets marks s : List ℕ} {from size used : ℕ} (x : PartRe
       let d : x.w + r.won ≡ x.w = omega (arith, w) in
       record { below = x.below; here = rw (a, b, c, d) x.here; holds = rw u x.holds; long = refl; number = omega (arith, o) }
 
+  -- the references of the part, as many as it says
+  pub part_length : from + size ≤ references G → length (take (from + size - from) (drop from targets)) ≡ size
+  part_length h =
+      let n : from + size - from ≡ size = omega arith in
+      rw n (length-take-le size (drop from targets) (rw length-drop (omega arith)))
+
   -- the reference e is next
   module _ {done : ℕ} {marks' s' : List ℕ} {r : Found} (d : PartDone x done marks' s' r) (l : done < size) {e : ℕ} (is : from + done ≡ e) where
     here_next : Alone G x.starts x.setting marks' (suc (size - suc done + x.batch)) (run e (size - suc done + x.more) ∷ d.below)
@@ -75,8 +82,15 @@ module _ {offsets targets marks s : List ℕ} {from size used : ℕ} (x : PartRe
         let b : size - done + x.more ≡ suc (size - suc done + x.more) = omega arith in
         rw (a, b, is) at d.here
 
-    pub reference_there : e < references G
-    reference_there = omega (arith, run_inside here_next)
+    -- it and those behind it in the part
+    pub references_there : e + (size - done) ≤ references G
+    references_there = omega (arith, run_inside here_next)
+
+    -- read among the references of the part
+    pub reference_is : get_or (take (from + size - from) (drop from targets)) done 0 ≡ target G e
+    reference_is =
+        let n : from + size - from ≡ size = omega arith in
+        rw n (get_or-take size (drop from targets) done 0 l ∙ get_or-drop from targets done 0 ∙ ap (λ (i : ℕ). get_or targets i 0) is)
 
     -- where it leads
     abbrev v : ℕ

@@ -77,7 +77,8 @@ fn follow_one(offsets: &[u32], marks: &mut [u8], s: &mut [u32], v: u32, found: F
 
 // Follows the references of a part.
 fn follow(offsets: &[u32], targets: &[u32], marks: &mut [u8], s: &mut [u32], part: Part) -> Found
-    requires { PartReady offsets.now targets.now marks.old s.old part.first part.size part.used }
+    requires some { 1 ≤ part.size }
+    requires ready { PartReady offsets.now targets.now marks.old s.old part.first part.size part.used }
     ensures { (x : PartReady offsets.now targets.now marks.old s.old part.first part.size part.used)
         → PartDone x part.size marks.new s.new result }
 {
@@ -88,8 +89,8 @@ fn follow(offsets: &[u32], targets: &[u32], marks: &mut [u8], s: &mut [u32], par
         won: 0,
         opened: 0,
     };
-    for e in from..to {
-        found = follow_one(offsets, marks, s, targets[e], found);
+    for v in &targets[from..to] {
+        found = follow_one(offsets, marks, s, *v, found);
     }
     found
 }
@@ -126,13 +127,11 @@ fn poll(most: u32, l: Load) -> Load
     requires { l.polls + 1 < 2 ^ 32 }
     ensures { result ≡ polled_of most l }
 {
-    let batch = l.batch;
-    if batch == 0 {
-        let carried = l.carried;
-        let next = slices::smaller(most, carried);
+    if l.batch == 0 {
+        let next = most.min(l.carried);
         return Load {
             batch: next,
-            carried: carried - next,
+            carried: l.carried - next,
             polls: l.polls + 1,
         };
     }
@@ -143,17 +142,14 @@ fn poll(most: u32, l: Load) -> Load
 fn load_of(r: Block) -> Load
     ensures { result ≡ load_for r }
 {
-    let status = r.status;
-    if status < registers::GIVEN {
-        return Load {
-            batch: 0,
-            carried: 0,
-            polls: 0,
-        };
-    }
+    let carried = if r.status < registers::GIVEN {
+        0
+    } else {
+        r.carried
+    };
     Load {
         batch: 0,
-        carried: r.carried,
+        carried,
         polls: 0,
     }
 }
@@ -173,14 +169,11 @@ fn end(
     step::raise(tallies, 0, followed as u64, won as u64, 0, 0);
     registers::put(regs, 0, registers::SINCE, followed);
     registers::put(regs, 0, registers::STATUS, registers::ENDED);
-    let ring = p.ring;
     Progress {
-        starts: p.starts,
-        refused: p.refused,
         moved: p.moved + followed as u64 + won as u64 + polls as u64 + 1,
         carrying: 0,
         running: 0,
-        ring,
+        ..p
     }
 }
 
@@ -209,7 +202,7 @@ pub fn take_turns(
     let mut won: u32 = 0;
     while top.first < top.end {
         let l = poll(most, load);
-        let size = slices::smaller(l.batch, top.end - top.first);
+        let size = l.batch.min(top.end - top.first);
         let part = Part {
             first: top.first,
             size,
@@ -219,13 +212,13 @@ pub fn take_turns(
         let rest = Top {
             used: found.used,
             first: top.first + size,
-            end: top.end,
+            ..top
         };
         top = next(work, rest);
         load = Load {
             batch: l.batch - size,
             carried: l.carried + found.opened,
-            polls: l.polls,
+            ..l
         };
         followed += size;
         won += found.won;

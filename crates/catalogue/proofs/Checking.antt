@@ -2,12 +2,13 @@
 use mathlib.Core.Path.{◌≡◌, refl, ap, sym, ◌∙◌}
 use mathlib.Core.List.{List}
 use mathlib.Core.Logic.{by_cases, ◌⊎◌, inl, inr, ⊎_elim}
-use mathlib.Core.Bool.{Bool, true}
+use mathlib.Core.Bool.{Bool, true, ◌||◌}
 use Prim.Native.Nat.{ℕ, zero, suc, ◌+◌, ◌*◌, ◌-◌, ◌≤◌, ◌<◌}
 use native.Mathlib.Numerals.{add-one}
 use native.Mathlib.Decide.{dec_lt, ℕ_discrete}
 use native.Mathlib.Omega.{arith}
-use borrow.Author.Tests.{lt-ltb, le-ltb}
+use borrow.Author.Tests.{lt-ltb, le-ltb, ne_eqb, eqb-true}
+use lib.Dec.{eqb}
 use lib.ListN.{length, drop, get_or, replicate, length-append, length-drop, length-replicate, get_or-replicate, get_or-append, drop_of_length-le}
 use lib.Seq.{drop-drop, drop-cons, get_or-append-add}
 use Rattle.laws.specs.Words.{word, Bytes}
@@ -137,6 +138,12 @@ module _ (n i : ℕ) (b : List ℕ) (h : Bytes b) (l : 16 + 12 * i + 12 ≤ leng
         frame = ⊎_elim (λ e. inl (framed_at reference reference_kind refl e)) (λ e. inr (framed_at subject subject_kind refl e)) w;
         ends = record { from_below = rw drop-drop f; to_below = rw drop-drop t };
       }))
+
+-- the head of a reference or of a subject
+pub link_head : (x : ℕ) → (eqb x 196620 || eqb x 327692) ≡ true → (x ≡ 196620) ⊎ (x ≡ 327692)
+link_head x e =
+    by_cases (ℕ_discrete x 196620) (λ h. inl h)
+    (λ h. let n = rw (ne_eqb x 196620 h) at e in inr (eqb-true x 327692 n))
 
 -- from one number up to another, where i is the next: as long as all tests were passed no record has a fault
 pub record Looking (n from to : ℕ) (b : List ℕ) (right : Bool) (i : ℕ) : Type 0 where

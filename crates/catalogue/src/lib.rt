@@ -9,7 +9,6 @@ ghost use Rattle.catalogue.specs.Answer.{row, found_row, header_row, misfits, Re
 ghost use Rattle.catalogue.specs.Acceptance.{Acceptance};
 
 pub use faults::Header;
-
 use records::Kind;
 use refusal::Refusal;
 
@@ -38,10 +37,7 @@ fn lent_wrong(n: u32, m: u32, offsets: usize, targets: usize, sizes: usize, star
     requires { n ≤ most_objects }
     ensures { result ≡ misfits n m offsets targets sizes starts }
 {
-    offsets != n as usize + 1
-        || targets != m as usize
-        || sizes != n as usize
-        || starts != STARTS
+    offsets != n as usize + 1 || targets != m as usize || sizes != n as usize || starts != STARTS
 }
 
 // Checks the whole catalogue, then the lent lengths, and then fills the buffers.

@@ -197,11 +197,10 @@ pub extern "C" fn kullneyra_sweep(
         return kullneyra::BUFFER;
     }
     match sweep::sweep(marks, sizes, list) {
-        Swept::Dead { count, freed } => {
-            res[0] = count as u64;
-            res[1] = freed;
+        Ok(Swept { count, freed }) => {
+            res.copy_from_slice(&[u64::from(count), freed]);
             0
         }
-        Swept::Refused(refusal) => refusal::number_of(refusal) as u32,
+        Err(refusal) => kullneyra::number(refusal),
     }
 }

@@ -1,5 +1,5 @@
 -- What a claim finds and leaves, in words, and the blocks that following and taking up write.
-use Rattle.std.specs.Prelude.{ℕ, zero, suc, ◌+◌, ◌-◌, ◌≤◌, ◌<◌, ◌^◌, ◌≡◌, Bool, true, false, List, length, get_or, set, ltb, eqb}
+use Rattle.std.specs.Prelude.{ℕ, zero, suc, ◌+◌, ◌-◌, ◌≤◌, ◌<◌, ◌^◌, ◌≡◌, Bool, true, false, Result, Ok, Err, List, length, get_or, set, ltb, eqb}
 use Rattle.laws.specs.Choice.{pick}
 use Rattle.machine.specs.Tally.{Tally, tally}
 use Rattle.machine.specs.Machine.{claim_mark}
@@ -10,8 +10,6 @@ use Rattle.worker.specs.declared.registers.Block.{Block}
 use Rattle.worker.specs.declared.stretch.Top.{Top}
 use Rattle.step.specs.Held.{top_of}
 use Rattle.follow.specs.declared.Opened.{Opened}
-use Rattle.follow.specs.declared.Ownership.{Ownership}
-use Rattle.follow.specs.declared.Ownership.TheVariants.{Won, Lost}
 
 abbrev pub opened_with : ℕ → ℕ → Opened
 opened_with first end = record { first = first; end = end }
@@ -21,9 +19,9 @@ abbrev pub opened_none : Opened
 opened_none = opened_with 0 0
 
 -- each answer of a claim as a row
-abbrev pub claim_row : Ownership → ClaimRow
-claim_row (Won owner) = record { won = true; owner = owner }
-claim_row (Lost owner) = record { won = false; owner = owner }
+abbrev pub claim_row : Result ℕ ℕ → ClaimRow
+claim_row (Ok owner) = record { won = true; owner = owner }
+claim_row (Err owner) = record { won = false; owner = owner }
 
 -- what opens, by whether the claim is won
 abbrev pub opened_by : Bool → List ℕ → ℕ → Opened
@@ -50,7 +48,7 @@ abbrev pub claimed_marks : List ℕ → ℕ → ℕ → List ℕ
 claimed_marks marks b t = marks_by (get_or marks t 0) marks b t
 
 -- what worker b's claim of t tells and leaves; the owner is the mark that stands there afterwards
-pub record Claims (marks : List ℕ) (b t : ℕ) (r : Ownership) (marks' : List ℕ) : Type 0 where
+pub record Claims (marks : List ℕ) (b t : ℕ) (r : Result ℕ ℕ) (marks' : List ℕ) : Type 0 where
   pub row_is : claim_row r ≡ claim_tells (get_or marks t 0) b
   pub marks_are : marks' ≡ claimed_marks marks b t
   pub owner_stands : (claim_row r).owner ≡ get_or marks' t 0

@@ -3,7 +3,6 @@
 
 ghost use Rattle.std.specs.Prelude.{◌≡◌, ◌≢◌, List, ℕ, ◌+◌, ◌-◌, ◌<◌, length, get_or};
 ghost use Rattle.desk.specs.Limits.{most_workers};
-ghost use Rattle.machine.specs.Machine.{claim_mark};
 ghost use Rattle.worker.specs.Registers.{Room, block_at, puts_at, step_words};
 ghost use Rattle.follow.specs.Claiming.{opened_none, opened_by, claim_row, claim_tally, Claims, next_word, Advanceable, Advanced, stopped_count, stopped_at, taken_block};
 ghost use Rattle.step.specs.Held.{memory};
@@ -23,77 +22,48 @@ pub struct Opened {
 }
 
 // The target is marked already: nothing opens.
-fn nothing() -> Opened
-    ensures { result ≡ opened_none }
-{
-    Opened { first: 0, end: 0 }
-}
+const NOTHING: Opened = Opened { first: 0, end: 0 };
 
-// What a claim tells: won or lost, and the owner, whose mark stands there afterwards.
-#[derive(Clone, Copy)]
-pub enum Ownership {
-    Won(u8),
-    Lost(u8),
-}
-
-// Worker b reads the mark of t again, and marks t if it is still unmarked.
-fn claim_target(marks: &mut [u8], b: u32, t: u32) -> Ownership
+// Worker b reads the mark of t again, and marks t if it is still unmarked: a claim that is won. The mark of the owner, which
+// stands there afterwards, is told in either case.
+fn claim_target(marks: &mut [u8], b: u32, t: u32) -> Result<u8, u8>
     requires { (t < length marks.old) × (b < most_workers) }
     ensures { Claims marks.old b t result marks.new }
 {
     let v = t as usize;
-    let own = claim_mark(b);
+    let own = (b + 1) as u8;
     let again = marks[v];
     if again != 0 {
-        return Ownership::Lost(again);
+        return Err(again);
     }
     marks[v] = own;
-    Ownership::Won(own)
-}
-
-// The mark that a claim of worker b leaves.
-fn claim_mark(b: u32) -> u8
-    requires { b < most_workers }
-    ensures { result ≡ claim_mark b }
-{
-    (b + 1) as u8
+    Ok(own)
 }
 
 // What opens at t, by what the claim of it told.
-fn opens(offsets: &[u32], t: u32, told: Ownership) -> Opened
+fn opens(offsets: &[u32], t: u32, told: Result<u8, u8>) -> Opened
     requires { t + 1 < length offsets.now }
     ensures { result ≡ opened_by (claim_row told).won offsets.now t }
 {
     let v = t as usize;
     match told {
-        Ownership::Won(_) => Opened {
+        Ok(_) => Opened {
             first: offsets[v],
             end: offsets[v + 1],
         },
-        Ownership::Lost(_) => nothing(),
+        Err(_) => NOTHING,
     }
 }
 
 // Worker b's tally with a claim, which is followed, whether it is won or lost. A branch for each, so
 // that a word that does not change is not written.
-fn count_claim(tallies: &mut [u64], b: u32, told: Ownership)
+fn count_claim(tallies: &mut [u64], b: u32, told: Result<u8, u8>)
     requires { Raisable tallies.old b (claim_tally (claim_row told).won) }
     ensures { tallies.new ≡ raised_words tallies.old b (claim_tally (claim_row told).won) }
 {
     match told {
-        Ownership::Won(_) => step::raise(tallies, b, 1, 1, 0, 0),
-        Ownership::Lost(_) => step::raise(tallies, b, 1, 0, 1, 0),
-    }
-}
-
-// A busy worker's next turn, by its batch.
-fn phase(batch: u32) -> u32
-    ensures { result ≡ next_word batch }
-{
-    if batch == 0 {
-        registers::POLL
-    } else {
-        registers::LOOK
+        Ok(_) => step::raise(tallies, b, 1, 1, 0, 0),
+        Err(_) => step::raise(tallies, b, 1, 0, 1, 0),
     }
 }
 
@@ -102,7 +72,12 @@ fn come_up(targets: &[u32], regs: &mut [u32], b: u32, batch: u32, first: u32)
     requires { Room regs.old b × (first < length targets.now) }
     ensures { regs.new ≡ puts_at regs.old b (step_words (next_word batch) batch first (get_or targets.now first 0)) }
 {
-    registers::step(regs, b, phase(batch), batch, first, targets[first as usize]);
+    let status = if batch == 0 {
+        registers::POLL
+    } else {
+        registers::LOOK
+    };
+    registers::step(regs, b, status, batch, first, targets[first as usize]);
 }
 
 // The block of a worker that takes up a hand-over.
@@ -114,11 +89,8 @@ fn taken(r: Block, target: u32) -> Block
         cell: 0,
         since: 0,
         batch: 0,
-        carried: r.carried,
-        used: r.used,
-        first: r.first,
-        end: r.end,
         target,
+        ..r
     }
 }
 
@@ -242,7 +214,7 @@ pub fn look(
     let t = r.target as usize;
     let seen = marks[t];
     if seen != 0 {
-        let q = follow(targets, work, regs, step, r, nothing());
+        let q = follow(targets, work, regs, step, r, NOTHING);
         // Behind it, so that what is left of the block is loaded where it is used.
         step::raise(tallies, b, 1, 0, 0, 0);
         return q;

@@ -7,6 +7,7 @@ ghost use Rattle.step.specs.Outcome.{progress_of, ToldOver};
 ghost use Rattle.step.specs.Turned.{Ready, Does, DoesAny};
 ghost use Rattle.idle.specs.Idle.{IsIdle, IsHolder, IsAsking};
 
+use std::ops::ControlFlow;
 use step::{Outcome, Progress, Step, counts, ring};
 use worker::registers;
 
@@ -82,5 +83,5 @@ pub fn idle_turn(regs: &mut [u32], step: Step) -> Outcome
         registers::put(regs, b, registers::STATUS, registers::ENDED);
         return step::ending(counts::ended(step.progress));
     }
-    Outcome::Goes(ask(regs, step))
+    ControlFlow::Continue(ask(regs, step))
 }

@@ -1,6 +1,6 @@
 -- What computed tests say, both ways.
-use mathlib.Core.Path.{◌≡◌, refl, ap}
-use mathlib.Core.Bool.{Bool, true, false}
+use mathlib.Core.Path.{◌≡◌, refl, ap, sym}
+use mathlib.Core.Bool.{Bool, true, false, true≢false, ◌&&◌}
 use mathlib.Core.List.{List, [], ◌∷◌}
 use mathlib.Core.Logic.{◌⊎◌, inl, inr, ⊎_elim}
 use Prim.Native.Nat.{ℕ, zero, suc, ◌+◌, ◌≤◌, ◌<◌}
@@ -153,3 +153,11 @@ same_self (x ∷ l) = both_is (eq-eqb x x refl) (same_self l)
 
 pub equal_same : (k l : List ℕ) → k ≡ l → same k l ≡ true
 equal_same k l e = rw e (same_self l)
+
+-- two truth values of which both hold
+pub and_true : (s t : Bool) → s ≡ true → t ≡ true → (s && t) ≡ true
+and_true s t h g = rw (h, g)
+
+pub and_parts : (s t : Bool) → (s && t) ≡ true → (s ≡ true) × (t ≡ true)
+and_parts true t e = (refl, e)
+and_parts false t e = absurd (true≢false (sym e))

@@ -1,9 +1,8 @@
 -- SPECIFICATION 2: the marker's checks in their order (8, 4, 7, 10, 13, 5, 9), its answer, and the lent buffers afterwards.
-use Rattle.std.specs.Prelude.{ℕ, zero, suc, List, length}
+use Rattle.std.specs.Prelude.{ℕ, zero, suc, None, List, length}
 use Rattle.refusal.specs.Order.{first}
 use Rattle.graph.specs.Graph.{Graph, graph, objects}
 use Rattle.desk.specs.declared.Lengths.{Lengths}
-use Rattle.desk.specs.declared.SavedWords.TheVariants.{Absent}
 use Rattle.desk.specs.Checks.{setting_fault, count_fault, buffer_fault, store_fault, schedule_fault}
 use Rattle.desk.specs.Kept.{unless_refused}
 use Rattle.machine.specs.Row.{Row, refused_row}
@@ -53,7 +52,7 @@ first_fault c l =
 
 -- so many marks, work words and tally words, and no saved words
 abbrev pub lengths : ℕ → ℕ → ℕ → Lengths
-lengths marks work tallies = record { marks = marks; work = work; tallies = tallies; saved = Absent }
+lengths marks work tallies = record { marks = marks; work = work; tallies = tallies; saved = None }
 
 abbrev pub fault : Call → ℕ → ℕ → ℕ → ℕ
 fault c marks work tallies = first_fault c (lengths marks work tallies)

@@ -6,8 +6,7 @@ use native.Mathlib.Nat.{mul-le-mul_left}
 use native.Mathlib.Omega.{arith}
 use lib.ListN.{length, replicate}
 use Rattle.refusal.specs.declared.Refusal.{Refusal}
-use Rattle.refusal.specs.declared.Verdict.{Verdict}
-use Rattle.refusal.specs.declared.Verdict.TheVariants.{Fine, Faulty}
+use Rattle.std.specs.Prelude.{Result, Ok, Err}
 use Rattle.refusal.proofs.Numbers.{numbered}
 use Rattle.graph.specs.Chain.{leaving_reached}
 use Rattle.desk.specs.declared.Lengths.{Lengths}
@@ -23,7 +22,6 @@ use Rattle.step.specs.Counting.{Countable}
 use Rattle.step.specs.Held.{memory, Holds}
 use Rattle.step.specs.Turned.{Ready}
 use Rattle.marker.specs.declared.Marked.{Marked}
-use Rattle.marker.specs.declared.Marked.TheVariants.{Refused}
 use Rattle.marker.specs.Answer.{row, Finds}
 use Rattle.marker.specs.Stages.{IsScheduled, scheduled, setup_of, Runnable, Runs, row_of, Settled, Settling}
 use Rattle.marker.specs.Starting.{Started}
@@ -38,7 +36,7 @@ fault_whole : (c : Call) (l : Lengths) → first_fault (scheduled_by [] c) l ≡
 unfolding first_fault schedule_fits
 fault_whole c l = rw (rounds_fit c.workers (stretch_bound (leaving_reached (graph_of c) c.starts) c.workers)) refl
 
-pub finds_whole : {v : Verdict} (c : Call) {l : Lengths} → Finds v (scheduled_by [] c) l → Finds v (whole_of c) l
+pub finds_whole : {A : Type 0} {v : Result A Refusal} (c : Call) {l : Lengths} → Finds v (scheduled_by [] c) l → Finds v (whole_of c) l
 finds_whole c {l} f = record { number_is = f.number_is ∙ fault_whole c l }
 
 -- ---- the turns
@@ -86,19 +84,21 @@ module _ (c : Call) {marks work tallies regs : List ℕ} (x : Runnable (whole_of
 
 -- ---- the answer
 
-module _ (c : Call) {marks work tallies : List ℕ} {v : Verdict} (found : Finds v (scheduled_by [] c) (lengths (length marks) (length work) (length tallies))) where
-  pub all_refused : {cause : Refusal} → v ≡ Faulty cause → AllMarked c marks work tallies (Refused cause) marks work tallies
-  all_refused {cause} e =
+module _ {A : Type 0} (c : Call) {marks work tallies : List ℕ} where
+  pub all_refused : {cause : Refusal} → Finds {A = A} (Err cause) (scheduled_by [] c) (lengths (length marks) (length work) (length tallies))
+      → AllMarked c marks work tallies (Err cause) marks work tallies
+  all_refused {cause} found =
       record {
-        answered = answered_refused (finds_whole c found) e;
+        answered = answered_refused (finds_whole c found);
         finished = λ z. absurd (omega (arith, numbered cause, z));
       }
 
-  pub all_fine : v ≡ Fine → {marks' work' tallies' regs' : List ℕ} {p : Progress} → Runs (whole_of c) (memory marks' work' tallies' regs' p)
-      → (r : Marked) → ((x : Countable tallies' c.workers p) → row r ≡ row_of p x.tallies)
-      → AllMarked c marks work tallies r marks' work' tallies'
-  all_fine e d r f =
+  pub all_fine : {a : A} → Finds (Ok a) (scheduled_by [] c) (lengths (length marks) (length work) (length tallies))
+      → {marks' work' tallies' regs' : List ℕ} {p : Progress} → Runs (whole_of c) (memory marks' work' tallies' regs' p)
+      → {g : Setup} → g ≡ setup_of c → {r : Marked} → ((x : Countable tallies' g.workers p) → row (Ok r) ≡ row_of p x.tallies)
+      → AllMarked c marks work tallies (Ok r) marks' work' tallies'
+  all_fine found d is f =
       record {
-        answered = answered_fine (finds_whole c found) e d r f;
-        finished = λ z. ap (λ (q : Row). q.finished) (row_left d r f) ∙ enough_end (passed (finds_whole c found) e).accepted;
+        answered = answered_fine (finds_whole c found) d is f;
+        finished = λ z. ap (λ (q : Row). q.finished) (row_left d _ (rw is at f)) ∙ enough_end (passed (finds_whole c found)).accepted;
       }

@@ -7,14 +7,15 @@ ghost use Rattle.step.specs.Turned.{Ready};
 ghost use Rattle.marker.specs.Answer.{call_of};
 ghost use Rattle.rounds.specs.Whole.{AllMarked, IsStart, DoesRounds};
 
-use desk::{Lengths, SavedWords, Settings};
+use desk::{Lengths, Settings};
 use marker::{Marked, start};
-use refusal::Verdict;
+use refusal::Refusal;
 use rounds::Begun;
 use step::Progress;
 use worker::registers;
 
 // Rounds, until all workers have ended.
+// Stays (3): it ends when nobody is running; `i` counts the rounds, by which it is proved to end.
 fn take_rounds(
     offsets: &[u32],
     targets: &[u32],
@@ -70,11 +71,11 @@ fn take_all(
         (memory marks.old work.old tallies.old regs.old begun.progress)
         (memory marks.new work.new tallies.new regs.new result) }
 {
-    let workers = begun.setup.workers;
-    if workers == 1 {
-        return alone::take_turns(offsets, targets, marks, work, tallies, regs, begun);
+    if begun.setup.workers == 1 {
+        alone::take_turns(offsets, targets, marks, work, tallies, regs, begun)
+    } else {
+        take_rounds(offsets, targets, marks, work, tallies, regs, begun)
     }
-    take_rounds(offsets, targets, marks, work, tallies, regs, begun)
 }
 
 // A whole collection in one call.
@@ -86,7 +87,7 @@ pub fn mark_all(
     marks: &mut [u8],
     work: &mut [u32],
     tallies: &mut [u64],
-) -> Marked
+) -> Result<Marked, Refusal>
     ensures { AllMarked (call_of offsets.now targets.now starts.now settings [])
         marks.old work.old tallies.old result marks.new work.new tallies.new }
 {
@@ -94,32 +95,14 @@ pub fn mark_all(
         marks: marks.len(),
         work: work.len(),
         tallies: tallies.len(),
-        saved: SavedWords::Absent,
+        saved: None,
     };
-    let none = [0u8; 0];
-    let verdict = marker::check(offsets, targets, starts, settings, &none, lengths);
-    if let Verdict::Faulty(cause) = verdict {
-        return Marked::Refused(cause);
-    }
-    let setup = marker::setup_of(settings, offsets.len() - 1);
-    let workers = settings.workers;
+    let setup = marker::accept(offsets, targets, starts, settings, &[], lengths)?;
     let mut registers = [0u32; registers::ALL];
-    let size = registers::BLOCK * workers as usize;
-    let regs = &mut registers[..size];
-    let begun = start::start(offsets, targets, starts, setup, marks, work, regs);
-    slices::clear_u64s(tallies);
-    let p = take_all(
-        offsets,
-        targets,
-        marks,
-        work,
-        tallies,
-        regs,
-        Begun {
-            setup,
-            progress: begun,
-        },
-    );
+    let regs = &mut registers[..registers::BLOCK * setup.workers as usize];
+    let progress = start::start(offsets, targets, starts, setup, marks, work, tallies, regs);
+    let begun = Begun { setup, progress };
+    let p = take_all(offsets, targets, marks, work, tallies, regs, begun);
     marker::settle(setup, work, regs);
-    marker::answer(tallies, workers, p)
+    Ok(marker::answer(tallies, setup.workers, p))
 }

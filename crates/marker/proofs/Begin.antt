@@ -230,23 +230,23 @@ module _ {offsets targets starts : List ℕ} {g : Setup} {marks regs : List ℕ}
 module _ (g : Setup) (work : List ℕ) (some : 1 ≤ g.workers) (long : length work ≡ g.workers * g.stretch) where
   -- the first stretch of the work memory, and the memory with it written anew
   abbrev first : List ℕ
-  first = take (g.stretch - 0) work
+  first = take g.stretch work
 
   abbrev anew : List ℕ → List ℕ
-  anew s = s ++ drop (g.stretch - 0) work
+  anew s = s ++ drop g.stretch work
 
   pub first_within : g.stretch ≤ length work
   first_within = omega (arith, long, mul-le-mul_right g.stretch some)
 
   pub first_long : length first ≡ g.stretch
-  first_long = let e : g.stretch - 0 ≡ g.stretch = omega arith in rw e (length-take-le g.stretch work first_within)
+  first_long = length-take-le g.stretch work first_within
 
   module _ (s : List ℕ) (same : length s ≡ length first) where
     pub anew_long : length (anew s) ≡ length work
     anew_long = rw (length-append, length-drop) (omega (arith, same, first_long, first_within))
 
     anew_first : stretch_at g.stretch 0 (anew s) ≡ s
-    anew_first = let e : 0 * g.stretch ≡ 0 = omega arith in rw e (take_at s (drop (g.stretch - 0) work) g.stretch (same ∙ first_long))
+    anew_first = let e : 0 * g.stretch ≡ 0 = omega arith in rw e (take_at s (drop g.stretch work) g.stretch (same ∙ first_long))
 
     -- the start in the first stretch is the start in the work memory
     pub started : (offsets targets starts marks regs : List ℕ) (p : Progress) → StretchStarted offsets targets starts g marks s regs p

@@ -1,59 +1,54 @@
--- The loop over the schedule: before the entry at i, the turns that are left give the answer.
+-- The loop over the schedule: at each entry the turns that are left give the answer.
 use mathlib.Core.Path.{◌≡◌, refl, sym, ap, ◌∙◌, subst}
 use mathlib.Core.Bool.{true, false}
-use mathlib.Core.Logic.{by_cases}
-use mathlib.Core.List.{List, [], ◌∷◌}
+use mathlib.Core.List.{List, [], ◌∷◌, ◌++◌}
 use Prim.Native.Nat.{ℕ, suc, ◌+◌, ◌≤◌, ◌<◌, ◌^◌}
-use native.Mathlib.Decide.{dec_lt}
 use native.Mathlib.Nat.{zero-add}
 use native.Mathlib.Omega.{arith}
 use borrow.Author.Tests.{ltb-true, ne_eqb}
-use lib.ListN.{length, get_or, drop, drop_of_length-le}
+use lib.ListN.{length, get_or}
 use lib.Dec.{ltb, eqb}
-use lib.Seq.{drop-cons}
 use Rattle.laws.specs.Sum.{sum}
-use Rattle.graph.proofs.Formed.{both_true}
+use Rattle.laws.proofs.Test.{both_true}
 use Rattle.graph.specs.Graph.{Graph}
 use Rattle.machine.specs.Machine.{Setting, State, Worker, idle, asking, denied, ended, given, busy, Entry, all_ended, entries, turn, turns}
 use Rattle.machine.specs.Accepted.{Accepted}
 use Rattle.machine.specs.Sound.{Sound}
 use Rattle.desk.specs.Checks.{schedule_fits}
-use Rattle.desk.proofs.Schedule.{pair_is}
 use Rattle.theorems.proofs.Kept.{sound_turn}
 use Rattle.theorems.proofs.Progress.{counts_grow}
 use Rattle.theorems.proofs.Ended.{ended_turns}
 use Rattle.step.specs.declared.Setup.{Setup}
 use Rattle.step.specs.Counting.{running?}
-use Rattle.step.specs.declared.Progress.{Progress}
-use Rattle.step.specs.Held.{Memory, memory, setting_of, Holds}
+use Rattle.step.specs.Held.{Memory, setting_of, Holds}
 use Rattle.step.specs.Turned.{Ready, Does}
 use Rattle.turns.specs.Lent.{IsLent}
 use Rattle.marker.specs.Stages.{IsScheduled, scheduled}
 
--- ---- a schedule that fits, from its place i on
+-- ---- what is left of a schedule that fits
 
-module _ (W : ℕ) (l : List ℕ) (i : ℕ) (ok : schedule_fits W (drop i l) ≡ true) (h : i < length l) where
-  pair_there : i + 1 < length l
-  unfolding schedule_fits
-  pair_there = by_cases (dec_lt (i + 1) (length l)) (λ p. p) (λ p. absurd (odd p))
+-- an entry and what is left behind it
+module _ {rest : List ℕ} (pair rest' : List ℕ) (is : rest ≡ pair ++ rest') (two : length pair ≡ 2) where
+  entry_is : rest ≡ get_or pair 0 0 ∷ get_or pair 1 0 ∷ rest'
+  entry_is = is ∙ by pair two
     where
-      odd : (i + 1 < length l → ⊥) → ⊥
-      odd p =
-          let q : length l ≤ suc i = omega (arith, p) in
-          let d : drop i l ≡ get_or l i 0 ∷ [] =
-          drop-cons l i 0 h ∙ ap (λ (t : List ℕ). get_or l i 0 ∷ t) (drop_of_length-le l q) in
-          let e : true ≡ false = sym ok ∙ ap (λ (t : List ℕ). schedule_fits W t) d in
-          let z : ◌≡◌ {A = ℕ} 0 1 = cc in
-          omega arith
+      by : (l : List ℕ) → length l ≡ 2 → l ++ rest' ≡ get_or l 0 0 ∷ get_or l 1 0 ∷ rest'
+      by [] e = absurd (omega arith)
+      by (b ∷ []) e = absurd (omega arith)
+      by (b ∷ v ∷ []) e = refl
+      by (b ∷ v ∷ x ∷ l) e = absurd (omega arith)
 
-  pair_fits : (ltb (get_or l i 0) W ≡ true) × (schedule_fits W (drop (i + 2) l) ≡ true)
+  entry_fits : (W : ℕ) → schedule_fits W rest ≡ true → (ltb (get_or pair 0 0) W ≡ true) × (schedule_fits W rest' ≡ true)
   unfolding schedule_fits
-  pair_fits =
-      both_true (ltb (get_or l i 0) W) (schedule_fits W (drop (i + 2) l))
-      (sym (ap (λ (t : List ℕ). schedule_fits W t) (pair_is l i h (omega (arith, pair_there)))) ∙ ok)
+  entry_fits W ok =
+      both_true (ltb (get_or pair 0 0) W) (schedule_fits W rest') (sym (ap (λ (t : List ℕ). schedule_fits W t) entry_is) ∙ ok)
 
-  worker_low : get_or l i 0 < W
-  worker_low = ltb-true (get_or l i 0) W pair_fits.0
+-- where not two bytes are left, none is
+none_left : (W : ℕ) (rest : List ℕ) → schedule_fits W rest ≡ true → length rest < 2 → rest ≡ []
+unfolding schedule_fits
+none_left W [] ok h = refl
+none_left W (b ∷ []) ok h = absurd (cc)
+none_left W (b ∷ v ∷ rest) ok h = absurd (omega arith)
 
 -- ---- nobody is running
 
@@ -74,18 +69,18 @@ all_ended_lem (busy c n p rs ∷ ws) = some_running (sum running? ws)
 -- ---- the loop
 
 module _ {g : Setup} {offsets targets schedule : List ℕ} {μ₀ : Memory} where
-  -- what is held before the entry at i
-  pub record LoopAt (x : Ready (IsScheduled g offsets targets schedule) g μ₀) (i : ℕ) (μ : Memory) : Type 0 where
+  -- what is held where so much of the schedule is left
+  pub record LoopAt (x : Ready (IsScheduled g offsets targets schedule) g μ₀) (rest : List ℕ) (μ : Memory) : Type 0 where
     pub state : State
     pub sound : Sound x.graph x.scene.starts g.workers (setting_of g) state
     pub holds : Holds x.graph g state μ
-    pub fits : schedule_fits g.workers (drop i schedule) ≡ true
-    pub left : turns x.graph (setting_of g) state (entries (drop i schedule)) ≡ scheduled g schedule x.graph x.state
-    pub handed_room : state.counts.handed + length (entries (drop i schedule)) < 2 ^ 64
-    pub moved_room : state.counts.moved + length (entries (drop i schedule)) < 2 ^ 64
+    pub fits : schedule_fits g.workers rest ≡ true
+    pub left : turns x.graph (setting_of g) state (entries rest) ≡ scheduled g schedule x.graph x.state
+    pub handed_room : state.counts.handed + length (entries rest) < 2 ^ 64
+    pub moved_room : state.counts.moved + length (entries rest) < 2 ^ 64
 
   module _ (x : Ready (IsScheduled g offsets targets schedule) g μ₀) where
-    pub at_start : LoopAt x 0 μ₀
+    pub at_start : LoopAt x schedule μ₀
     at_start =
         record {
           state = x.state;
@@ -97,7 +92,7 @@ module _ {g : Setup} {offsets targets schedule : List ℕ} {μ₀ : Memory} wher
           moved_room = x.here.moved_room;
         }
 
-    module _ {i : ℕ} {μ : Memory} (r : LoopAt x i μ) where
+    module _ {rest : List ℕ} {μ : Memory} (r : LoopAt x rest μ) where
       -- no entry is left, or nobody is running: the state is the answer
       abbrev Done : Type 0
       Done = Holds x.graph g (scheduled g schedule x.graph x.state) μ
@@ -105,36 +100,31 @@ module _ {g : Setup} {offsets targets schedule : List ℕ} {μ₀ : Memory} wher
       done_by : r.state ≡ scheduled g schedule x.graph x.state → Done
       done_by e = subst (λ (t : State). Holds x.graph g t μ) e r.holds
 
-      pub at_end : length schedule ≤ i → Done
+      pub at_end : length rest < 2 → Done
       unfolding turns entries
       at_end h =
-          let d : entries (drop i schedule) ≡ [] = ap entries (drop_of_length-le schedule h) in
+          let d : entries rest ≡ [] = ap entries (none_left g.workers rest r.fits h) in
           done_by (ap (λ (t : List Entry). turns x.graph (setting_of g) r.state t) (sym d) ∙ r.left)
 
       pub at_stop : μ.progress.running ≡ 0 → Done
       at_stop e =
           let none = sym r.holds.running_is ∙ e in
           let all : all_ended r.state.workers ≡ true = sym (all_ended_lem r.state.workers) ∙ ap (λ (k : ℕ). eqb k 0) none in
-          done_by (sym (ended_turns x.graph (setting_of g) r.state all (entries (drop i schedule))) ∙ r.left)
+          done_by (sym (ended_turns x.graph (setting_of g) r.state all (entries rest)) ∙ r.left)
 
-      -- an entry is two bytes
-      pub at_pair : i < length schedule → i + 1 < length schedule
-      at_pair h = pair_there g.workers schedule i r.fits h
-
-      -- a turn
-      module _ (h : i < length schedule) where
-        -- the entry at i and the entries behind it
+      -- a turn: the next two bytes are an entry
+      module _ (pair rest' : List ℕ) (is : rest ≡ pair ++ rest') (two : length pair ≡ 2) where
         abbrev here : Entry
-        here = record { worker = get_or schedule i 0; named = get_or schedule (i + 1) 0 }
+        here = record { worker = get_or pair 0 0; named = get_or pair 1 0 }
 
-        next_is : entries (drop i schedule) ≡ here ∷ entries (drop (i + 2) schedule)
+        next_is : entries rest ≡ here ∷ entries rest'
         unfolding entries
-        next_is = ap entries (pair_is schedule i h (omega (arith, at_pair h)))
+        next_is = ap entries (entry_is pair rest' is two)
 
-        next_count : length (entries (drop i schedule)) ≡ suc (length (entries (drop (i + 2) schedule)))
+        next_count : length (entries rest) ≡ suc (length (entries rest'))
         next_count = ap length next_is
 
-        pub at_turn : Ready (IsLent g offsets targets (get_or schedule i 0)) g μ
+        pub at_turn : Ready (IsLent g offsets targets (get_or pair 0 0)) g μ
         at_turn =
             record {
               graph = x.graph;
@@ -154,13 +144,12 @@ module _ {g : Setup} {offsets targets schedule : List ℕ} {μ₀ : Memory} wher
               here =
                   record {
                     graph_is = x.here.graph_is;
-                    low = worker_low g.workers schedule i r.fits h;
+                    low = ltb-true (get_or pair 0 0) g.workers (entry_fits pair rest' is two g.workers r.fits).0;
                   };
             }
 
-        pub at_next : {μ' : Memory}
-            → Does (IsLent g offsets targets (get_or schedule i 0)) g (get_or schedule i 0) (get_or schedule (i + 1) 0) μ μ'
-            → LoopAt x (i + 2) μ'
+        pub at_next : {μ' : Memory} → Does (IsLent g offsets targets (get_or pair 0 0)) g (get_or pair 0 0) (get_or pair 1 0) μ μ'
+            → LoopAt x rest' μ'
         unfolding at_turn turns
         at_next does =
             let grown = counts_grow x.scene.accepted r.sound here in
@@ -168,18 +157,11 @@ module _ {g : Setup} {offsets targets schedule : List ℕ} {μ₀ : Memory} wher
               state = turn x.graph (setting_of g) r.state here;
               sound = sound_turn x.scene.accepted r.sound here;
               holds = does at_turn;
-              fits = (pair_fits g.workers schedule i r.fits h).1;
+              fits = (entry_fits pair rest' is two g.workers r.fits).1;
               left = sym (ap (λ (l : List Entry). turns x.graph (setting_of g) r.state l) next_is) ∙ r.left;
               handed_room = omega (arith, r.handed_room, next_count, grown.0);
               moved_room = omega (arith, r.moved_room, next_count, grown.1);
             }
-
-        -- and the turn tells how far it is
-        pub at_told : {marks work tallies regs : List ℕ} {p q : Progress}
-            → Does (IsLent g offsets targets (get_or schedule i 0)) g (get_or schedule i 0) (get_or schedule (i + 1) 0) μ (memory marks work tallies regs p)
-            → p ≡ q
-            → LoopAt x (i + 2) (memory marks work tallies regs q)
-        at_told {marks} {work} {tallies} {regs} does e = subst (λ (q : Progress). LoopAt x (i + 2) (memory marks work tallies regs q)) e (at_next does)
 
 -- ---- after the loop
 

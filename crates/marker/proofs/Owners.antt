@@ -7,13 +7,15 @@ use mathlib.Core.Logic.{◌↔◌}
 use Prim.Native.Nat.{ℕ, zero, suc}
 use native.Mathlib.Omega.{arith}
 use lib.ListN.{length}
+use Rattle.std.specs.Prelude.{Result}
+use Rattle.refusal.specs.declared.Refusal.{Refusal}
 use Rattle.machine.specs.Sound as state
 use Rattle.machine.specs.Call.{Call, graph_of, fault, answer_for}
 use Rattle.marker.specs.declared.Marked.{Marked}
 use Rattle.marker.specs.Answer.{row, Answered}
 
 -- a call that reports finished has no fault
-finished_faultless : {c : Call} {marks work tallies : List ℕ} {r : Marked} {marks' work' tallies' : List ℕ} → Answered c marks work tallies r marks' work' tallies'
+finished_faultless : {c : Call} {marks work tallies : List ℕ} {r : Result Marked Refusal} {marks' work' tallies' : List ℕ} → Answered c marks work tallies r marks' work' tallies'
     → (row r).finished ≡ true → fault c (length marks) (length work) (length tallies) ≡ 0
 finished_faultless {c} {marks} {work} {tallies} {r} a done = by (fault c (length marks) (length work) (length tallies)) a.row_is
   where
@@ -22,7 +24,7 @@ finished_faultless {c} {marks} {work} {tallies} {r} a done = by (fault c (length
     by (suc k) e = let z : ◌≡◌ {A = ℕ} 0 1 = cc in absurd (omega arith)
 
 -- whatever their W, D, K, schedules and buffers
-pub same_marked : {c c' : Call} {marks work tallies marks' work' tallies' m w t m' w' t' : List ℕ} {r r' : Marked} → Answered c marks work tallies r m w t
+pub same_marked : {c c' : Call} {marks work tallies marks' work' tallies' m w t m' w' t' : List ℕ} {r r' : Result Marked Refusal} → Answered c marks work tallies r m w t
     → Answered c' marks' work' tallies' r' m' w' t' → graph_of c' ≡ graph_of c → c'.starts ≡ c.starts → (row r).finished ≡ true
     → (row r').finished ≡ true → (v : ℕ) → state.Marked m v ↔ state.Marked m' v
 same_marked a a' g s done done' v =

@@ -7,14 +7,11 @@ use lib.ListN.{length, replicate, take}
 use lib.Dec.{eqb}
 use lib.Seq.{length-take-le}
 use Rattle.refusal.specs.declared.Refusal.{Refusal}
-use Rattle.refusal.specs.declared.Verdict.{Verdict}
-use Rattle.refusal.specs.declared.Verdict.TheVariants.{Fine, Faulty}
-use Rattle.refusal.specs.Number.{number, number_of}
+use Rattle.std.specs.Prelude.{Result, Ok, Err, Option}
+use Rattle.refusal.specs.Number.{number}
 use Rattle.refusal.proofs.Numbers.{numbered}
 use Rattle.graph.specs.Graph.{Graph, objects}
 use Rattle.desk.specs.declared.Lengths.{Lengths}
-use Rattle.desk.specs.declared.SavedWords.{SavedWords}
-use Rattle.desk.specs.Limits.{most_workers}
 use Rattle.desk.specs.Kept.{unless_refused}
 use Rattle.machine.specs.Machine as machine
 use Rattle.machine.specs.Machine.{State, start, entries, all_ended, result}
@@ -35,7 +32,6 @@ use Rattle.step.specs.Held.{Memory, memory, setting_of, Holds}
 use Rattle.step.specs.Turned.{Ready}
 use Rattle.step.proofs.Counting.{countable}
 use Rattle.marker.specs.declared.Marked.{Marked}
-use Rattle.marker.specs.declared.Marked.TheVariants.{Refused}
 use Rattle.marker.specs.Answer.{row, Finds, Answered}
 use Rattle.marker.specs.Stages.{IsScheduled, scheduled, Settling, Settled, setup_of, Runnable, Leaves, Runs, row_of}
 use Rattle.marker.specs.Starting.{Startable, Started}
@@ -80,7 +76,7 @@ module _ {g : Setup} {offsets targets schedule : List ℕ} {μ : Memory} (R : Re
 
 -- the answer is the state's
 pub row_left : {G : Graph} {g : Setup} {s : State} {μ : Memory} → Leaves G g s μ → (r : Marked)
-    → ((x : Countable μ.tallies g.workers μ.progress) → row r ≡ row_of μ.progress x.tallies) → row r ≡ result s
+    → ((x : Countable μ.tallies g.workers μ.progress) → row (Ok r) ≡ row_of μ.progress x.tallies) → row (Ok r) ≡ result s
 row_left {s = s} {μ} l r e =
     let f : eqb μ.progress.running 0 ≡ all_ended s.workers = ap (λ (k : ℕ). eqb k 0) l.held.running_is ∙ all_ended_lem s.workers in
     e l.countable ∙ rw (l.counted, f, l.held.counts_are) refl
@@ -144,31 +140,33 @@ zeros_front zero m h = refl
 zeros_front (suc k) zero h = absurd (omega arith)
 zeros_front (suc k) (suc m) h = ap (λ (t : List ℕ). 0 ∷ t) (zeros_front k m (omega arith))
 
-module _ {c : Call} {l : Lengths} (x : Checked c l) where
-  pub workers_few : c.workers ≤ most_workers
-  workers_few = x.accepted.workers_limit
+module _ {c : Call} {g : Setup} (is : g ≡ setup_of c) where
+  pub registers_room : {l : Lengths} → Checked c l → block_words * g.workers ≤ register_words
+  registers_room x = rw is (omega (arith, x.accepted.workers_limit))
 
-  pub registers_long : length (take {A = ℕ} (block_words * c.workers) (replicate register_words 0)) ≡ block_words * c.workers
-  registers_long = length-take-le (block_words * c.workers) (replicate register_words 0) (omega (arith, workers_few))
+  pub registers_long : {l : Lengths} → Checked c l
+      → block_words * g.workers ≡ length (take {A = ℕ} (block_words * g.workers) (replicate register_words 0))
+  registers_long x = sym (length-take-le (block_words * g.workers) (replicate register_words 0) (omega (arith, registers_room x)))
 
-pub runnable : {c : Call} (marks work tallies : List ℕ) {saved : SavedWords}
-    → Checked c (record { marks = length marks; work = length work; tallies = length tallies; saved = saved })
-    → Runnable c marks work tallies (take (block_words * c.workers) (replicate register_words 0))
-runnable {c} marks work tallies {saved} x =
-    record { saved = saved; passed = x; regs_are = zeros_front (block_words * c.workers) register_words (omega (arith, workers_few x)) }
+  pub runnable : (marks work tallies : List ℕ) {saved : Option ℕ}
+      → Checked c (record { marks = length marks; work = length work; tallies = length tallies; saved = saved })
+      → Runnable c marks work tallies (take (block_words * g.workers) (replicate register_words 0))
+  runnable marks work tallies {saved} x =
+      rw is
+      (record { saved = saved; passed = x; regs_are = zeros_front (block_words * c.workers) register_words (omega (arith, x.accepted.workers_limit)) })
 
 -- ---- the promise
 
 module _ (c : Call) (marks work tallies : List ℕ) where
   -- what the call leaves, by the number k of the fault
-  abbrev Gives : ℕ → Marked → List ℕ → List ℕ → List ℕ → Type 0
+  abbrev Gives : ℕ → Result Marked Refusal → List ℕ → List ℕ → List ℕ → Type 0
   Gives k r marks' work' tallies' =
       (row r ≡ answer_for k c)
       × ((marks' ≡ unless_refused k (final c).marks marks)
       × ((work' ≡ unless_refused k (machine.memory (objects (graph_of c)) (final c).workers) work)
       × (tallies' ≡ unless_refused k (tallies_words (final c).tallies) tallies)))
 
-  promised : {r : Marked} {marks' work' tallies' : List ℕ} → Gives (fault c (length marks) (length work) (length tallies)) r marks' work' tallies'
+  promised : {r : Result Marked Refusal} {marks' work' tallies' : List ℕ} → Gives (fault c (length marks) (length work) (length tallies)) r marks' work' tallies'
       → Answered c marks work tallies r marks' work' tallies'
   promised l =
       record {
@@ -181,22 +179,24 @@ module _ (c : Call) (marks work tallies : List ℕ) where
       }
 
   -- any other number than 0 is a refusal, and the buffers stay
-  refused : (cause : Refusal) (k : ℕ) → number cause ≡ k → Gives k (Refused cause) marks work tallies
+  refused : (cause : Refusal) (k : ℕ) → number cause ≡ k → Gives k (Err cause) marks work tallies
   refused cause zero e = absurd (omega (arith, numbered cause))
   refused cause (suc k) e = (ap refused_row e, (refl, (refl, refl)))
 
-module _ {c : Call} {marks work tallies : List ℕ} {v : Verdict} (found : Finds v c (lengths (length marks) (length work) (length tallies))) where
+module _ {A : Type 0} {c : Call} {marks work tallies : List ℕ} where
   -- by what the checks find
-  pub answered_refused : {cause : Refusal} → v ≡ Faulty cause → Answered c marks work tallies (Refused cause) marks work tallies
-  answered_refused {cause} e =
-      promised c marks work tallies (refused c marks work tallies cause (fault c (length marks) (length work) (length tallies)) (sym (ap number_of e) ∙ found.number_is))
+  pub answered_refused : {cause : Refusal} → Finds {A = A} (Err cause) c (lengths (length marks) (length work) (length tallies))
+      → Answered c marks work tallies (Err cause) marks work tallies
+  answered_refused {cause} found =
+      promised c marks work tallies (refused c marks work tallies cause (fault c (length marks) (length work) (length tallies)) found.number_is)
 
-  pub answered_fine : v ≡ Fine → {marks' work' tallies' regs' : List ℕ} {p : Progress} → Runs c (memory marks' work' tallies' regs' p)
-      → (r : Marked) → ((x : Countable tallies' c.workers p) → row r ≡ row_of p x.tallies)
-      → Answered c marks work tallies r marks' work' tallies'
-  answered_fine e d r f =
-      promised c marks work tallies (rw (sym found.number_is ∙ ap number_of e) (row_left d r f, (d.held.marks_are, (d.work_is, d.held.tallies_are))))
+  pub answered_fine : {a : A} → Finds (Ok a) c (lengths (length marks) (length work) (length tallies))
+      → {marks' work' tallies' regs' : List ℕ} {p : Progress} → Runs c (memory marks' work' tallies' regs' p)
+      → {g : Setup} → g ≡ setup_of c → {r : Marked} → ((x : Countable tallies' g.workers p) → row (Ok r) ≡ row_of p x.tallies)
+      → Answered c marks work tallies (Ok r) marks' work' tallies'
+  answered_fine found d is {r} f =
+      promised c marks work tallies (rw (sym found.number_is) (row_left d r (rw is at f), (d.held.marks_are, (d.work_is, d.held.tallies_are))))
 
 -- the checks that find nothing are passed
-pub passed : {c : Call} {l : Lengths} {v : Verdict} → Finds v c l → v ≡ Fine → Checked c l
-passed {c} {l} found e = checked c l (sym found.number_is ∙ ap number_of e)
+pub passed : {A : Type 0} {c : Call} {l : Lengths} {a : A} → Finds (Ok a) c l → Checked c l
+passed {c = c} {l} found = checked c l (sym found.number_is)

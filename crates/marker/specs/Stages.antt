@@ -1,9 +1,8 @@
 -- What the later stages of a call without a fault ask and leave: the turns, and the work memory written out.
-use Rattle.std.specs.Prelude.{ℕ, suc, ◌+◌, ◌*◌, ◌≤◌, ◌<◌, ◌^◌, ◌≡◌, true, List, length, get_or, replicate, ltb, eqb}
+use Rattle.std.specs.Prelude.{ℕ, suc, ◌+◌, ◌*◌, ◌≤◌, ◌<◌, ◌^◌, ◌≡◌, true, List, length, get_or, replicate, Option, ltb, eqb}
 use Rattle.laws.specs.Choice.{pick}
 use Rattle.graph.specs.Graph.{Graph, graph, objects}
 use Rattle.graph.specs.Limits.{most_objects}
-use Rattle.desk.specs.declared.SavedWords.{SavedWords}
 use Rattle.desk.specs.declared.Settings.{Settings}
 use Rattle.desk.specs.Limits.{most_workers}
 use Rattle.desk.specs.Lengths.{stretch_length}
@@ -76,7 +75,7 @@ setup_of c = setup_for (record { workers = c.workers; batch = c.batch; cutoff = 
 
 -- a call that has passed the checks, whether saved words are lent or not, with registers that are all zero
 pub record Runnable (c : Call) (marks work tallies regs : List ℕ) : Type 0 where
-  pub saved : SavedWords
+  pub saved : Option ℕ
   pub passed : Checked c (record { marks = length marks; work = length work; tallies = length tallies; saved = saved })
   pub regs_are : regs ≡ replicate (block_words * c.workers) 0
 

@@ -3,39 +3,29 @@
 
 pub mod start;
 
-ghost use Rattle.std.specs.Prelude.{◌≡◌, ◌≤◌};
+ghost use Rattle.std.specs.Prelude.{◌≡◌, ◌≤◌, IfOk};
 ghost use Rattle.graph.specs.Limits.{most_objects};
 ghost use Rattle.step.specs.Counting.{Countable};
 ghost use Rattle.step.specs.Held.{memory};
 ghost use Rattle.step.specs.Turned.{Ready};
 ghost use Rattle.marker.specs.Answer.{call_of, row, Finds, Answered};
-ghost use Rattle.marker.specs.Stages.{IsScheduled, DoesAll, top_for, Settling, Settled, row_of, setup_for};
+ghost use Rattle.marker.specs.Stages.{IsScheduled, DoesAll, top_for, Settling, Settled, row_of, setup_of, setup_for};
 
-use desk::{Lengths, SavedWords, Settings, places};
+use desk::{Lengths, Settings, places};
 use machine::Counts;
-use refusal::{Refusal, Verdict};
-use step::{Entry, Outcome, Progress, Setup, Step, counts};
+use refusal::{Checked, Refusal};
+use std::ops::ControlFlow;
+use step::{Entry, Progress, Setup, Step, counts};
 use worker::registers::Block;
 use worker::stretch::Top;
 use worker::{registers, stretch};
 
+// What the turns of an accepted call come to.
 #[derive(Clone, Copy)]
 pub enum Marked {
     // All workers have ended.
     Finished(Counts),
     Unfinished(Counts),
-    Refused(Refusal),
-}
-
-// The number of a refusal, or 0.
-pub fn refusal_of(marked: Marked) -> u8
-    ensures { result ≡ (row marked).number }
-{
-    match marked {
-        Marked::Finished(_) => 0,
-        Marked::Unfinished(_) => 0,
-        Marked::Refused(cause) => refusal::number_of(cause),
-    }
 }
 
 // The checks, in their order.
@@ -46,33 +36,46 @@ pub fn check(
     settings: Settings,
     schedule: &[u8],
     lengths: Lengths,
-) -> Verdict
+) -> Checked
     ensures { Finds result (call_of offsets.now targets.now starts.now settings schedule.now) lengths }
 {
     if checks::settings_outside(settings) {
-        return Verdict::Faulty(Refusal::Setting);
+        return Err(Refusal::Setting);
     }
     if checks::graph_outside(offsets.len(), targets.len()) {
-        return Verdict::Faulty(Refusal::Count);
+        return Err(Refusal::Count);
     }
     if checks::lengths_wrong(offsets.len() - 1, settings.workers, lengths) {
-        return Verdict::Faulty(Refusal::Buffer);
+        return Err(Refusal::Buffer);
     }
-    if let Verdict::Faulty(cause) = checks::check_store(offsets, targets, starts) {
-        return Verdict::Faulty(cause);
-    }
+    checks::check_store(offsets, targets, starts)?;
     if !checks::schedule_fits(schedule, settings.workers) {
-        return Verdict::Faulty(Refusal::Schedule);
+        return Err(Refusal::Schedule);
     }
-    Verdict::Fine
+    Ok(())
+}
+
+// The checks, and what an accepted call is set to.
+pub fn accept(
+    offsets: &[u32],
+    targets: &[u32],
+    starts: &[u32],
+    settings: Settings,
+    schedule: &[u8],
+    lengths: Lengths,
+) -> Result<Setup, Refusal>
+    ensures finds { Finds result (call_of offsets.now targets.now starts.now settings schedule.now) lengths }
+    ensures setup_is { IfOk result (λ g. g ≡ setup_of (call_of offsets.now targets.now starts.now settings schedule.now)) }
+{
+    check(offsets, targets, starts, settings, schedule, lengths)?;
+    Ok(setup_of(settings, offsets.len() - 1))
 }
 
 // The runs that a block tells of: none where the worker carries nothing.
 pub fn top_of(r: Block) -> Top
     ensures { result ≡ top_for r }
 {
-    let status = r.status;
-    if status < registers::GIVEN {
+    if r.status < registers::GIVEN {
         return Top {
             used: 0,
             first: 0,
@@ -87,6 +90,7 @@ pub fn top_of(r: Block) -> Top
 }
 
 // Writes each worker's stretch out as the call leaves it.
+// Stays (3): once what `chunks_exact_mut` lends is given back, a proof knows its length alone, and not the words written.
 pub fn settle(setup: Setup, work: &mut [u32], regs: &[u32])
     requires { Settling setup.workers setup.stretch work.old regs.now }
     ensures { Settled setup.workers setup.stretch work.old regs.now work.new }
@@ -121,25 +125,19 @@ pub fn take_turns(
         return begun;
     }
     let mut p = begun;
-    let mut i: usize = 0;
-    while i < schedule.len() {
-        let worker = schedule[i];
-        let named = schedule[i + 1];
-        let entry = Entry { worker, named };
+    for pair in schedule.chunks_exact(2) {
+        let entry = Entry {
+            worker: pair[0],
+            named: pair[1],
+        };
         let step = Step {
             setup,
             progress: p,
             entry,
         };
-        let outcome = turns::turn(offsets, targets, marks, work, tallies, regs, step);
-        i += 2;
-        match outcome {
-            Outcome::Goes(q) => {
-                p = q;
-            }
-            Outcome::Over(q) => {
-                return q;
-            }
+        match turns::turn(offsets, targets, marks, work, tallies, regs, step) {
+            ControlFlow::Continue(q) => p = q,
+            ControlFlow::Break(q) => return q,
         }
     }
     p
@@ -148,14 +146,14 @@ pub fn take_turns(
 // The answer of a collection that is so far.
 pub fn answer(tallies: &[u64], workers: u32, p: Progress) -> Marked
     requires { Countable tallies.now workers p }
-    ensures { (x : Countable tallies.now workers p) → row result ≡ row_of p x.tallies }
+    ensures { (x : Countable tallies.now workers p) → row (Ok result) ≡ row_of p x.tallies }
 {
     let all = counts::counted(tallies, workers, p);
-    let running = p.running;
-    if running == 0 {
-        return Marked::Finished(all);
+    if p.running == 0 {
+        Marked::Finished(all)
+    } else {
+        Marked::Unfinished(all)
     }
-    Marked::Unfinished(all)
 }
 
 // W, D, K and the length of a stretch, for n objects.
@@ -181,7 +179,7 @@ pub fn mark(
     marks: &mut [u8],
     work: &mut [u32],
     tallies: &mut [u64],
-) -> Marked
+) -> Result<Marked, Refusal>
     ensures { Answered (call_of offsets.now targets.now starts.now settings schedule.now)
         marks.old work.old tallies.old result marks.new work.new tallies.new }
 {
@@ -189,22 +187,15 @@ pub fn mark(
         marks: marks.len(),
         work: work.len(),
         tallies: tallies.len(),
-        saved: SavedWords::Absent,
+        saved: None,
     };
-    let verdict = check(offsets, targets, starts, settings, schedule, lengths);
-    if let Verdict::Faulty(cause) = verdict {
-        return Marked::Refused(cause);
-    }
-    let setup = setup_of(settings, offsets.len() - 1);
-    let workers = settings.workers;
+    let setup = accept(offsets, targets, starts, settings, schedule, lengths)?;
     let mut registers = [0u32; registers::ALL];
-    let size = registers::BLOCK * workers as usize;
-    let regs = &mut registers[..size];
-    let begun = start::start(offsets, targets, starts, setup, marks, work, regs);
-    slices::clear_u64s(tallies);
+    let regs = &mut registers[..registers::BLOCK * setup.workers as usize];
+    let begun = start::start(offsets, targets, starts, setup, marks, work, tallies, regs);
     let p = take_turns(
         offsets, targets, setup, schedule, marks, work, tallies, regs, begun,
     );
     settle(setup, work, regs);
-    answer(tallies, workers, p)
+    Ok(answer(tallies, setup.workers, p))
 }

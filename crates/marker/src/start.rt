@@ -16,14 +16,6 @@ pub struct Gathered {
     pub at: usize,
 }
 
-// No object is marked.
-fn clear_marks(marks: &mut [u8])
-    ensures { marks.new ≡ replicate (length marks.old) 0 }
-{
-    let n = marks.len();
-    slices::clear_bytes(marks, 0, n);
-}
-
 // One start more: where it is not marked yet, it adds a mark, and its run if it has references.
 fn gather_one(offsets: &[u32], v: u32, marks: &mut [u8], s: &mut [u32], t: Gathered) -> Gathered
     requires { Gathering offsets.now v marks.old s.old t }
@@ -39,11 +31,7 @@ fn gather_one(offsets: &[u32], v: u32, marks: &mut [u8], s: &mut [u32], t: Gathe
     let first = offsets[i];
     let end = offsets[i + 1];
     if end <= first {
-        return Gathered {
-            live,
-            carried: t.carried,
-            at: t.at,
-        };
+        return Gathered { live, ..t };
     }
     let at = t.at - 2;
     s[at] = first;
@@ -65,8 +53,8 @@ fn gather(offsets: &[u32], starts: &[u32], marks: &mut [u8], s: &mut [u32]) -> G
         carried: 0,
         at: s.len(),
     };
-    for i in 0..starts.len() {
-        t = gather_one(offsets, starts[i], marks, s, t);
+    for v in starts {
+        t = gather_one(offsets, *v, marks, s, t);
     }
     t
 }
@@ -84,7 +72,7 @@ fn start_stretch(
     requires { Startable offsets.now targets.now starts.now setup marks.old regs.old × (length s.old ≡ setup.stretch) }
     ensures { StretchStarted offsets.now targets.now starts.now setup marks.new s.new regs.new result }
 {
-    clear_marks(marks);
+    marks.fill(0);
     let t = gather(offsets, starts, marks, s);
     let starts = t.live as u64;
     let carried = t.carried;
@@ -111,7 +99,7 @@ fn start_stretch(
     counts::begun(starts, 1, setup.workers as u64)
 }
 
-// The start of a checked call in its lent memories, whose registers are all zero. The tallies are cleared by the caller.
+// The start of a checked call in its lent memories, whose registers are all zero.
 pub fn start(
     offsets: &[u32],
     targets: &[u32],
@@ -119,19 +107,14 @@ pub fn start(
     setup: Setup,
     marks: &mut [u8],
     work: &mut [u32],
+    tallies: &mut [u64],
     regs: &mut [u32],
 ) -> Progress
     requires { Startable offsets.now targets.now starts.now setup marks.old regs.old × (length work.old ≡ setup.workers * setup.stretch) }
-    ensures { Started offsets.now targets.now starts.now setup marks.new work.new regs.new result }
+    ensures started { Started offsets.now targets.now starts.now setup marks.new work.new regs.new result }
+    ensures tallies_after { tallies.new ≡ replicate (length tallies.old) 0 }
 {
-    let len = setup.stretch;
-    start_stretch(
-        offsets,
-        targets,
-        starts,
-        setup,
-        marks,
-        &mut work[0..len],
-        regs,
-    )
+    tallies.fill(0);
+    let s = &mut work[..setup.stretch];
+    start_stretch(offsets, targets, starts, setup, marks, s, regs)
 }

@@ -1,6 +1,6 @@
 -- A hand-over in the work memory: the first k references end in the run being followed, or in a pair of the stretch.
 use mathlib.Core.Path.{◌≡◌, refl, sym, ap, ◌∙◌, subst}
-use mathlib.Core.Logic.{◌≢◌, inl, inr, ⊎_elim}
+use mathlib.Core.Logic.{◌≢◌}
 use mathlib.Core.List.{List, ◌∷◌, ◌++◌}
 use Prim.Native.Nat.{ℕ, suc, ◌+◌, ◌-◌, ◌*◌, ◌≤◌, ◌<◌, ◌^◌}
 use native.Mathlib.Omega.{arith}
@@ -13,13 +13,13 @@ use Rattle.machine.specs.declared.frontier.Held.{Held}
 use Rattle.machine.specs.Split.{held, last_size}
 use Rattle.theorems.proofs.Split.{keep_first, held_tells}
 use Rattle.worker.specs.declared.stretch.Top.{Top}
-use Rattle.worker.specs.Stretch.{Holds, top_with, Told, below, Sharing, InFront, Split, Copyable, Cuttable, CutFound, Cleft, KeptAbove}
+use Rattle.worker.specs.Stretch.{Holds, top_with, Told, below, Sharing, InFront, Split, Cuttable, CutFound, Cleft, KeptAbove}
 use Rattle.worker.proofs.Pairs.{holds_none, holds_same}
 use Rattle.worker.proofs.Parting.{Topped, topped, told_on, told_used, told_one, front as top_of, total, Lowest, lowest_first, lowest_end, back, back_room, told_back, found_back, kept_back}
 use Rattle.worker.proofs.Cutting.{split_low, split_high, split_first, split_end, split_below}
 use Rattle.step.specs.Held.{stretch_at}
 use Rattle.poll.specs.Dividing.{Dividing, Cutting, InBack, Divided, HeldIn}
-use Rattle.step.proofs.Parts.{apart_whole, length_stretch, get_or_stretch, length_back, back_here, back_other, length_copied, copied_here, copied_other}
+use Rattle.step.proofs.Parts.{length_stretch, get_or_stretch, length_back, back_here, back_other, length_copied, copied_here, copied_other}
 
 -- a stretch as it is lent
 abbrev lent : ℕ → ℕ → List ℕ → List ℕ
@@ -97,17 +97,8 @@ module _ {L : ℕ} {work : List ℕ} {b a : ℕ} {t : Top} {k : ℕ} where
     used_room = omega (arith, (taken x).holds.room, length_stretch L b work x.giver_room)
 
     -- words of one stretch may be copied to the other
-    pub copyable : (count : ℕ) → count ≤ L → Copyable work (b * L) (a * L) count
-    copyable count h =
-        record {
-          source = omega (arith, x.giver_room);
-          target = omega (arith, x.asker_room);
-          apart =
-              ⊎_elim
-              (λ (p : a * L + L ≤ b * L). inl (omega arith))
-              (λ (p : b * L + L ≤ a * L). inr (omega arith))
-              (apart_whole L a b x.other);
-        }
+    pub copy_room : (count : ℕ) → count ≤ L → (b * L + count ≤ length work) × (a * L + count ≤ length work)
+    copy_room count h = (omega (arith, x.giver_room), omega (arith, x.asker_room))
 
     -- the asker's stretch after so many words are copied to it, and the giver's
     module _ (count : ℕ) (few : count ≤ L) where
@@ -163,10 +154,12 @@ module _ {L : ℕ} {work : List ℕ} {b a : ℕ} {t : Top} {k : ℕ} where
         let giver = subst (λ (i : ℕ). Holds (stretch_at L b work) i rs) (sym n) h.holds in
         record { top = h.top; holds = subst (λ (i : ℕ). Holds w i rs) n (copy_holds x gave.used few_behind giver) }
 
-    pub divided_front : (work' : List ℕ) → work' ≡ paste work (a * L) (drop (b * L) work) gave.used
+    pub divided_front : (work' : List ℕ) → work' ≡ paste work (a * L) (drop (b * L) work) (b * L + gave.used - b * L)
         → Divided L work b a t k work' (top_with 0 t.first (t.first + k)) gave
     divided_front work' is =
-        subst (λ (w : List ℕ). Divided L work b a t k w (top_with 0 t.first (t.first + k)) gave) (sym is)
+        let n : b * L + gave.used - b * L ≡ gave.used = omega arith in
+        subst (λ (w : List ℕ). Divided L work b a t k w (top_with 0 t.first (t.first + k)) gave)
+        (sym (is ∙ ap (λ (i : ℕ). paste work (a * L) (drop (b * L) work) i) n))
         (record {
           long = copy_long x gave.used few_behind;
           giver = λ y. front (taken y) k y.some (omega (arith, (taken y).end_is)) _;
@@ -226,7 +219,12 @@ module _ {L : ℕ} {work : List ℕ} {b a : ℕ} {t : Top} {k : ℕ} where
         }
 
     -- the words below the pair are copied, which leaves the giver's stretch as it was
-    module _ (work₁ : List ℕ) (is : work₁ ≡ paste work (a * L) (drop (b * L) work) (place - 2)) where
+    module _ (work₁ : List ℕ) (copied : work₁ ≡ paste work (a * L) (drop (b * L) work) (b * L + (place - 2) - b * L)) where
+      is : work₁ ≡ paste work (a * L) (drop (b * L) work) (place - 2)
+      is =
+          let n : b * L + (place - 2) - b * L ≡ place - 2 = omega arith in
+          copied ∙ ap (λ (i : ℕ). paste work (a * L) (drop (b * L) work) i) n
+
       few : place - 2 ≤ L
       few = omega (arith, high)
 
@@ -333,7 +331,10 @@ module _ {L : ℕ} {work : List ℕ} {b a : ℕ} {t : Top} {k : ℕ} where
         let s' = set (lent L b work) 1 (get_or (lent L b work) 1 0 - others) in
         let w : get_or work (b * L + 0) 0 + left ≡ get_or (lent L b work) 1 0 - others = rw (word_here 0 (omega arith)) cut_word in
         let n : b * L + 0 + 1 ≡ b * L + 1 = omega arith in
+        let none : b * L + (2 - 2) - b * L ≡ 0 = omega arith in
+        let same : work ≡ paste work (a * L) (drop (b * L) work) (b * L + (2 - 2) - b * L) =
+        rw none (paste-zero work (a * L) (drop (b * L) work)) in
         let kept = subst (λ (x : ℕ). KeptAbove (lent L b work) t.used 2 left (set (lent L b work) 1 x) t.used) cut_word
         (kept_back (lent L b work) t.used left (λ z. omega (arith, z, given_few))) in
         rw (w, n) at
-        (divided_below (record { cutting = back_cutting; small = small }) work (paste-zero work (a * L) (drop (b * L) work)) s' t.used (simp length-set) kept)
+        (divided_below (record { cutting = back_cutting; small = small }) work same s' t.used (simp length-set) kept)

@@ -27,13 +27,6 @@ struct Parts {
     pub given: Top,
 }
 
-// The smaller of two.
-fn least(a: u32, b: u32) -> u32
-    ensures { result ≡ min a b }
-{
-    if a < b { a } else { b }
-}
-
 // The front holds the last reference kept: the asker gets what is left of it and all pairs. (Where the
 // paper cuts `r1`, it hands over the rest of `r1` alone, which is too little.)
 fn cut_front(work: &mut [u32], len: usize, b: u32, asker: u32, top: Top, k: u32) -> Parts
@@ -43,13 +36,13 @@ fn cut_front(work: &mut [u32], len: usize, b: u32, asker: u32, top: Top, k: u32)
 {
     let from = b as usize * len;
     let given = stretch::behind_front(&work[from..from + len], top, k);
-    stretch::copy_words(work, from, asker as usize * len, given.used as usize);
+    work.copy_within(from..from + given.used as usize, asker as usize * len);
     Parts {
         held: Held::Front,
         kept: Top {
             used: 0,
-            first: top.first,
             end: top.first + k,
+            ..top
         },
         given,
     }
@@ -89,15 +82,11 @@ fn cut_middle(work: &mut [u32], len: usize, b: u32, asker: u32, top: Top, cut: C
     let at = from + below as usize;
     let next = work[at] + cut.left;
     let last = work[at + 1];
-    stretch::copy_words(work, from, asker as usize * len, below as usize);
+    work.copy_within(from..at, asker as usize * len);
     let used = stretch::keep_above(&mut work[from..from + len], top.used, cut);
     Parts {
         held: Held::Middle,
-        kept: Top {
-            used,
-            first: top.first,
-            end: top.end,
-        },
+        kept: Top { used, ..top },
         given: Top {
             used: below,
             first: next,
@@ -131,7 +120,7 @@ fn divide(work: &mut [u32], len: usize, b: u32, asker: u32, top: Top, k: u32, re
 fn shared(r: Block, batch: u32, half: u32, kept: Top) -> Block
     ensures { result ≡ shared_block r (min batch half) half kept }
 {
-    let k = least(batch, half);
+    let k = batch.min(half);
     Block {
         status: registers::LOOK,
         cell: 0,
@@ -141,7 +130,7 @@ fn shared(r: Block, batch: u32, half: u32, kept: Top) -> Block
         used: kept.used,
         first: kept.first,
         end: kept.end,
-        target: r.target,
+        ..r
     }
 }
 
@@ -200,7 +189,7 @@ fn refuse(regs: &mut [u32], step: Step, r: Block) -> Progress
 {
     let b = step.entry.worker as u32;
     let carried = r.carried;
-    let batch = least(step.setup.batch, carried);
+    let batch = step.setup.batch.min(carried);
     registers::put(regs, b, registers::CELL, 0);
     registers::begin(regs, b, batch, r.since + batch, carried - batch);
     registers::put(regs, r.cell - 1, registers::STATUS, registers::DENIED);
@@ -212,13 +201,7 @@ fn refuse(regs: &mut [u32], step: Step, r: Block) -> Progress
 fn shares(cutoff: u32, since: u32, carried: u32) -> bool
     ensures { result ≡ sharing cutoff since carried }
 {
-    if cutoff < carried {
-        return true;
-    }
-    if since < cutoff {
-        return false;
-    }
-    2 <= carried
+    cutoff < carried || (cutoff <= since && 2 <= carried)
 }
 
 // The cell empties, its asker is answered, and a batch begins.
@@ -234,7 +217,7 @@ pub fn poll(work: &mut [u32], tallies: &mut [u64], regs: &mut [u32], step: Step)
     let cell = r.cell;
     if cell == 0 {
         let carried = r.carried;
-        let batch = least(step.setup.batch, carried);
+        let batch = step.setup.batch.min(carried);
         registers::begin(regs, b, batch, r.since + batch, carried - batch);
         return counts::moved(step.progress, 0, 0);
     }

@@ -3,7 +3,7 @@ use mathlib.Core.Path.{◌≡◌, ap, sym, ◌∙◌}
 use Prim.Native.Nat.{ℕ, zero, suc, ◌<◌}
 use native.Mathlib.Omega.{arith}
 use Rattle.refusal.specs.declared.Refusal.{Refusal}
-use Rattle.std.specs.Prelude.{Result, Ok, Err}
+use Rattle.std.specs.Prelude.{Result, Ok, Err, IsErrAnd}
 use Rattle.refusal.specs.declared.Refusal.TheVariants.{Short, Kind, Place, Count, Object, Size, Buffer, Setting, Schedule, Graph, Large, File, Starts, Saved, Cards, Seed, Marks, Text, Names}
 use Rattle.refusal.specs.Number.{number, number_of}
 use Rattle.refusal.specs.Order.{first}
@@ -42,3 +42,8 @@ module _ {A : Type 0} {v : Result A Refusal} {k : ℕ} (h : number_of v ≡ k) w
 pub first_found : (r : Refusal) (k later : ℕ) → number r ≡ k → number r ≡ first k later
 first_found r zero later h = absurd (omega (arith, h, numbered r))
 first_found r (suc k) later h = h
+
+-- an error that `?` passes on
+pub passed_on : {A : Type 0} (x : Result A Refusal) (r : Refusal) → IsErrAnd x (λ e. e ≡ r) → x ≡ Err r
+passed_on (Ok a) r h = absurd h
+passed_on (Err e) r h = ap Err h

@@ -12,7 +12,7 @@ ghost use Rattle.changes.specs.Taking.{Gathered, PartReady, PartKept, ObjectsRea
 ghost use Rattle.updates.specs.Call.{Removes, RemoveFinds};
 
 use changes::marking;
-use refusal::{Refusal, Verdict};
+use refusal::{Checked, Refusal};
 use slices::bits;
 use updates::Lengths;
 
@@ -24,17 +24,11 @@ fn gather(numbers: &[u32], taken: &mut [u32], base: u32, end: u32) -> usize
     requires { (base ≤ end) × (end ≤ base + word_bits * length taken.old) }
     ensures { Gathered numbers.now base end result taken.new }
 {
-    let room = taken.len();
-    slices::clear(taken, 0, room);
+    taken.fill(0);
     let mut count: usize = 0;
-    for i in 0..numbers.len() {
-        let e = numbers[i];
-        if base <= e {
-            if e < end {
-                if bits::insert(taken, e - base) {
-                    count += 1;
-                }
-            }
+    for &e in numbers {
+        if base <= e && e < end && bits::insert(taken, e - base) {
+            count += 1;
         }
     }
     count
@@ -50,7 +44,7 @@ fn count_by(numbers: &[u32], taken: &mut [u32], m: usize) -> usize
     let mut count: usize = 0;
     let mut from: u32 = 0;
     while from < all {
-        let to = slices::smaller(all, from + size);
+        let to = all.min(from + size);
         count += gather(numbers, taken, from, to);
         from = to;
     }
@@ -77,18 +71,18 @@ fn check(
     numbers: &[u32],
     starts: &[u32],
     lengths: Lengths,
-) -> Verdict
+) -> Checked
     ensures { RemoveFinds result offsets.now targets.now numbers.now starts.now lengths }
 {
     if checks::graph_outside(offsets.len(), targets.len()) {
-        return Verdict::Faulty(Refusal::Count);
+        return Err(Refusal::Count);
     }
     if !graph::is_below(targets.len(), numbers) {
-        return Verdict::Faulty(Refusal::Object);
+        return Err(Refusal::Object);
     }
     let named = count_named(numbers, targets.len());
     if updates::lengths_wrong(offsets.len() - 1, targets.len() - named, lengths) {
-        return Verdict::Faulty(Refusal::Buffer);
+        return Err(Refusal::Buffer);
     }
     checks::check_store(offsets, targets, starts)
 }
@@ -189,7 +183,7 @@ fn keep_by(
     };
     while done.object < offsets.len() {
         let from = done.reference as u32;
-        let to = slices::smaller(all, from + size);
+        let to = all.min(from + size);
         gather(numbers, taken, from, to);
         done = keep_objects(offsets, targets, taken, bounds, places, done, to as usize);
     }
@@ -218,8 +212,7 @@ fn mark_afresh(offsets: &[u32], targets: &[u32], starts: &[u32], marks: &mut [u8
     ensures { (marks.new ≡ marks_afresh (graph offsets.now targets.now) starts.now)
         × ListLeft 0 (replicate (length marks.old) 0) work.old marks.new work.new }
 {
-    let n = marks.len();
-    slices::clear_bytes(marks, 0, n);
+    marks.fill(0);
     let count = marking::touch_all(marks, work, 0, starts, START);
     marking::follow(offsets, targets, marks, work, count);
 }
@@ -234,24 +227,14 @@ pub fn remove(
     places: &mut [u32],
     marks: &mut [u8],
     work: &mut [u32],
-) -> Verdict
+) -> Checked
     ensures { Removes offsets.now targets.now numbers.now starts.now
         bounds.old places.old marks.old work.old
         result bounds.new places.new marks.new work.new }
 {
-    let lengths = Lengths {
-        offsets: bounds.len(),
-        targets: places.len(),
-        marks: marks.len(),
-        work: work.len(),
-    };
-    let verdict = check(offsets, targets, numbers, starts, lengths);
-    match verdict {
-        Verdict::Faulty(cause) => Verdict::Faulty(cause),
-        Verdict::Fine => {
-            keep(offsets, targets, numbers, bounds, places);
-            mark_afresh(bounds, places, starts, marks, work);
-            Verdict::Fine
-        }
-    }
+    let lengths = Lengths::of(bounds, places, marks, work);
+    check(offsets, targets, numbers, starts, lengths)?;
+    keep(offsets, targets, numbers, bounds, places);
+    mark_afresh(bounds, places, starts, marks, work);
+    Ok(())
 }

@@ -1,7 +1,8 @@
 -- SPECIFICATION 15: a collection in one call. All workers have their turns in rounds, each naming the next, until all have ended: it is the marker's
 -- call with so many rounds as are sure to finish.
-use Rattle.std.specs.Prelude.{ℕ, zero, suc, ◌+◌, ltb, ◌≡◌, refl, true, List, [], ◌∷◌, ◌++◌}
+use Rattle.std.specs.Prelude.{ℕ, zero, suc, ◌+◌, ltb, ◌≡◌, refl, true, Result, List, [], ◌∷◌, ◌++◌}
 use Rattle.laws.specs.Choice.{pick}
+use Rattle.refusal.specs.declared.Refusal.{Refusal}
 use Rattle.graph.specs.Graph.{Graph, graph}
 use Rattle.graph.specs.Chain.{leaving_reached}
 use Rattle.machine.specs.Machine.{State, Entry, start}
@@ -53,7 +54,7 @@ whole_of c = scheduled_by (enough_rounds (graph_of c) c.starts c.workers) c
 
 -- the call's promise, for all inputs: it answers what the marker's call answers, leaves every lent word as that does, and where it has no fault
 -- the collection is finished
-pub record AllMarked (c : Call) (marks work tallies : List ℕ) (r : Marked) (marks' work' tallies' : List ℕ) : Type 0 where
+pub record AllMarked (c : Call) (marks work tallies : List ℕ) (r : Result Marked Refusal) (marks' work' tallies' : List ℕ) : Type 0 where
   pub answered : Answered (whole_of c) marks work tallies r marks' work' tallies'
   pub finished : (row r).number ≡ 0 → (row r).finished ≡ true
 

@@ -26,6 +26,7 @@ fn next_of(workers: u32, b: u32) -> u32
 }
 
 // Writes a round: a turn of each worker.
+// Stays (3): once what `chunks_exact_mut` lends is given back, a proof knows its length alone, and not the bytes written.
 pub fn put_round(round: &mut [u8], workers: u32)
     requires { (workers ≤ most_workers) × (length round.old ≡ 2 * workers) }
     ensures { round.new ≡ round_from workers 0 workers }

@@ -1,19 +1,19 @@
 -- The counts that a progress and the tallies make: after a turn they are the machine's, and at the end each is what a word
 -- holds.
-use mathlib.Core.Path.{◌≡◌, refl, ap}
-use mathlib.Core.List.{List}
+use mathlib.Core.Path.{◌≡◌, refl, sym, ap, ◌∙◌}
+use mathlib.Core.List.{List, [], ◌∷◌, ◌++◌}
 use Prim.Native.Nat.{ℕ, ◌+◌, ◌*◌, ◌≤◌, ◌<◌, ◌^◌}
 use native.Mathlib.Omega.{arith}
-use native.Mathlib.Numerals.{add-one}
-use lib.ListN.{length, get_or, drop, drop_of_length-le}
-use lib.Seq.{drop-cons}
+use lib.ListN.{length, get_or, take}
+use lib.Seq.{take-length}
+use Rattle.laws.specs.Blocks.{laid}
+use Rattle.laws.proofs.Blocks.{length_laid}
 use Rattle.laws.specs.Sum.{sum}
 use Rattle.graph.specs.Graph.{Graph, objects, references}
 use Rattle.graph.specs.Limits.{most_objects, most_references}
-use Rattle.desk.specs.Lengths.{tally_word_count}
 use Rattle.machine.specs.declared.Counts.{Counts}
 use Rattle.machine.specs.Row.{count_move, count_follow}
-use Rattle.machine.specs.Tally.{Tally, tally, no_tally, tallied}
+use Rattle.machine.specs.Tally.{Tally, tally, no_tally, tallied, tally_words, tallies_words}
 use Rattle.machine.specs.Machine.{State}
 use Rattle.machine.specs.Accepted.{Accepted}
 use Rattle.machine.specs.Sound.{Sound}
@@ -23,7 +23,6 @@ use Rattle.step.specs.declared.Setup.{Setup}
 use Rattle.step.specs.declared.Progress.{Progress}
 use Rattle.step.specs.Counting.{counts_of, tally_word, Summable, Countable, moved_on, ended_one, followed_on}
 use Rattle.step.specs.Held.{Memory, setting_of, Holds}
-use Rattle.step.proofs.Raising.{word_at, words_room}
 
 -- counts that agree number by number are the same
 same_counts : {c d : Counts} → c.live ≡ d.live → c.followed ≡ d.followed → c.handed ≡ d.handed → c.refused ≡ d.refused
@@ -64,22 +63,56 @@ module _ {G : Graph} {g : Setup} {s : State} {μ : Memory} (h : Holds G g s μ) 
         rw (← h.counts_are)
         (same_counts (omega (arith, won_more y)) (omega (arith, followed_more y)) (omega (arith, handed_more y)) refl refl refl)
 
--- ---- the words of tallies added up
+-- ---- the words of tallies added up, a tally after the other
+
+-- what is left are the words of these tallies, and with what is added up they make the whole
+pub record Left (k : ℕ) (rest : List ℕ) (added whole : ℕ) : Type 0 where
+  pub tallies : List Tally
+  pub words_are : rest ≡ tallies_words tallies
+  pub sums : added + sum (tally_word k) tallies ≡ whole
+
+-- the next four words are the next tally's, and no sum wraps
+pub record Next (k : ℕ) (rest : List ℕ) (added whole : ℕ) : Type 0 where
+  pub left : Left k rest added whole
+  pub low : added ≤ whole
+
+pub left_next : {k added whole : ℕ} {rest rest' : List ℕ} (x : List ℕ) → Left k rest added whole → rest ≡ x ++ rest' → length x ≡ 4
+    → Next k rest' (added + get_or x k 0) whole
+unfolding tallies_words laid sum
+left_next {k} {added} {whole} {rest} {rest'} x l e n = by l.tallies x n (sym l.words_are ∙ e) l.sums
+  where
+    by : (ts : List Tally) (x : List ℕ) → length x ≡ 4 → tallies_words ts ≡ x ++ rest' → added + sum (tally_word k) ts ≡ whole
+        → Next k rest' (added + get_or x k 0) whole
+    by [] (a ∷ b ∷ c ∷ d ∷ []) n e s = absurd (cc)
+    by (t ∷ ts) (a ∷ b ∷ c ∷ d ∷ []) n e s =
+        let words : tally_words t ≡ a ∷ b ∷ c ∷ d ∷ [] = cc in
+        let word : tally_word k t ≡ get_or (a ∷ b ∷ c ∷ d ∷ []) k 0 = ap (λ (l : List ℕ). get_or l k 0) words in
+        let rest : rest' ≡ tallies_words ts = cc in
+        record { left = record { tallies = ts; words_are = rest; sums = omega arith }; low = omega arith }
+    by ts [] n e s = absurd (omega arith)
+    by ts (a ∷ []) n e s = absurd (omega arith)
+    by ts (a ∷ b ∷ []) n e s = absurd (omega arith)
+    by ts (a ∷ b ∷ c ∷ []) n e s = absurd (omega arith)
+    by ts (a ∷ b ∷ c ∷ d ∷ f ∷ x) n e s = absurd (omega arith)
+
+-- where not four are left, there is no tally
+pub left_none : {k added whole : ℕ} {rest : List ℕ} → Left k rest added whole → length rest < 4 → added ≡ whole
+unfolding tallies_words laid sum
+left_none {k} {added} {whole} {rest} l n = by l.tallies l.words_are l.sums
+  where
+    by : (ts : List Tally) → rest ≡ tallies_words ts → added + sum (tally_word k) ts ≡ whole → added ≡ whole
+    by [] e s = omega arith
+    by (t ∷ ts) e s = absurd (omega (arith, ap length e))
 
 module _ {ws : List ℕ} {W k : ℕ} (x : Summable ws W k) where
-  pub sum_there : (b : ℕ) → b < W → tally_word_count * b + k < length ws
-  sum_there b l = rw x.words_are (omega (arith, x.low, words_room x.tallies b (omega (arith, x.count))))
+  pub words_length : 4 * W ≡ length ws
+  unfolding tallies_words
+  words_length = rw x.words_are (omega (arith, x.count, length_laid tally_words 4 no_tally x.tallies (λ (i : ℕ). refl)))
 
-  -- the next word, and what is left behind it
-  pub sum_read : (b : ℕ) → b < W → sum (tally_word k) (drop b x.tallies) ≡ get_or ws (tally_word_count * b + k) 0 + sum (tally_word k) (drop (b + 1) x.tallies)
-  unfolding sum
-  sum_read b l =
-      let there : b < length x.tallies = omega (arith, x.count) in
-      rw (x.words_are, word_at x.tallies b there k x.low, add-one b) (ap (λ (l : List Tally). sum (tally_word k) l) (drop-cons x.tallies b no_tally there))
-
-  pub sum_ends : (b : ℕ) → W ≤ b → sum (tally_word k) (drop b x.tallies) ≡ 0
-  unfolding sum
-  sum_ends b l = ap (λ (l : List Tally). sum (tally_word k) l) (drop_of_length-le x.tallies {i = b} (omega (arith, x.count)))
+  pub left_all : Left k (take (4 * W) ws) 0 (sum (tally_word k) x.tallies)
+  left_all =
+      let e : take (4 * W) ws ≡ ws = rw words_length (take-length ws) in
+      record { tallies = x.tallies; words_are = e ∙ x.words_are; sums = omega arith }
 
 -- each count is what a word holds, so what it is made of is
 module _ {ws : List ℕ} {W : ℕ} {p : Progress} (x : Countable ws W p) where

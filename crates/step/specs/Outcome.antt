@@ -1,15 +1,15 @@
 -- What a turn tells of the collection's end.
 use Rattle.std.specs.Prelude.{◌≡◌}
 use Rattle.step.specs.declared.Progress.{Progress}
-use Rattle.step.specs.declared.Outcome.{Outcome}
-use Rattle.step.specs.declared.Outcome.TheVariants.{Goes, Over}
+use Rattle.std.specs.declared.ops.ControlFlow.{ControlFlow}
+use Rattle.std.specs.declared.ops.ControlFlow.TheVariants.{Continue, Break}
 
 -- how far the collection is
-abbrev pub progress_of : Outcome → Progress
-progress_of (Goes p) = p
-progress_of (Over p) = p
+abbrev pub progress_of : ControlFlow Progress Progress → Progress
+progress_of (Continue p) = p
+progress_of (Break p) = p
 
--- over is told only where nobody runs
-abbrev pub ToldOver : Outcome → Type 0
-ToldOver (Goes p) = Unit {0}
-ToldOver (Over p) = p.running ≡ 0
+-- a break is told only where nobody runs
+abbrev pub ToldOver : ControlFlow Progress Progress → Type 0
+ToldOver (Continue p) = Unit {0}
+ToldOver (Break p) = p.running ≡ 0

@@ -39,14 +39,11 @@ pub fn moved(p: Progress, handed: u64, refused: u64) -> Progress
     requires { Roomy p × (handed ≤ 1) × (refused ≤ 1) }
     ensures { result ≡ moved_on p handed refused }
 {
-    let ring = p.ring;
     Progress {
-        starts: p.starts,
         refused: p.refused + refused,
         moved: p.moved + 1,
         carrying: p.carrying + handed,
-        running: p.running,
-        ring,
+        ..p
     }
 }
 
@@ -55,14 +52,10 @@ pub fn ended(p: Progress) -> Progress
     requires { Roomy p × (1 ≤ p.running) }
     ensures { result ≡ ended_one p }
 {
-    let ring = p.ring;
     Progress {
-        starts: p.starts,
-        refused: p.refused,
         moved: p.moved + 1,
-        carrying: p.carrying,
         running: p.running - 1,
-        ring,
+        ..p
     }
 }
 
@@ -72,14 +65,11 @@ pub fn followed(p: Progress, refused: u64, emptied: u64) -> Progress
     requires { Roomy p × (refused ≤ 1) × (emptied ≤ p.carrying) }
     ensures { result ≡ followed_on p refused emptied }
 {
-    let ring = p.ring;
     Progress {
-        starts: p.starts,
         refused: p.refused + refused,
         moved: p.moved + 1,
         carrying: p.carrying - emptied,
-        running: p.running,
-        ring,
+        ..p
     }
 }
 
@@ -87,14 +77,7 @@ pub fn followed(p: Progress, refused: u64, emptied: u64) -> Progress
 pub fn ringed(p: Progress, ring: Ring) -> Progress
     ensures { result ≡ with_ring p ring }
 {
-    Progress {
-        starts: p.starts,
-        refused: p.refused,
-        moved: p.moved,
-        carrying: p.carrying,
-        running: p.running,
-        ring,
-    }
+    Progress { ring, ..p }
 }
 
 // After worker b has handed over: its asker carries, and b is black.
@@ -112,8 +95,9 @@ pub fn total(tallies: &[u64], workers: u32, k: usize) -> u64
     ensures { (x : Summable tallies.now workers k) → result ≡ sum (tally_word k) x.tallies }
 {
     let mut all: u64 = 0;
-    for b in 0..workers {
-        all += tallies[desk::places::TALLY * b as usize + k];
+    let words = desk::places::TALLY * workers as usize;
+    for tally in tallies[..words].chunks_exact(desk::places::TALLY) {
+        all += tally[k];
     }
     all
 }
@@ -138,10 +122,5 @@ pub fn put_counts(c: Counts, words: &mut [u64])
     requires { length words.old ≡ counts_number }
     ensures { words.new ≡ count_words c }
 {
-    words[0] = c.live;
-    words[1] = c.followed;
-    words[2] = c.handed;
-    words[3] = c.refused;
-    words[4] = c.moved;
-    words[5] = c.carrying;
+    words.copy_from_slice(&[c.live, c.followed, c.handed, c.refused, c.moved, c.carrying]);
 }

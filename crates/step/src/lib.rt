@@ -11,6 +11,7 @@ ghost use Rattle.step.specs.Outcome.{progress_of, ToldOver};
 ghost use Rattle.step.specs.Raising.{Raisable, raised_words};
 
 use ring::Ring;
+use std::ops::ControlFlow;
 
 // W, D, K and the length of a stretch.
 #[derive(Clone, Copy)]
@@ -51,13 +52,9 @@ pub struct Step {
     pub entry: Entry,
 }
 
-// How far a turn leaves the collection. Over is told by the turn in which the last worker ends; so no
+// How far a turn leaves the collection. A break is told by the turn in which the last worker ends; so no
 // other turn need be followed by a test.
-#[derive(Clone, Copy)]
-pub enum Outcome {
-    Goes(Progress),
-    Over(Progress),
-}
+pub type Outcome = ControlFlow<Progress, Progress>;
 
 // A worker may have ended, and been the last.
 pub fn ending(p: Progress) -> Outcome
@@ -65,9 +62,10 @@ pub fn ending(p: Progress) -> Outcome
     ensures told_over { ToldOver result }
 {
     if p.running == 0 {
-        return Outcome::Over(p);
+        ControlFlow::Break(p)
+    } else {
+        ControlFlow::Continue(p)
     }
-    Outcome::Goes(p)
 }
 
 // Worker b's tally, with so many more followed, won, lost and handed. Where a number is 0, no word is

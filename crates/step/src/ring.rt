@@ -37,9 +37,8 @@ pub fn blackened(r: Ring, b: u32) -> Ring
 {
     let white = 1 - shade(r, b);
     Ring {
-        holder: r.holder,
-        token: r.token,
         black: r.black + (white << b),
+        ..r
     }
 }
 
@@ -66,9 +65,5 @@ pub fn passed(r: Ring, workers: u32, b: u32) -> Ring
             black,
         };
     }
-    Ring {
-        holder,
-        token: r.token,
-        black,
-    }
+    Ring { holder, black, ..r }
 }

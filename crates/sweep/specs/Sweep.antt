@@ -1,6 +1,6 @@
 -- SPECIFICATION 5: an object is dead where its mark is 0. The list gets the numbers of the dead upwards, then zeros;
 -- the answer is their count and the sum of their sizes. The checks are 4 (n is how many sizes there are), 7 and 6.
-use Rattle.std.specs.Prelude.{◌≡◌, Bool, true, not, ◌||◌, List, [], ◌∷◌, ◌++◌, ℕ, zero, suc, ◌+◌, ◌-◌, ◌*◌, ◌≤◌, ◌<◌, length, get_or, take, drop, replicate, leb, eqb}
+use Rattle.std.specs.Prelude.{◌≡◌, Bool, true, not, ◌||◌, List, [], ◌∷◌, ◌++◌, ℕ, zero, suc, ◌+◌, ◌-◌, ◌*◌, ◌≤◌, ◌<◌, length, get_or, take, drop, replicate, leb, eqb, Result, Ok, Err}
 use Rattle.laws.specs.Choice.{both}
 use Rattle.laws.specs.Sum.{sum}
 use Rattle.refusal.specs.Number.{number}
@@ -8,8 +8,8 @@ use Rattle.refusal.specs.Order.{raise, first}
 use Rattle.graph.specs.Limits.{most_objects, largest_size}
 use Rattle.desk.specs.Checks.{objects_fault}
 use Rattle.desk.specs.Kept.{unless_refused}
+use Rattle.refusal.specs.declared.Refusal.{Refusal}
 use Rattle.sweep.specs.declared.Swept.{Swept}
-use Rattle.sweep.specs.declared.Swept.TheVariants.{Dead, Refused}
 
 -- the numbers of the objects whose mark is 0, upwards, the first mark being that of object v
 unfoldable pub dead_from : ℕ → List ℕ → List ℕ
@@ -42,9 +42,9 @@ abbrev pub refused_row : ℕ → Row
 refused_row k = record { number = k; count = 0; freed = 0 }
 
 -- each answer so
-abbrev pub row : Swept → Row
-row (Dead c f) = record { number = 0; count = c; freed = f }
-row (Refused k) = refused_row (number k)
+abbrev pub row : Result Swept Refusal → Row
+row (Ok d) = record { number = 0; count = d.count; freed = d.freed }
+row (Err k) = refused_row (number k)
 
 -- 7: not n marks, or a list of another length
 abbrev pub buffer_fault : ℕ → ℕ → ℕ → ℕ

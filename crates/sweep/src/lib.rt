@@ -9,21 +9,11 @@ ghost use Rattle.sweep.specs.Collection.{Collection};
 use graph::{LARGEST_SIZE, MOST_OBJECTS};
 use refusal::Refusal;
 
-// What the sweep answers: how many objects are dead and the sum of their sizes, or the refusal.
-#[derive(Clone, Copy)]
-pub enum Swept {
-    Dead { count: u32, freed: u64 },
-    Refused(Refusal),
-}
-
-// The number of a refused sweep, 0 where the dead are listed.
-pub fn refusal_of(swept: Swept) -> u8
-    ensures { result ≡ (row swept).number }
-{
-    match swept {
-        Swept::Dead { count: _, freed: _ } => 0,
-        Swept::Refused(refusal) => refusal::number_of(refusal),
-    }
+// What the sweep finds: how many objects are dead, and the sum of their sizes.
+#[derive(Clone, Copy, Debug, PartialEq, Eq)]
+pub struct Swept {
+    pub count: u32,
+    pub freed: u64,
 }
 
 // How many dead objects are listed, and the sum of their sizes.
@@ -41,14 +31,11 @@ const LARGEST_UPPER: u32 = (LARGEST_SIZE / 4294967296) as u32;
 fn sizes_below(sizes: &[u64]) -> bool
     ensures { result ≡ true → all_fit sizes.now ≡ true }
 {
-    let mut large: u32 = 0;
-    for i in 0..sizes.len() {
-        let upper = (sizes[i] / 4294967296) as u32;
-        if LARGEST_UPPER <= upper {
-            large = 1;
-        }
+    let mut below = true;
+    for &size in sizes {
+        below &= ((size / 4294967296) as u32) < LARGEST_UPPER;
     }
-    large == 0
+    below
 }
 
 // Whether no size is above the largest. Only where one is not below it are they compared one by one.
@@ -58,8 +45,8 @@ fn sizes_fit(sizes: &[u64]) -> bool
     if sizes_below(sizes) {
         return true;
     }
-    for i in 0..sizes.len() {
-        if LARGEST_SIZE < sizes[i] {
+    for &size in sizes {
+        if LARGEST_SIZE < size {
             return false;
         }
     }
@@ -70,17 +57,14 @@ fn sizes_fit(sizes: &[u64]) -> bool
 const BLOCK: usize = 16;
 
 // Whether the objects of a block are all marked. Looks at every mark, so that there is no jump between them.
-fn block_live(marks: &[u8], from: usize) -> bool
-    requires { from + 16 ≤ length marks.now }
-    ensures { result ≡ true → LiveFor marks.now from 16 }
+fn block_live(block: &[u8]) -> bool
+    ensures { result ≡ true → LiveFor block.now 0 (length block.now) }
 {
-    let mut unmarked: u8 = 0;
-    for i in 0..BLOCK {
-        if marks[from + i] == 0 {
-            unmarked = 1;
-        }
+    let mut live = true;
+    for &mark in block {
+        live &= mark != 0;
     }
-    unmarked == 0
+    live
 }
 
 // Goes on with the objects from one up to another. The number of each is written, and counted only where it is dead, so that there is
@@ -119,7 +103,7 @@ fn list_dead(marks: &[u8], sizes: &[u64], list: &mut [u32]) -> Listing
     let mut from: usize = 0;
     while BLOCK <= n - from {
         let to = from + BLOCK;
-        if !block_live(marks, from) {
+        if !block_live(&marks[from..to]) {
             found = list_part(marks, sizes, list, from, to, found);
         }
         from = to;
@@ -128,29 +112,28 @@ fn list_dead(marks: &[u8], sizes: &[u64], list: &mut [u32]) -> Listing
 }
 
 // Checks, then lists the dead, with zeros behind them.
-pub fn sweep(marks: &[u8], sizes: &[u64], list: &mut [u32]) -> Swept
+pub fn sweep(marks: &[u8], sizes: &[u64], list: &mut [u32]) -> Result<Swept, Refusal>
     ensures result_value { row result ≡ sweeping marks.now sizes.now list.old }
     ensures list_after { list.new ≡ list_after marks.now sizes.now list.old }
     ensures collection { Collection marks.now (row result) list.new }
 {
     let n = sizes.len();
     if checks::out_of_range(n, MOST_OBJECTS) {
-        return Swept::Refused(Refusal::Count);
+        return Err(Refusal::Count);
     }
     if marks.len() != n {
-        return Swept::Refused(Refusal::Buffer);
+        return Err(Refusal::Buffer);
     }
     if list.len() != n {
-        return Swept::Refused(Refusal::Buffer);
+        return Err(Refusal::Buffer);
     }
     if !sizes_fit(sizes) {
-        return Swept::Refused(Refusal::Size);
+        return Err(Refusal::Size);
     }
-    let dead = list_dead(marks, sizes, list);
-    let count = dead.count;
-    slices::clear(list, count, n);
-    Swept::Dead {
+    let Listing { count, freed } = list_dead(marks, sizes, list);
+    list[count..].fill(0);
+    Ok(Swept {
         count: count as u32,
-        freed: dead.freed,
-    }
+        freed,
+    })
 }

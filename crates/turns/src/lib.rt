@@ -6,6 +6,7 @@ ghost use Rattle.step.specs.Outcome.{progress_of, ToldOver};
 ghost use Rattle.step.specs.Turned.{Ready, Does};
 ghost use Rattle.turns.specs.Lent.{IsLent};
 
+use std::ops::ControlFlow;
 use step::{Outcome, Step, counts};
 use worker::registers;
 
@@ -34,17 +35,19 @@ pub fn turn(
         registers::IDLE => idle::idle_turn(regs, step),
         registers::DENIED => {
             registers::put(regs, b, registers::STATUS, registers::IDLE);
-            Outcome::Goes(counts::moved(step.progress, 0, 0))
+            ControlFlow::Continue(counts::moved(step.progress, 0, 0))
         }
-        registers::GIVEN => Outcome::Goes(follow::take_up(targets, regs, step)),
-        registers::POLL => Outcome::Goes(poll::poll(work, tallies, regs, step)),
-        registers::LOOK => Outcome::Goes(follow::look(targets, marks, work, tallies, regs, step)),
-        registers::CLAIM => Outcome::Goes(follow::claim(
+        registers::GIVEN => ControlFlow::Continue(follow::take_up(targets, regs, step)),
+        registers::POLL => ControlFlow::Continue(poll::poll(work, tallies, regs, step)),
+        registers::LOOK => ControlFlow::Continue(follow::look(
+            targets, marks, work, tallies, regs, step,
+        )),
+        registers::CLAIM => ControlFlow::Continue(follow::claim(
             offsets, targets, marks, work, tallies, regs, step,
         )),
         _ => {
             let p = step.progress;
-            Outcome::Goes(p)
+            ControlFlow::Continue(p)
         }
     }
 }

@@ -1,14 +1,11 @@
--- One turn of the loop that copies words within one list.
+-- What stands before and behind words that are pasted into a list.
 use mathlib.Core.Path.{◌≡◌, sym, ap, ◌∙◌}
-use mathlib.Core.Logic.{⊎_elim}
 use mathlib.Core.List.{List, ◌++◌}
 use Prim.Native.Nat.{ℕ, ◌+◌, ◌-◌, ◌≤◌, ◌<◌}
-use native.Mathlib.Numerals.{add-one}
 use native.Mathlib.Omega.{arith}
-use lib.ListN.{length, get_or, set, take, drop, length-drop, get_or-append}
-use lib.Seq.{paste, paste-suc, length_paste_head, get_or-take, get_or-drop, length-take-le}
+use lib.ListN.{length, get_or, take, drop, get_or-append}
+use lib.Seq.{paste, length_paste_head, get_or-take, get_or-drop, length-take-le}
 use Rattle.laws.proofs.Stores.{get_or_past}
-use Rattle.worker.specs.Stretch.{Copyable}
 
 -- what a copy leaves alone
 pub paste_before : (d s : List ℕ) (at j k : ℕ) → at ≤ length d → j ≤ length s → k < at
@@ -26,23 +23,3 @@ paste_after d s at j k hd hs h =
     ∙ get_or_past (take at d ++ take j s) (drop (at + j) d) (at + j) (k - (at + j)) 0 (length_paste_head d at s j hd hs)
     ∙ get_or-drop (at + j) d (k - (at + j)) 0
     ∙ ap (λ (i : ℕ). get_or d i 0) (sym e)
-
-module _ (w : List ℕ) (from to count : ℕ) (ok : Copyable w from to count) (i : ℕ) where
-  source_long : i ≤ count → i ≤ length (drop from w)
-  source_long h = rw length-drop (omega (arith, ok.source))
-
-  -- what is still to be copied is as it was
-  pub copy_reads : i < count → get_or (paste w to (drop from w) i) (from + i) 0 ≡ get_or (drop from w) i 0
-  copy_reads h =
-      ⊎_elim
-      (λ (q : to ≤ from). paste_after w (drop from w) to i (from + i) (omega (arith, ok.target)) (source_long (omega arith)) (omega arith))
-      (λ (q : from + count ≤ to). paste_before w (drop from w) to i (from + i) (omega (arith, ok.target)) (source_long (omega arith)) (omega arith))
-      ok.apart
-      ∙ sym (get_or-drop from w i 0)
-
-  pub copy_next : i < count
-      → set (paste w to (drop from w) i) (to + i) (get_or (paste w to (drop from w) i) (from + i) 0)
-      ≡ paste w to (drop from w) (i + 1)
-  copy_next h =
-      rw (copy_reads h, add-one i)
-      (paste-suc w to (drop from w) i 0 (omega (arith, ok.target)) (rw length-drop (omega (arith, ok.source))))

@@ -1,5 +1,5 @@
 -- One worker's stretch of the work memory, and what the functions on it promise (SPECIFICATION 4.5).
-use Rattle.std.specs.Prelude.{ℕ, suc, ◌+◌, ◌-◌, ◌*◌, ◌≤◌, ◌<◌, ◌^◌, ◌≡◌, Bool, not, ◌||◌, ◌⊎◌, List, [], ◌∷◌, ◌++◌, length, get_or, set, take, drop, replicate, ltb}
+use Rattle.std.specs.Prelude.{ℕ, suc, ◌+◌, ◌-◌, ◌*◌, ◌≤◌, ◌<◌, ◌^◌, ◌≡◌, Bool, not, ◌||◌, List, [], ◌∷◌, ◌++◌, length, get_or, set, take, drop, replicate, ltb}
 use Rattle.laws.specs.Choice.{pick}
 use Rattle.machine.specs.Run.{Run, run, run_from, carried, keep, rest, pairs}
 use Rattle.worker.specs.declared.stretch.Top.{Top}
@@ -90,12 +90,6 @@ pub record InFront (s : List ℕ) (t : Top) (k : ℕ) : Type 0 where
   pub told : Told runs t s
   pub enough : k < carried runs
   pub short : k ≤ t.end - t.first
-
--- words that `copy_words` may copy in ascending order
-pub record Copyable (w : List ℕ) (from to count : ℕ) : Type 0 where
-  pub source : from + count ≤ length w
-  pub target : to + count ≤ length w
-  pub apart : (to ≤ from) ⊎ (from + count ≤ to)
 
 -- where the first k references of runs end: after the runs above, and `left` references into `run first more`,
 -- whose pair ends at `place`

@@ -1,10 +1,9 @@
 // One worker's stretch of the work memory: the runs below the one being followed as pairs (first,
 // end), the run to be followed last standing first. The words behind them say nothing.
-ghost use Rattle.std.specs.Prelude.{◌≡◌, ◌+◌, ◌-◌, ◌≤◌, length, get_or, set, drop};
-ghost use Rattle.std.proofs.Math.Seq.{paste};
+ghost use Rattle.std.specs.Prelude.{◌≡◌, ◌+◌, ◌-◌, ◌≤◌, length, get_or, set};
 ghost use Rattle.machine.specs.Run.{rest as others};
 ghost use Rattle.machine.specs.Split.{held as holder};
-ghost use Rattle.worker.specs.Stretch.{Told, Sharing, InFront, Copyable, Lowerable, Lowered, Cuttable, CutFound, Cleft, KeptAbove, settled};
+ghost use Rattle.worker.specs.Stretch.{Told, Sharing, InFront, Lowerable, Lowered, Cuttable, CutFound, Cleft, KeptAbove, settled};
 
 use machine::frontier::Held;
 
@@ -62,6 +61,7 @@ pub struct Cut {
 }
 
 // Walks down from the uppermost pair to where the first k references end.
+// Stays (3): the place is the result, and the walk ends at the cut, which is known to be there.
 pub fn find_cut(s: &[u32], used: u32, k: u32) -> Cut
     requires { Cuttable s.now used k }
     ensures { CutFound s.now used k result.place result.left }
@@ -79,17 +79,6 @@ pub fn find_cut(s: &[u32], used: u32, k: u32) -> Cut
     }
 }
 
-// Copies `count` words within one slice, in ascending order.
-pub fn copy_words(w: &mut [u32], from: usize, to: usize, count: usize)
-    requires { Copyable w.old from to count }
-    ensures { w.new ≡ paste w.old to (drop from w.old) count }
-{
-    for i in 0..count {
-        let x = w[from + i];
-        w[to + i] = x;
-    }
-}
-
 // Pairs that stand at the end of a stretch, from `at` on, come to its beginning. The uppermost is
 // the run to be followed first.
 pub fn lower(s: &mut [u32], at: usize) -> Top
@@ -100,7 +89,7 @@ pub fn lower(s: &mut [u32], at: usize) -> Top
     let first = s[top];
     let end = s[top + 1];
     let used = top - at;
-    copy_words(s, at, 0, used);
+    s.copy_within(at..top, 0);
     Top {
         used: used as u32,
         first,
@@ -118,11 +107,11 @@ pub fn keep_above(s: &mut [u32], used: u32, cut: Cut) -> u32
     let at = place as usize;
     let end = used as usize;
     if left == 0 {
-        copy_words(s, at, 0, end - at);
+        s.copy_within(at..end, 0);
         return used - place;
     }
     s[at - 1] = s[at - 2] + left;
-    copy_words(s, at - 2, 0, end - (at - 2));
+    s.copy_within(at - 2..end, 0);
     used - (place - 2)
 }
 
@@ -144,14 +133,11 @@ pub fn settle(s: &mut [u32], t: Top)
     ensures { s.new ≡ settled s.old t }
 {
     let at = t.used as usize;
-    let len = s.len();
-    let first = t.first;
-    let end = t.end;
-    if first < end {
-        s[at] = first;
-        s[at + 1] = end;
-        slices::clear(s, at + 2, len);
+    if t.first < t.end {
+        s[at] = t.first;
+        s[at + 1] = t.end;
+        s[at + 2..].fill(0);
     } else {
-        slices::clear(s, 0, len);
+        s.fill(0);
     }
 }
