@@ -62,7 +62,9 @@ impl Bag {
         size: 0,
     };
 
-    // Adds an object: a pennant of one object, which is united with those in its way.
+    // Adds an object: a pennant of one object, which is united with those in its way. Out of line, so that what tests
+    // whether an object is new stays small enough to be compiled into the loops that test.
+    #[inline(never)]
     pub fn add(&mut self, links: &mut [u32], x: u32)
         requires { Addable links.old self.old x }
         ensures { Adds links.old self.old x links.new self.new }

@@ -47,7 +47,9 @@ fn visit(
     ensures { Grown hop (λ (w : ℕ). leads_to (graph offsets.now targets.now) w u)
         hops.old links.old bag.old hops.new links.new bag.new }
 {
-    for v in graph::references(offsets, targets, u) {
+    let start = offsets[u as usize] as usize;
+    let end = offsets[u as usize + 1] as usize;
+    for v in &targets[start..end] {
         find(hops, links, bag, hop, *v);
     }
 }
