@@ -10,6 +10,7 @@ ghost use Rattle.bag.specs.Adder.{Unitable, Sums};
 pub const SLOTS: usize = 17;
 
 // A bag: slot k has the root of a pennant of 2^k objects, or none.
+// Stays (5): the links are lent words that all bags of a search share, so none of them holds them.
 #[derive(Clone, Copy)]
 pub struct Bag {
     pub slots: [Option<u32>; SLOTS],

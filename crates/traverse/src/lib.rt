@@ -11,6 +11,7 @@ ghost use Rattle.layers.specs.Search.{leads_to, Growable, Grown, Walkable, Apart
 use bag::Bag;
 
 // The hop count of an object to which no chain leads.
+// Stays (1): the counts are lent words of the C interface (`kullneyra_hops`), and layers `Hops.none` is this number.
 pub const NONE: u32 = 4294967295;
 
 // A tree or a pennant of a bag: how high it is, and the object at its root.
