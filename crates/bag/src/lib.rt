@@ -1,14 +1,21 @@
-// A bag of objects: at most one pennant in each of 17 slots, and behind them how many objects there
-// are, all of it in lent words. Adding an object goes like adding one to a binary number, and joining
-// two bags like adding two.
+// A bag of objects: at most one pennant in each of 17 slots, and how many objects there are; the objects' links are
+// lent words. Adding an object goes like adding one to a binary number, and joining two bags like adding two.
 #![tactic(auto)]
 
 ghost use Rattle.std.specs.Prelude.{◌≡◌};
 ghost use Rattle.bag.specs.Bag.{HasLinks, united, Addable, Adds, Joinable, Joins};
 ghost use Rattle.bag.specs.Adder.{Unitable, Sums};
 
-// The word behind the slots: how many objects the bag has.
-pub const SIZE: usize = 17;
+// How many slots a bag has.
+pub const SLOTS: usize = 17;
+
+// A bag: slot k has the root of a pennant of 2^k objects, or none.
+// Stays (5): the links are lent words that all bags of a search share, so none of them holds them.
+#[derive(Clone, Copy)]
+pub struct Bag {
+    pub slots: [Option<u32>; SLOTS],
+    pub size: u32,
+}
 
 // Joins two pennants of one size: x stays the root, and y becomes its child.
 fn unite(links: &mut [u32], x: u32, y: u32)
@@ -20,79 +27,79 @@ fn unite(links: &mut [u32], x: u32, y: u32)
     links[left] = y;
 }
 
-// Adds an object: a pennant of one object, which is united with those in its way.
-pub fn add(links: &mut [u32], bag: &mut [u32; 18], x: u32)
-    requires { Addable links.old bag.old x }
-    ensures { Adds links.old bag.old x links.new bag.new }
-{
-    let mut root = x;
-    let mut k: usize = 0;
-    while bag[k] != 0 {
-        let other = bag[k] - 1;
-        unite(links, other, root);
-        bag[k] = 0;
-        root = other;
-        k += 1;
-    }
-    bag[k] = root + 1;
-    bag[SIZE] = bag[SIZE] + 1;
-}
-
 // What three slots add up to: what stays in the slot, and what goes to the next.
 #[derive(Clone, Copy)]
 struct Sum {
-    here: u32,
-    carry: u32,
+    here: Option<u32>,
+    carry: Option<u32>,
 }
 
 // The full adder on slots of one size.
-fn full_add(links: &mut [u32], x: u32, y: u32, z: u32) -> Sum
+#[tactic(auto, unfolding(crate::specs::Adder::sum_of, crate::specs::Adder::carry_of, crate::specs::Adder::links_of))]
+fn full_add(links: &mut [u32], x: Option<u32>, y: Option<u32>, z: Option<u32>) -> Sum
     requires { Unitable links.old x y z }
     ensures { Sums links.old x y z result.here result.carry links.new }
 {
-    if x == 0 {
-        if y == 0 {
-            return Sum { here: z, carry: 0 };
+    match (x, y, z) {
+        (Some(_), Some(b), Some(c)) => {
+            unite(links, b, c);
+            Sum { here: x, carry: y }
         }
-        if z == 0 {
-            return Sum { here: y, carry: 0 };
+        (Some(a), Some(b), None) | (Some(a), None, Some(b)) | (None, Some(a), Some(b)) => {
+            unite(links, a, b);
+            Sum {
+                here: None,
+                carry: Some(a),
+            }
         }
-        unite(links, y - 1, z - 1);
-        return Sum { here: 0, carry: y };
+        (here, None, None) | (None, here, None) | (None, None, here) => Sum { here, carry: None },
     }
-    if y == 0 {
-        if z == 0 {
-            return Sum { here: x, carry: 0 };
-        }
-        unite(links, x - 1, z - 1);
-        return Sum { here: 0, carry: x };
-    }
-    if z == 0 {
-        unite(links, x - 1, y - 1);
-        return Sum { here: 0, carry: x };
-    }
-    unite(links, y - 1, z - 1);
-    Sum { here: x, carry: y }
 }
 
-// Moves all objects of the second bag to the first, and leaves the second empty. Slots behind the last
-// one of the second bag are looked at only while there is a carry.
-pub fn join(links: &mut [u32], bag: &mut [u32; 18], other: &mut [u32; 18])
-    requires { Joinable links.old bag.old other.old }
-    ensures { Joins links.old bag.old other.old
-        links.new bag.new other.new }
-{
-    let mut carry: u32 = 0;
-    let mut k: usize = 0;
-    let mut rest = other[SIZE];
-    while rest + carry != 0 {
-        let sum = full_add(links, bag[k], other[k], carry);
-        bag[k] = sum.here;
-        other[k] = 0;
-        carry = sum.carry;
-        rest = rest / 2;
-        k += 1;
+impl Bag {
+    // A bag without objects.
+    pub const EMPTY: Bag = Bag {
+        slots: [None; SLOTS],
+        size: 0,
+    };
+
+    // Adds an object: a pennant of one object, which is united with those in its way. Out of line, so that what tests
+    // whether an object is new stays small enough to be compiled into the loops that test.
+    #[inline(never)]
+    pub fn add(&mut self, links: &mut [u32], x: u32)
+        requires { Addable links.old self.old x }
+        ensures { Adds links.old self.old x links.new self.new }
+    {
+        let mut root = x;
+        for slot in &mut self.slots {
+            let Some(other) = slot.take() else {
+                *slot = Some(root);
+                break;
+            };
+            unite(links, other, root);
+            root = other;
+        }
+        self.size += 1;
     }
-    bag[SIZE] = bag[SIZE] + other[SIZE];
-    other[SIZE] = 0;
+
+    // Moves all objects of the other bag to this one, and leaves the other empty. Slots behind the last one of the other
+    // bag are looked at only while there is a carry.
+    pub fn join(&mut self, links: &mut [u32], other: &mut Bag)
+        requires { Joinable links.old self.old other.old }
+        ensures { Joins links.old self.old other.old links.new self.new other.new }
+    {
+        let theirs = std::mem::replace(other, Bag::EMPTY);
+        let mut carry = None;
+        let mut rest = theirs.size;
+        for (k, slot) in theirs.slots.iter().enumerate() {
+            if rest == 0 && carry.is_none() {
+                break;
+            }
+            let sum = full_add(links, self.slots[k], *slot, carry);
+            self.slots[k] = sum.here;
+            carry = sum.carry;
+            rest /= 2;
+        }
+        self.size += theirs.size;
+    }
 }

@@ -9,6 +9,7 @@ ghost use Rattle.changes.specs.Marking.{Roomy, ListLeft, Touched, Between, Follo
 pub const NEW: u8 = 255;
 
 // Marks an object and puts it on the list, unless it is marked. How many are on the list then.
+// Stays (6): the list stands in lent words, with no heap, so how many of them are in use goes beside it.
 fn touch(marks: &mut [u8], list: &mut [u32], top: usize, v: u32, value: u8) -> usize
     requires { Roomy marks.old list.old top × (v < length marks.old) × (0 < value) }
     ensures { Touched value (v ∷ []) marks.old list.old top marks.new list.new result }
@@ -34,8 +35,8 @@ pub fn touch_all(
     ensures { Touched value objects.now marks.old list.old top marks.new list.new result }
 {
     let mut count = top;
-    for i in 0..objects.len() {
-        count = touch(marks, list, count, objects[i], value);
+    for v in objects {
+        count = touch(marks, list, count, *v, value);
     }
     count
 }
@@ -63,10 +64,9 @@ pub fn seed(from: &[u32], to: &[u32], marks: &mut [u8], list: &mut [u32]) -> usi
     ensures { Seeded from.now to.now marks.old list.old marks.new list.new result }
 {
     let mut count: usize = 0;
-    for i in 0..from.len() {
-        let source = from[i] as usize;
-        if marks[source] != 0 {
-            count = touch(marks, list, count, to[i], NEW);
+    for (source, target) in from.iter().zip(to) {
+        if marks[*source as usize] != 0 {
+            count = touch(marks, list, count, *target, NEW);
         }
     }
     count

@@ -9,12 +9,11 @@ use lib.ListN.{length}
 use borrow.Author.Tests.{eqb-true, not-false}
 use Rattle.refusal.specs.declared.Refusal.{Refusal}
 use Rattle.refusal.specs.declared.Refusal.TheVariants.{Count, Buffer}
-use Rattle.refusal.specs.declared.Verdict.{Verdict}
-use Rattle.refusal.specs.declared.Verdict.TheVariants.{Fine, Faulty}
+use Rattle.std.specs.Prelude.{Result, Ok, Err}
 use Rattle.refusal.specs.Number.{number_of}
 use Rattle.refusal.specs.Order.{raise}
 use Rattle.refusal.proofs.None.{raise_none, first_none, or_none}
-use Rattle.refusal.proofs.Numbers.{numbered, when_fine, when_faulty}
+use Rattle.refusal.proofs.Numbers.{numbered}
 use Rattle.graph.specs.Graph.{graph, objects}
 use Rattle.desk.specs.Checks.{counts_outside, count_fault, store_fault}
 use Rattle.desk.proofs.Passed.{counted, stored}
@@ -26,17 +25,17 @@ abbrev pub Buffer? : ℕ → ℕ → ℕ → Bool
 Buffer? n hops work = not (eqb hops n) || not (eqb work (work_words n))
 
 module _ {os ts ss : List ℕ} {h w : ℕ} where
-  pub finds_4 : counts_outside (objects (graph os ts)) (length ts) ≡ true → Finds (Faulty Count) os ts ss h w
+  pub finds_4 : counts_outside (objects (graph os ts)) (length ts) ≡ true → Finds (Err Count) os ts ss h w
   unfolding fault
   finds_4 e = record { number_is = rw e }
 
   module _ (e₄ : counts_outside (objects (graph os ts)) (length ts) ≡ false) where
-    pub finds_7 : Buffer? (length os - 1) h w ≡ true → Finds (Faulty Buffer) os ts ss h w
+    pub finds_7 : Buffer? (length os - 1) h w ≡ true → Finds (Err Buffer) os ts ss h w
     unfolding fault
     finds_7 e = record { number_is = rw (e₄, e) }
 
     -- 10, 13, 5 or none
-    pub finds_store : Buffer? (length os - 1) h w ≡ false → {v : Verdict} → number_of v ≡ store_fault os ts ss → Finds v os ts ss h w
+    pub finds_store : Buffer? (length os - 1) h w ≡ false → {v : Result (Unit {0}) Refusal} → number_of v ≡ store_fault os ts ss → Finds v os ts ss h w
     unfolding fault
     finds_store e₇ e = record { number_is = rw (e₄, e₇) e }
 
@@ -59,29 +58,26 @@ module _ (os ts ss H W : List ℕ) where
         inside = s.inside;
       }
 
-module _ {os ts ss : List ℕ} (H W : List ℕ) {v : Verdict} (found : Finds v os ts ss (length H) (length W)) where
-  -- by what the checks find
-  pub answered_refused : {cause : Refusal} → v ≡ Faulty cause → Answered os ts ss H W (Faulty cause) H W
-  answered_refused {cause} e =
-      let n = when_faulty found.number_is e in
+-- by what the checks find
+module _ {os ts ss : List ℕ} (H W : List ℕ) where
+  pub answered_refused : {cause : Refusal} → Finds (Err cause) os ts ss (length H) (length W) → Answered os ts ss H W (Err cause) H W
+  answered_refused {cause} found =
       record {
-        number_is = n;
-        counted = λ z. absurd (omega (arith, numbered cause));
-        work_left = λ z. absurd (omega (arith, numbered cause));
+        number_is = found.number_is;
+        counted = λ z. absurd (omega (arith, numbered cause, found.number_is));
+        work_left = λ z. absurd (omega (arith, numbered cause, found.number_is));
         unchanged = λ k z. (refl, refl);
       }
 
-  none_found : v ≡ Fine → fault os ts ss (length H) (length W) ≡ 0
-  none_found e = when_fine found.number_is e
+  module _ {x : Unit {0}} (found : Finds (Ok x) os ts ss (length H) (length W)) where
+    pub found_searchable : Searchable (graph os ts) ss H W
+    found_searchable = searchable os ts ss H W (sym found.number_is)
 
-  pub found_searchable : v ≡ Fine → Searchable (graph os ts) ss H W
-  found_searchable e = searchable os ts ss H W (none_found e)
-
-  pub answered_fine : v ≡ Fine → {H' W' : List ℕ} → HopsOf (graph os ts) ss H' × LinksLeft H' W W' → Answered os ts ss H W Fine H' W'
-  answered_fine e h =
-      record {
-        number_is = sym (none_found e);
-        counted = λ z. h.0;
-        work_left = λ z. h.1;
-        unchanged = λ k z. absurd (omega (arith, none_found e));
-      }
+    pub answered_fine : {y : Unit {0}} {H' W' : List ℕ} → HopsOf (graph os ts) ss H' × LinksLeft H' W W' → Answered os ts ss H W (Ok y) H' W'
+    answered_fine h =
+        record {
+          number_is = found.number_is;
+          counted = λ z. h.0;
+          work_left = λ z. h.1;
+          unchanged = λ k z. absurd (omega (arith, found.number_is));
+        }

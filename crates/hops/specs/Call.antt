@@ -1,6 +1,6 @@
 -- SPECIFICATION 11.2: the call's checks in their order (4, 7, 10, 13, 5), its answer, the lent words afterwards, and how many work words it takes.
-use Rattle.std.specs.Prelude.{◌≡◌, not, ◌||◌, List, ℕ, suc, ◌*◌, eqb, length}
-use Rattle.refusal.specs.declared.Verdict.{Verdict}
+use Rattle.std.specs.Prelude.{◌≡◌, not, ◌||◌, List, ℕ, suc, ◌*◌, eqb, length, Result}
+use Rattle.refusal.specs.declared.Refusal.{Refusal}
 use Rattle.refusal.specs.Number.{number_of}
 use Rattle.refusal.specs.Order.{raise, first}
 use Rattle.graph.specs.Graph.{graph, objects}
@@ -24,11 +24,11 @@ fault offsets targets starts hops work =
     (store_fault offsets targets starts))
 
 -- what the checks find is the first fault
-pub record Finds (v : Verdict) (offsets targets starts : List ℕ) (hops work : ℕ) : Type 0 where
+pub record Finds (v : Result (Unit {0}) Refusal) (offsets targets starts : List ℕ) (hops work : ℕ) : Type 0 where
   pub number_is : number_of v ≡ fault offsets targets starts hops work
 
 -- the promise of the call, for all inputs
-pub record Answered (offsets targets starts hops work : List ℕ) (v : Verdict) (hops' work' : List ℕ) : Type 0 where
+pub record Answered (offsets targets starts hops work : List ℕ) (v : Result (Unit {0}) Refusal) (hops' work' : List ℕ) : Type 0 where
   pub number_is : number_of v ≡ fault offsets targets starts (length hops) (length work)
   -- without a fault: the least lengths of chains
   pub counted : fault offsets targets starts (length hops) (length work) ≡ 0 → HopsOf (graph offsets targets) starts hops'

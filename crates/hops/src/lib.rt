@@ -7,17 +7,16 @@ ghost use Rattle.graph.specs.Limits.{most_objects};
 ghost use Rattle.desk.specs.Length.{length_row};
 ghost use Rattle.hops.specs.Call.{work_words, length_for, Finds, Answered};
 
-use desk::Length;
-use refusal::{Refusal, Verdict};
+use refusal::{Checked, Refusal};
 
 // The number of work words for n objects: two links for each.
-pub fn hop_words(objects: u32) -> Length
+pub fn hop_words(objects: u32) -> Result<u64, Refusal>
     ensures { length_row result ≡ length_for objects }
 {
     if checks::objects_outside(objects) {
-        return Length::Refused(Refusal::Count);
+        return Err(Refusal::Count);
     }
-    Length::Is(2 * objects as u64)
+    Ok(2 * u64::from(objects))
 }
 
 // Check 7: the lent buffers' lengths.
@@ -25,21 +24,18 @@ fn buffers_wrong(n: usize, hops: usize, work: usize) -> bool
     requires { n ≤ most_objects }
     ensures { result ≡ (not (eqb hops n) || not (eqb work (work_words n))) }
 {
-    if hops != n {
-        return true;
-    }
-    work != 2 * n
+    hops != n || work != 2 * n
 }
 
 // The checks, in their order.
-fn check(offsets: &[u32], targets: &[u32], starts: &[u32], hops: usize, work: usize) -> Verdict
+fn check(offsets: &[u32], targets: &[u32], starts: &[u32], hops: usize, work: usize) -> Checked
     ensures { Finds result offsets.now targets.now starts.now hops work }
 {
     if checks::graph_outside(offsets.len(), targets.len()) {
-        return Verdict::Faulty(Refusal::Count);
+        return Err(Refusal::Count);
     }
     if buffers_wrong(offsets.len() - 1, hops, work) {
-        return Verdict::Faulty(Refusal::Buffer);
+        return Err(Refusal::Buffer);
     }
     checks::check_store(offsets, targets, starts)
 }
@@ -51,16 +47,11 @@ pub fn hops(
     starts: &[u32],
     hops: &mut [u32],
     work: &mut [u32],
-) -> Verdict
+) -> Checked
     ensures { Answered offsets.now targets.now starts.now hops.old work.old
         result hops.new work.new }
 {
-    let verdict = check(offsets, targets, starts, hops.len(), work.len());
-    match verdict {
-        Verdict::Faulty(cause) => Verdict::Faulty(cause),
-        Verdict::Fine => {
-            search::search(offsets, targets, starts, hops, work);
-            Verdict::Fine
-        }
-    }
+    check(offsets, targets, starts, hops.len(), work.len())?;
+    search::search(offsets, targets, starts, hops, work);
+    Ok(())
 }

@@ -11,9 +11,10 @@ use native.Mathlib.Decide.{dec_le}
 use lib.ListN.{length, get_or, set, take, length-set}
 use lib.Seq.{get_or-set_same, get_or-set_other, take-suc, take_all}
 use Rattle.laws.specs.Sum.{sum, hit}
-use Rattle.laws.proofs.Sum.{hit_same, hit_other, hit_equal, hit_swap, either_positive, hit_at_most_one, sum_share, sum_snoc, sum_set, at_set, inside}
+use Rattle.laws.proofs.Sum.{hit_same, hit_other, hit_equal, hit_swap, either_positive, hit_at_most_one, sum_share, sum_snoc, sum_set, at_set}
 use Rattle.graph.specs.Graph.{all_below}
 use Rattle.graph.proofs.Formed.{below_all}
+use Rattle.bag.specs.declared.Bag.{Bag}
 use Rattle.bag.specs.Bag.{Addable, Adds, times, contents}
 use Rattle.bag.proofs.Trees.{same_then}
 use Rattle.layers.specs.Hops.{none, hop_of}
@@ -33,11 +34,11 @@ none_hit x e = rw e (hit_same none)
 pub some_hit : (x : ℕ) → x ≢ none → hit none x ≡ 0
 some_hit x h = hit_other none x (λ e. h (sym e))
 
-module _ {hop : ℕ} {H L S : List ℕ} (ok : Growable hop H L S) where
+module _ {hop : ℕ} {H L : List ℕ} {S : Bag} (ok : Growable hop H L S) where
   pub grown_none : Grown hop (λ (v : ℕ). 0) H L S H L S
   grown_none =
       record {
-        bag = ok.bag;
+        sound = ok.sound;
         hops_long = refl;
         links_long = refl;
         kept = λ v h. refl;
@@ -49,10 +50,10 @@ module _ {hop : ℕ} {H L S : List ℕ} (ok : Growable hop H L S) where
       }
 
   -- it can be filled further
-  pub growable_after : {seen : ℕ → ℕ} {H' L' S' : List ℕ} → Grown hop seen H L S H' L' S' → Growable hop H' L' S'
+  pub growable_after : {seen : ℕ → ℕ} {H' L' : List ℕ} {S' : Bag} → Grown hop seen H L S H' L' S' → Growable hop H' L' S'
   growable_after g =
       record {
-        bag = g.bag;
+        sound = g.sound;
         linked = omega (arith, g.links_long, g.hops_long, ok.linked);
         few = omega (arith, g.hops_long, ok.few);
         apart = λ v. omega (arith, g.holds v, ok.apart v);
@@ -60,7 +61,7 @@ module _ {hop : ℕ} {H L S : List ℕ} (ok : Growable hop H L S) where
         low = ok.low;
       }
 
-module _ {hop : ℕ} {a b : ℕ → ℕ} {H L S H' L' S' H'' L'' S'' : List ℕ} (f : Grown hop a H L S H' L' S') (g : Grown hop b H' L' S' H'' L'' S'') where
+module _ {hop : ℕ} {a b : ℕ → ℕ} {H L : List ℕ} {S : Bag} {H' L' : List ℕ} {S' : Bag} {H'' L'' : List ℕ} {S'' : Bag} (f : Grown hop a H L S H' L' S') (g : Grown hop b H' L' S' H'' L'' S'') where
   -- what has a count keeps it
   stays : (v : ℕ) → hop_of H' v ≢ none → hop_of H'' v ≢ none
   stays v h e = h (sym (g.kept v h) ∙ e)
@@ -76,7 +77,7 @@ module _ {hop : ℕ} {a b : ℕ → ℕ} {H L S H' L' S' H'' L'' S'' : List ℕ}
   pub grown_then : Grown hop (λ (v : ℕ). a v + b v) H L S H'' L'' S''
   grown_then =
       record {
-        bag = g.bag;
+        sound = g.sound;
         hops_long = g.hops_long ∙ f.hops_long;
         links_long = g.links_long ∙ f.links_long;
         kept = λ v h. let e = f.kept v h in g.kept v (λ z. h (sym e ∙ z)) ∙ e;
@@ -96,10 +97,10 @@ module _ {hop : ℕ} {a b : ℕ → ℕ} {H L S H' L' S' H'' L'' S'' : List ℕ}
       }
 
 -- looked at as often
-pub grown_as : {hop : ℕ} {a : ℕ → ℕ} (b : ℕ → ℕ) {H L S H' L' S' : List ℕ} → Grown hop a H L S H' L' S' → ((v : ℕ) → b v ≡ a v) → Grown hop b H L S H' L' S'
+pub grown_as : {hop : ℕ} {a : ℕ → ℕ} (b : ℕ → ℕ) {H L : List ℕ} {S : Bag} {H' L' : List ℕ} {S' : Bag} → Grown hop a H L S H' L' S' → ((v : ℕ) → b v ≡ a v) → Grown hop b H L S H' L' S'
 grown_as b g e =
     record {
-      bag = g.bag;
+      sound = g.sound;
       hops_long = g.hops_long;
       links_long = g.links_long;
       kept = g.kept;
@@ -112,12 +113,12 @@ grown_as b g e =
 
 -- ---- one object
 
-module _ {hop : ℕ} {H L S : List ℕ} (ok : Growable hop H L S) (v : ℕ) (low : v < length H) where
+module _ {hop : ℕ} {H L : List ℕ} {S : Bag} (ok : Growable hop H L S) (v : ℕ) (low : v < length H) where
   pub find_known : hop_of H v ≢ none → Grown hop (λ (w : ℕ). hit w v) H L S H L S
   find_known h =
       let g = grown_none ok in
       record {
-        bag = g.bag;
+        sound = g.sound;
         hops_long = refl;
         links_long = refl;
         kept = g.kept;
@@ -132,19 +133,19 @@ module _ {hop : ℕ} {H L S : List ℕ} (ok : Growable hop H L S) (v : ℕ) (low
     pub find_addable : Addable L S v
     find_addable =
         record {
-          bag = ok.bag;
+          sound = ok.sound;
           new = omega (arith, ok.apart v, none_hit (hop_of H v) z);
           linked = omega (arith, ok.linked);
           room = omega (arith, ok.room, ok.few, sum_share (hit none) 0 (hit_other none 0 (λ e. omega arith)) H v, none_hit (hop_of H v) z);
         }
 
-    pub find_new : {L' S' : List ℕ} → Adds L S v L' S' → Grown hop (λ (w : ℕ). hit w v) H L S (set H v hop) L' S'
+    pub find_new : {L' : List ℕ} {S' : Bag} → Adds L S v L' S' → Grown hop (λ (w : ℕ). hit w v) H L S (set H v hop) L' S'
     find_new d =
         let here : hop_of (set H v hop) v ≡ hop = get_or-set_same H v hop 0 low in
         let other : (w : ℕ) → w ≢ v → hop_of (set H v hop) w ≡ hop_of H w = λ w n. get_or-set_other H v w hop 0 n in
         let fresh : hop ≢ none = λ e. omega (arith, ok.low) in
         record {
-          bag = d.bag;
+          sound = d.sound;
           hops_long = length-set H v hop;
           links_long = d.long;
           kept = λ w h. other w (λ e. h (ap (hop_of H) e ∙ z));
@@ -162,22 +163,22 @@ module _ {hop : ℕ} {H L S : List ℕ} (ok : Growable hop H L S) (v : ℕ) (low
 
 -- ---- the objects of a list
 
-module _ (hop : ℕ) (xs H₀ L₀ S₀ : List ℕ) where
+module _ (hop : ℕ) (xs H₀ L₀ : List ℕ) (S₀ : Bag) where
   -- the first i were looked at
-  pub record Listing (H L S : List ℕ) (i : ℕ) : Type 0 where
+  pub record Listing (H L : List ℕ) (S : Bag) (i : ℕ) : Type 0 where
     pub low : i ≤ length xs
     pub grown : Grown hop (λ (w : ℕ). times w (take i xs)) H₀ L₀ S₀ H L S
 
-module _ {hop : ℕ} {xs H₀ L₀ S₀ : List ℕ} (ok : Growable hop H₀ L₀ S₀) (inside : all_below (length H₀) xs ≡ true) where
+module _ {hop : ℕ} {xs H₀ L₀ : List ℕ} {S₀ : Bag} (ok : Growable hop H₀ L₀ S₀) (inside : all_below (length H₀) xs ≡ true) where
   pub listing_start : Listing hop xs H₀ L₀ S₀ H₀ L₀ S₀ 0
   unfolding sum
   listing_start = record { low = omega arith; grown = grown_none ok }
 
-  module _ {H L S : List ℕ} {i : ℕ} (l : Listing hop xs H₀ L₀ S₀ H L S i) where
+  module _ {H L : List ℕ} {S : Bag} {i : ℕ} (l : Listing hop xs H₀ L₀ S₀ H L S i) where
     pub listing_ready : i < length xs → Growable hop H L S × (get_or xs i 0 < length H)
     listing_ready h = (growable_after ok l.grown, omega (arith, below_all (length H₀) xs inside i h, l.grown.hops_long))
 
-    pub listing_next : i < length xs → {H' L' S' : List ℕ} → Grown hop (λ (w : ℕ). hit w (get_or xs i 0)) H L S H' L' S' → Listing hop xs H₀ L₀ S₀ H' L' S' (i + 1)
+    pub listing_next : i < length xs → {H' L' : List ℕ} {S' : Bag} → Grown hop (λ (w : ℕ). hit w (get_or xs i 0)) H L S H' L' S' → Listing hop xs H₀ L₀ S₀ H' L' S' (i + 1)
     listing_next h g =
         rw (add-one i)
         (record {

@@ -20,7 +20,8 @@ use Rattle.graph.specs.Formed.{Formed}
 use Rattle.graph.specs.Limits.{most_objects}
 use Rattle.graph.proofs.Formed.{below_all}
 use Rattle.theorems.proofs.Demand2.{marked_is}
-use Rattle.bag.specs.Bag.{size_of, Bag, Same, times, contents, empty}
+use Rattle.bag.specs.declared.Bag.{Bag}
+use Rattle.bag.specs.Bag.{IsBag, Same, times, contents, empty}
 use Rattle.layers.specs.Hops.{none, Chain, here, on, hop_of, HopsOf, LinksLeft}
 use Rattle.layers.specs.Search.{leads_to, unknown, Growable, Grown, Walkable, Apart, Searchable, Layer}
 use Rattle.layers.proofs.Growing.{alike, none_hit, some_hit}
@@ -111,11 +112,11 @@ module _ {G : Graph} {starts H L : List ℕ} (ok : Searchable G starts H L) wher
   pub begin_growable : Growable 0 (replicate (length H) none) L empty
   begin_growable =
       record {
-        bag = record {
+        sound = record {
           once = λ v. omega (arith, none_in v L);
           linked = λ v h. absurd (omega (arith, none_in v L));
           few = omega (arith, ok.few, ok.linked);
-          words_are = refl;
+          slots_are = refl;
           counted = sym (empty_length L);
         };
         linked = rw (length-replicate {A = ℕ} (length H) none) (omega (arith, ok.linked, ok.sizes));
@@ -125,14 +126,14 @@ module _ {G : Graph} {starts H L : List ℕ} (ok : Searchable G starts H L) wher
         low = omega arith;
       }
 
-  pub layer_start : {H' L' S' : List ℕ} → Grown 0 (λ (w : ℕ). times w starts) (replicate (length H) none) L empty H' L' S' → Layer G starts 0 H' L' S'
+  pub layer_start : {H' L' : List ℕ} {S' : Bag} → Grown 0 (λ (w : ℕ). times w starts) (replicate (length H) none) L empty H' L' S' → Layer G starts 0 H' L' S'
   layer_start {H'} {L'} {S'} g =
       let n : length (replicate {A = ℕ} (length H) none) ≡ objects G = length-replicate {A = ℕ} (length H) none ∙ ok.sizes in
       let fresh : (v : ℕ) → v < objects G → hop_of (replicate (length H) none) v ≡ none = λ v p. get_or-replicate (length H) v none 0 (omega (arith, ok.sizes)) in
       let zero_or_none : (v : ℕ) → v < objects G → hop_of H' v ≢ none → (hop_of H' v ≡ 0) × (0 < times v starts) = λ v p h. g.found v (fresh v p) h in
       let size : length H' ≡ objects G = g.hops_long ∙ n in
       record {
-        bag = g.bag;
+        sound = g.sound;
         sizes = size;
         linked = omega (arith, g.links_long, ok.linked);
         exactly = λ v p.
@@ -167,10 +168,10 @@ module _ {G : Graph} {starts H L : List ℕ} (ok : Searchable G starts H L) wher
 
 -- ---- the links of objects without a count
 
-module _ {hop : ℕ} {seen : ℕ → ℕ} {H L N H' L' S' : List ℕ} (e : N ≡ empty) (g : Grown hop seen H L N H' L' S') where
+module _ {hop : ℕ} {seen : ℕ → ℕ} {H L H' L' : List ℕ} {S' : Bag} (g : Grown hop seen H L empty H' L' S') where
   left_alone : (v : ℕ) → hop_of H' v ≡ none → Same L L' v
   left_alone v z =
-      g.same v (omega (arith, g.holds v, ap (λ (n : List ℕ). times v (contents L n)) e, none_in v L, none_hit (hop_of H' v) z, hit_at_most_one none (hop_of H v)))
+      g.same v (omega (arith, g.holds v, none_in v L, none_hit (hop_of H' v) z, hit_at_most_one none (hop_of H v)))
 
   -- a bag was filled that had been empty
   pub left_first : LinksLeft H' L L'
@@ -188,10 +189,10 @@ module _ {hop : ℕ} {seen : ℕ → ℕ} {H L N H' L' S' : List ℕ} (e : N ≡
 
 -- ---- the next layer
 
-module _ {G : Graph} {starts H L S : List ℕ} {d : ℕ} (formed : Formed G) (few : objects G ≤ most_objects) (y : Layer G starts d H L S) where
+module _ {G : Graph} {starts H L : List ℕ} {S : Bag} {d : ℕ} (formed : Formed G) (few : objects G ≤ most_objects) (y : Layer G starts d H L S) where
   -- an object of the layer
   inside : (v : ℕ) → 0 < times v (contents L S) → v < objects G
-  inside v p = omega (arith, y.bag.linked v p, y.linked, y.sizes)
+  inside v p = omega (arith, y.sound.linked v p, y.linked, y.sizes)
 
   at_layer : (v : ℕ) → 0 < times v (contents L S) → hop_of H v ≡ d
   at_layer v p = sym (hit_equal d (hop_of H v) (omega (arith, y.exactly v (inside v p))))
@@ -199,11 +200,11 @@ module _ {G : Graph} {starts H L S : List ℕ} {d : ℕ} (formed : Formed G) (fe
   pub layer_low : d + 1 < none
   layer_low = omega (arith, y.budget)
 
-  layer_ready : Walkable G (d + 1) H L empty × Apart H L empty (contents L S) × Bag L S
+  layer_ready : Walkable G (d + 1) H L empty × Apart H L empty (contents L S) × IsBag L S
   layer_ready = (
     record {
       growable = record {
-        bag = empty_bag y.bag;
+        sound = empty_bag y.sound;
         linked = y.linked;
         few = omega (arith, y.sizes);
         apart = λ v. omega (arith, none_in v L, hit_at_most_one none (hop_of H v));
@@ -218,10 +219,10 @@ module _ {G : Graph} {starts H L S : List ℕ} {d : ℕ} (formed : Formed G) (fe
       counted = λ v p e. omega (arith, at_layer v p, layer_low);
       outside = λ v p. none_in v L;
     },
-    y.bag,
+    y.sound,
   )
 
-  module _ {H' L' S' : List ℕ} (g : Grown (d + 1) (λ (w : ℕ). sum (leads_to G w) (contents L S)) H L empty H' L' S') where
+  module _ {H' L' : List ℕ} {S' : Bag} (g : Grown (d + 1) (λ (w : ℕ). sum (leads_to G w) (contents L S)) H L empty H' L' S') where
     counts : (v : ℕ) → hop_of H' v ≢ none → hop_of H' v ≤ d + 1
     counts v h =
         ⊎_elim
@@ -283,10 +284,10 @@ module _ {G : Graph} {starts H L S : List ℕ} {d : ℕ} (formed : Formed G) (fe
         let k = g.kept (target G e) r.0 in
         (λ z. r.0 (sym k ∙ z), omega (arith, r.1)))
 
-    layer_next : size_of S ≢ 0 → Layer G starts (d + 1) H' L' S'
+    layer_next : S.size ≢ 0 → Layer G starts (d + 1) H' L' S'
     layer_next more =
         record {
-          bag = g.bag;
+          sound = g.sound;
           sizes = g.hops_long ∙ y.sizes;
           linked = omega (arith, g.links_long, g.hops_long, y.linked);
           exactly = λ v p. exact v;
@@ -294,17 +295,17 @@ module _ {G : Graph} {starts H L S : List ℕ} {d : ℕ} (formed : Formed G) (fe
           chains = chain;
           starts_zero = λ v p. let z = y.starts_zero v p in g.kept v (λ q. omega arith) ∙ z;
           closed = close;
-          budget = omega (arith, g.sized, empty_length L, y.budget, y.bag.counted);
+          budget = omega (arith, g.sized, empty_length L, y.budget, y.sound.counted);
         }
 
-    layer_less : size_of S ≢ 0 → length (contents L' S') + unknown H' < length (contents L S) + unknown H
-    layer_less more = omega (arith, g.sized, empty_length L, y.bag.counted)
+    layer_less : S.size ≢ 0 → length (contents L' S') + unknown H' < length (contents L S) + unknown H
+    layer_less more = omega (arith, g.sized, empty_length L, y.sound.counted)
 
   -- ---- the last layer
 
-  module _ (last : size_of S ≡ 0) where
+  module _ (last : S.size ≡ 0) where
     done : contents L S ≡ []
-    done = no_length (contents L S) (sym y.bag.counted ∙ last)
+    done = no_length (contents L S) (sym y.sound.counted ∙ last)
 
     earlier : (v : ℕ) → v < objects G → hop_of H v ≢ none → hop_of H v < d
     unfolding sum
@@ -343,24 +344,17 @@ module _ {G : Graph} {starts H L : List ℕ} (ok : Searchable G starts H L) {H�
       let n : length H₀ ≡ objects G = ap length fresh ∙ (length-replicate {A = ℕ} (length H) none ∙ ok.sizes) in
       (rw fresh (begin_growable ok), rw n ok.inside)
 
-  pub begun : {H' L' S' : List ℕ} → Grown 0 (λ (w : ℕ). times w starts) H₀ L empty H' L' S' → Layer G starts 0 H' L' S'
+  pub begun : {H' L' : List ℕ} {S' : Bag} → Grown 0 (λ (w : ℕ). times w starts) H₀ L empty H' L' S' → Layer G starts 0 H' L' S'
   begun g = layer_start ok (rw fresh at g)
 
 -- a layer fills a bag that is empty
-module _ {G : Graph} {starts H₀ L₀ H L S N : List ℕ} {d : ℕ} (ok : Searchable G starts H₀ L₀) (y : Layer G starts d H L S) (e : N ≡ empty) where
-  pub pass_ready : Walkable G (d + 1) H L N × Apart H L N (contents L S) × Bag L S
-  pass_ready = rw e (layer_ready ok.formed ok.few y)
+module _ {G : Graph} {starts H₀ L₀ H L : List ℕ} {S : Bag} {d : ℕ} (ok : Searchable G starts H₀ L₀) (y : Layer G starts d H L S) where
+  pub pass_ready : Walkable G (d + 1) H L empty × Apart H L empty (contents L S) × IsBag L S
+  pass_ready = layer_ready ok.formed ok.few y
 
-  module _ {H' L' S' : List ℕ} (g : Grown (d + 1) (λ (w : ℕ). sum (leads_to G w) (contents L S)) H L N H' L' S') (more : size_of S ≢ 0) where
+  module _ {H' L' : List ℕ} {S' : Bag} (g : Grown (d + 1) (λ (w : ℕ). sum (leads_to G w) (contents L S)) H L empty H' L' S') (more : S.size ≢ 0) where
     pub passed : Layer G starts (d + 1) H' L' S'
-    passed = layer_next ok.formed ok.few y (rw e at g) more
+    passed = layer_next ok.formed ok.few y g more
 
     pub passed_less : length (contents L' S') + unknown H' < length (contents L S) + unknown H
-    passed_less = layer_less ok.formed ok.few y (rw e at g) more
-
-module _ {G : Graph} {starts H₀ L₀ H L S : List ℕ} {d : ℕ} (ok : Searchable G starts H₀ L₀) (y : Layer G starts d H L S) where
-  pub hops_same : length H ≡ length H₀
-  hops_same = y.sizes ∙ sym ok.sizes
-
-  pub links_same : length L ≡ length L₀
-  links_same = omega (arith, y.linked, y.sizes, ok.linked)
+    passed_less = layer_less ok.formed ok.few y g more

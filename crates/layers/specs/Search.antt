@@ -2,7 +2,8 @@
 -- and that has no count yet, the next layer is made.
 use Rattle.std.specs.Prelude.{◌≡◌, true, List, ◌≢◌, ℕ, suc, ◌+◌, ◌*◌, ◌≤◌, ◌<◌, length}
 use Rattle.laws.specs.Sum.{sum, hit}
-use Rattle.bag.specs.Bag.{Bag, Same, times, contents}
+use Rattle.bag.specs.declared.Bag.{Bag}
+use Rattle.bag.specs.Bag.{IsBag, Same, times, contents}
 use Rattle.graph.specs.Graph.{Graph, Leaves, objects, target, all_below}
 use Rattle.graph.specs.Formed.{Formed}
 use Rattle.graph.specs.Leaving.{leaving_sum}
@@ -18,17 +19,17 @@ abbrev pub unknown : List ℕ → ℕ
 unknown hops = sum (hit none) hops
 
 -- a bag can be filled: no object in it is one without a count, and there is room for all of these
-pub record Growable (hop : ℕ) (hops links slots : List ℕ) : Type 0 where
-  pub bag : Bag links slots
+pub record Growable (hop : ℕ) (hops links : List ℕ) (bag : Bag) : Type 0 where
+  pub sound : IsBag links bag
   pub linked : length links ≡ 2 * length hops
   pub few : length hops ≤ most_objects
-  pub apart : (v : ℕ) → times v (contents links slots) + hit none (hop_of hops v) ≤ 1
-  pub room : length (contents links slots) + unknown hops ≤ length hops
+  pub apart : (v : ℕ) → times v (contents links bag) + hit none (hop_of hops v) ≤ 1
+  pub room : length (contents links bag) + unknown hops ≤ length hops
   pub low : hop < none
 
 -- after looking at objects, each so often: those without a count got this one, and are in the bag
-pub record Grown (hop : ℕ) (seen : ℕ → ℕ) (hops links slots hops' links' slots' : List ℕ) : Type 0 where
-  pub bag : Bag links' slots'
+pub record Grown (hop : ℕ) (seen : ℕ → ℕ) (hops links : List ℕ) (bag : Bag) (hops' links' : List ℕ) (bag' : Bag) : Type 0 where
+  pub sound : IsBag links' bag'
   pub hops_long : length hops' ≡ length hops
   pub links_long : length links' ≡ length links
   -- a count stays
@@ -38,22 +39,22 @@ pub record Grown (hop : ℕ) (seen : ℕ → ℕ) (hops links slots hops' links'
   -- every object that was looked at has a count
   pub looked : (v : ℕ) → 0 < seen v → hop_of hops' v ≢ none
   -- the bag gets exactly the objects with a new count
-  pub holds : (v : ℕ) → times v (contents links' slots') + hit none (hop_of hops' v) ≡ times v (contents links slots) + hit none (hop_of hops v)
-  pub sized : length (contents links' slots') + unknown hops' ≡ length (contents links slots) + unknown hops
+  pub holds : (v : ℕ) → times v (contents links' bag') + hit none (hop_of hops' v) ≡ times v (contents links bag) + hit none (hop_of hops v)
+  pub sized : length (contents links' bag') + unknown hops' ≡ length (contents links bag) + unknown hops
   -- the links of objects outside the bag are left alone
-  pub same : (v : ℕ) → times v (contents links' slots') ≡ 0 → Same links links' v
+  pub same : (v : ℕ) → times v (contents links' bag') ≡ 0 → Same links links' v
 
 -- the same with a graph, along whose references objects are looked at
-pub record Walkable (G : Graph) (hop : ℕ) (hops links slots : List ℕ) : Type 0 where
-  pub growable : Growable hop hops links slots
+pub record Walkable (G : Graph) (hop : ℕ) (hops links : List ℕ) (bag : Bag) : Type 0 where
+  pub growable : Growable hop hops links bag
   pub formed : Formed G
   pub sizes : length hops ≡ objects G
 
 -- objects that have a count and are not in the bag, so that filling it leaves their links alone
-pub record Apart (hops links slots objects : List ℕ) : Type 0 where
+pub record Apart (hops links : List ℕ) (bag : Bag) (objects : List ℕ) : Type 0 where
   pub inside : (v : ℕ) → 0 < times v objects → v < length hops
   pub counted : (v : ℕ) → 0 < times v objects → hop_of hops v ≢ none
-  pub outside : (v : ℕ) → 0 < times v objects → times v (contents links slots) ≡ 0
+  pub outside : (v : ℕ) → 0 < times v objects → times v (contents links bag) ≡ 0
 
 -- what the search asks: a graph, starts that are objects, and words of the right number
 pub record Searchable (G : Graph) (starts hops links : List ℕ) : Type 0 where
@@ -64,12 +65,12 @@ pub record Searchable (G : Graph) (starts hops links : List ℕ) : Type 0 where
   pub inside : all_below (objects G) starts ≡ true
 
 -- layer d and what is known when it is reached
-pub record Layer (G : Graph) (starts : List ℕ) (d : ℕ) (hops links slots : List ℕ) : Type 0 where
-  pub bag : Bag links slots
+pub record Layer (G : Graph) (starts : List ℕ) (d : ℕ) (hops links : List ℕ) (bag : Bag) : Type 0 where
+  pub sound : IsBag links bag
   pub sizes : length hops ≡ objects G
   pub linked : length links ≡ 2 * length hops
   -- its bag is exactly the objects with d hops
-  pub exactly : (v : ℕ) → v < objects G → times v (contents links slots) ≡ hit d (hop_of hops v)
+  pub exactly : (v : ℕ) → v < objects G → times v (contents links bag) ≡ hit d (hop_of hops v)
   -- counts go up to d, and each is the length of a chain
   pub below : (v : ℕ) → hop_of hops v ≢ none → hop_of hops v ≤ d
   pub chains : (v : ℕ) → v < objects G → hop_of hops v ≢ none → Chain G starts (hop_of hops v) v
@@ -79,4 +80,4 @@ pub record Layer (G : Graph) (starts : List ℕ) (d : ℕ) (hops links slots : L
   pub closed : (u e : ℕ) → Leaves G e u → hop_of hops u < d
       → (hop_of hops (target G e) ≢ none) × (hop_of hops (target G e) ≤ suc (hop_of hops u))
   -- layers and objects that are left are no more than the objects
-  pub budget : d + (length (contents links slots) + unknown hops) ≤ objects G
+  pub budget : d + (length (contents links bag) + unknown hops) ≤ objects G

@@ -12,7 +12,7 @@ ghost use Rattle.changes.specs.Taking.{Gathered, PartReady, PartKept, ObjectsRea
 ghost use Rattle.updates.specs.Call.{Removes, RemoveFinds};
 
 use changes::marking;
-use refusal::{Refusal, Verdict};
+use refusal::{Checked, Refusal};
 use slices::bits;
 use updates::Lengths;
 
@@ -24,23 +24,18 @@ fn gather(numbers: &[u32], taken: &mut [u32], base: u32, end: u32) -> usize
     requires { (base ≤ end) × (end ≤ base + word_bits * length taken.old) }
     ensures { Gathered numbers.now base end result taken.new }
 {
-    let room = taken.len();
-    slices::clear(taken, 0, room);
+    taken.fill(0);
     let mut count: usize = 0;
-    for i in 0..numbers.len() {
-        let e = numbers[i];
-        if base <= e {
-            if e < end {
-                if bits::insert(taken, e - base) {
-                    count += 1;
-                }
-            }
+    for &e in numbers {
+        if base <= e && e < end && bits::insert(taken, e - base) {
+            count += 1;
         }
     }
     count
 }
 
 // How many of m references the numbers name, window by window.
+// Stays (3): each window begins where the last one ended; `step_by` would have the same end worked out beside it.
 fn count_by(numbers: &[u32], taken: &mut [u32], m: usize) -> usize
     requires { (m ≤ most_references) × (1 ≤ length taken.old) × (length taken.old ≤ many_words) }
     ensures { (result ≡ distinct numbers.now m) × (result ≤ m) }
@@ -50,7 +45,7 @@ fn count_by(numbers: &[u32], taken: &mut [u32], m: usize) -> usize
     let mut count: usize = 0;
     let mut from: u32 = 0;
     while from < all {
-        let to = slices::smaller(all, from + size);
+        let to = all.min(from + size);
         count += gather(numbers, taken, from, to);
         from = to;
     }
@@ -58,6 +53,7 @@ fn count_by(numbers: &[u32], taken: &mut [u32], m: usize) -> usize
 }
 
 // The same with a set of references, which is small where there are few.
+// Stays (2): the two sets are arrays of their own sizes; a closure that is given either one would leave the same choice.
 fn count_named(numbers: &[u32], m: usize) -> usize
     requires { m ≤ most_references }
     ensures { (result ≡ distinct numbers.now m) × (result ≤ m) }
@@ -77,24 +73,25 @@ fn check(
     numbers: &[u32],
     starts: &[u32],
     lengths: Lengths,
-) -> Verdict
+) -> Checked
     ensures { RemoveFinds result offsets.now targets.now numbers.now starts.now lengths }
 {
     if checks::graph_outside(offsets.len(), targets.len()) {
-        return Verdict::Faulty(Refusal::Count);
+        return Err(Refusal::Count);
     }
     if !graph::is_below(targets.len(), numbers) {
-        return Verdict::Faulty(Refusal::Object);
+        return Err(Refusal::Object);
     }
     let named = count_named(numbers, targets.len());
     if updates::lengths_wrong(offsets.len() - 1, targets.len() - named, lengths) {
-        return Verdict::Faulty(Refusal::Buffer);
+        return Err(Refusal::Buffer);
     }
     checks::check_store(offsets, targets, starts)
 }
 
 // Writes the targets of those references from one to another that stay, from a place on. The bits are those of the
 // references from base on. Where the next target goes.
+// Stays (3): a reference's number names its bit as well as its place.
 fn keep_part(
     targets: &[u32],
     taken: &[u32],
@@ -127,6 +124,7 @@ pub struct Progress {
 }
 
 // Writes the targets up to the window's end, and the offsets of the objects whose references begin in it.
+// Stays (3): an object's number is where its offset is written and where the next window begins.
 fn keep_objects(
     offsets: &[u32],
     targets: &[u32],
@@ -189,13 +187,14 @@ fn keep_by(
     };
     while done.object < offsets.len() {
         let from = done.reference as u32;
-        let to = slices::smaller(all, from + size);
+        let to = all.min(from + size);
         gather(numbers, taken, from, to);
         done = keep_objects(offsets, targets, taken, bounds, places, done, to as usize);
     }
 }
 
 // The same with a set of references, which is small where there are few.
+// Stays (2): as `count_named`.
 fn keep(offsets: &[u32], targets: &[u32], numbers: &[u32], bounds: &mut [u32], places: &mut [u32])
     requires { Formed (graph offsets.now targets.now) × (length targets.now ≤ most_references)
         × (length bounds.old ≡ length offsets.now) × (length places.old ≡ staying numbers.now (length targets.now)) }
@@ -218,8 +217,7 @@ fn mark_afresh(offsets: &[u32], targets: &[u32], starts: &[u32], marks: &mut [u8
     ensures { (marks.new ≡ marks_afresh (graph offsets.now targets.now) starts.now)
         × ListLeft 0 (replicate (length marks.old) 0) work.old marks.new work.new }
 {
-    let n = marks.len();
-    slices::clear_bytes(marks, 0, n);
+    marks.fill(0);
     let count = marking::touch_all(marks, work, 0, starts, START);
     marking::follow(offsets, targets, marks, work, count);
 }
@@ -234,24 +232,14 @@ pub fn remove(
     places: &mut [u32],
     marks: &mut [u8],
     work: &mut [u32],
-) -> Verdict
+) -> Checked
     ensures { Removes offsets.now targets.now numbers.now starts.now
         bounds.old places.old marks.old work.old
         result bounds.new places.new marks.new work.new }
 {
-    let lengths = Lengths {
-        offsets: bounds.len(),
-        targets: places.len(),
-        marks: marks.len(),
-        work: work.len(),
-    };
-    let verdict = check(offsets, targets, numbers, starts, lengths);
-    match verdict {
-        Verdict::Faulty(cause) => Verdict::Faulty(cause),
-        Verdict::Fine => {
-            keep(offsets, targets, numbers, bounds, places);
-            mark_afresh(bounds, places, starts, marks, work);
-            Verdict::Fine
-        }
-    }
+    let lengths = Lengths::of(bounds, places, marks, work);
+    check(offsets, targets, numbers, starts, lengths)?;
+    keep(offsets, targets, numbers, bounds, places);
+    mark_afresh(bounds, places, starts, marks, work);
+    Ok(())
 }

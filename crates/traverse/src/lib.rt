@@ -8,7 +8,10 @@ ghost use Rattle.bag.specs.Bag.{slot_count, tree_of, pennant_of};
 ghost use Rattle.graph.specs.Graph.{graph};
 ghost use Rattle.layers.specs.Search.{leads_to, Growable, Grown, Walkable, Apart};
 
+use bag::Bag;
+
 // The hop count of an object to which no chain leads.
+// Stays (1): the counts are lent words of the C interface (`kullneyra_hops`), and layers `Hops.none` is this number.
 pub const NONE: u32 = 4294967295;
 
 // A tree or a pennant of a bag: how high it is, and the object at its root.
@@ -19,15 +22,15 @@ pub struct Tree {
 }
 
 // Gives an object its hop count and puts it into the bag, unless it has one.
-pub fn find(hops: &mut [u32], links: &mut [u32], slots: &mut [u32; 18], hop: u32, v: u32)
-    requires { Growable hop hops.old links.old slots.old × (v < length hops.old) }
-    ensures { Grown hop (λ (w : ℕ). hit w v) hops.old links.old slots.old
-        hops.new links.new slots.new }
+pub fn find(hops: &mut [u32], links: &mut [u32], bag: &mut Bag, hop: u32, v: u32)
+    requires { Growable hop hops.old links.old bag.old × (v < length hops.old) }
+    ensures { Grown hop (λ (w : ℕ). hit w v) hops.old links.old bag.old
+        hops.new links.new bag.new }
 {
     let i = v as usize;
     if hops[i] == NONE {
         hops[i] = hop;
-        bag::add(links, slots, v);
+        bag.add(links, v);
     }
 }
 
@@ -37,66 +40,65 @@ fn visit(
     targets: &[u32],
     hops: &mut [u32],
     links: &mut [u32],
-    slots: &mut [u32; 18],
+    bag: &mut Bag,
     hop: u32,
     u: u32,
 )
-    requires { Walkable (graph offsets.now targets.now) hop hops.old links.old slots.old × (u < length hops.old) }
+    requires { Walkable (graph offsets.now targets.now) hop hops.old links.old bag.old × (u < length hops.old) }
     ensures { Grown hop (λ (w : ℕ). leads_to (graph offsets.now targets.now) w u)
-        hops.old links.old slots.old hops.new links.new slots.new }
+        hops.old links.old bag.old hops.new links.new bag.new }
 {
     let start = offsets[u as usize] as usize;
     let end = offsets[u as usize + 1] as usize;
-    for e in start..end {
-        find(hops, links, slots, hop, targets[e]);
+    for v in &targets[start..end] {
+        find(hops, links, bag, hop, *v);
     }
 }
 
-// The same for all objects of a tree: from the root down the left, while the trees to the right wait
-// with their heights.
+// The same for all objects of a tree: its root, the tree to the left and the one to the right.
 fn walk(
     offsets: &[u32],
     targets: &[u32],
     hops: &mut [u32],
     links: &mut [u32],
-    slots: &mut [u32; 18],
+    bag: &mut Bag,
     hop: u32,
     tree: Tree,
 )
-    requires { Walkable (graph offsets.now targets.now) hop hops.old links.old slots.old
-        × Apart hops.old links.old slots.old (tree_of tree.height links.old tree.root) × (tree.height < slot_count) }
+    requires { Walkable (graph offsets.now targets.now) hop hops.old links.old bag.old
+        × Apart hops.old links.old bag.old (tree_of tree.height links.old tree.root) × (tree.height < slot_count) }
     ensures { Grown hop (λ (w : ℕ). sum (leads_to (graph offsets.now targets.now) w)
         (tree_of tree.height links.old tree.root))
-        hops.old links.old slots.old hops.new links.new slots.new }
+        hops.old links.old bag.old hops.new links.new bag.new }
 {
     if tree.height == 0 {
         return;
     }
-    let mut rights = [0u32; 16];
-    let mut heights = [0usize; 16];
-    let mut depth: usize = 0;
-    let mut at = tree.root;
-    let mut rest = tree.height;
-    while rest != 0 {
-        if rest != 1 {
-            let left = links[2 * at as usize];
-            let right = links[2 * at as usize + 1];
-            rest = rest - 1;
-            rights[depth] = right;
-            heights[depth] = rest;
-            depth += 1;
-            visit(offsets, targets, hops, links, slots, hop, at);
-            at = left;
-        } else {
-            visit(offsets, targets, hops, links, slots, hop, at);
-            if depth == 0 {
-                return;
-            }
-            depth = depth - 1;
-            at = rights[depth];
-            rest = heights[depth];
-        }
-    }
+    let height = tree.height - 1;
+    let left = links[2 * tree.root as usize];
+    let right = links[2 * tree.root as usize + 1];
+    visit(offsets, targets, hops, links, bag, hop, tree.root);
+    walk(
+        offsets,
+        targets,
+        hops,
+        links,
+        bag,
+        hop,
+        Tree { height, root: left },
+    );
+    walk(
+        offsets,
+        targets,
+        hops,
+        links,
+        bag,
+        hop,
+        Tree {
+            height,
+            root: right,
+        },
+    );
 }
 
 // The same for all objects of a pennant.
@@ -105,21 +107,21 @@ pub fn fill(
     targets: &[u32],
     hops: &mut [u32],
     links: &mut [u32],
-    slots: &mut [u32; 18],
+    bag: &mut Bag,
     hop: u32,
     pennant: Tree,
 )
-    requires { Walkable (graph offsets.now targets.now) hop hops.old links.old slots.old
-        × Apart hops.old links.old slots.old (pennant_of pennant.height links.old pennant.root) × (pennant.height < slot_count) }
+    requires { Walkable (graph offsets.now targets.now) hop hops.old links.old bag.old
+        × Apart hops.old links.old bag.old (pennant_of pennant.height links.old pennant.root) × (pennant.height < slot_count) }
     ensures { Grown hop (λ (w : ℕ). sum (leads_to (graph offsets.now targets.now) w)
         (pennant_of pennant.height links.old pennant.root))
-        hops.old links.old slots.old hops.new links.new slots.new }
+        hops.old links.old bag.old hops.new links.new bag.new }
 {
     let below = links[2 * pennant.root as usize];
-    visit(offsets, targets, hops, links, slots, hop, pennant.root);
+    visit(offsets, targets, hops, links, bag, hop, pennant.root);
     let tree = Tree {
         height: pennant.height,
         root: below,
     };
-    walk(offsets, targets, hops, links, slots, hop, tree);
+    walk(offsets, targets, hops, links, bag, hop, tree);
 }

@@ -10,12 +10,11 @@ use borrow.Author.Tests.{eqb-true, not-false, ltb-false, lt-ltb, le-ltb}
 use Rattle.laws.specs.Test.{all_up_to}
 use Rattle.refusal.specs.declared.Refusal.{Refusal}
 use Rattle.refusal.specs.declared.Refusal.TheVariants.{Count, Buffer, Graph as NoGraph, Object, Marks}
-use Rattle.refusal.specs.declared.Verdict.{Verdict}
-use Rattle.refusal.specs.declared.Verdict.TheVariants.{Fine, Faulty}
+use Rattle.std.specs.Prelude.{Result, Ok, Err}
 use Rattle.refusal.specs.Number.{number_of}
 use Rattle.refusal.specs.Order.{raise}
 use Rattle.refusal.proofs.None.{raise_none, first_none, or_none}
-use Rattle.refusal.proofs.Numbers.{numbered, when_fine, when_faulty}
+use Rattle.refusal.proofs.Numbers.{numbered}
 use Rattle.graph.specs.Graph.{Graph, graph, objects, all_below, well_formed}
 use Rattle.graph.specs.Chain.{Closed}
 use Rattle.graph.specs.Formed.{Formed}
@@ -68,36 +67,36 @@ abbrev pub Pairs? : ℕ → List ℕ → List ℕ → Bool
 Pairs? n from to = not (all_below n from) || not (all_below n to)
 
 module _ {os ts from to ms : List ℕ} {l : Lengths} where
-  pub add_4 : counts_outside (length os - 1) (length ts) ≡ true → AddFinds (Faulty Count) os ts from to ms l
+  pub add_4 : counts_outside (length os - 1) (length ts) ≡ true → AddFinds (Err Count) os ts from to ms l
   unfolding add_fault
   add_4 e = record { number_is = rw e }
 
   module _ (e₄ : counts_outside (length os - 1) (length ts) ≡ false) where
-    pub add_sum : ltb most_references (length ts + length from) ≡ true → AddFinds (Faulty Count) os ts from to ms l
+    pub add_sum : ltb most_references (length ts + length from) ≡ true → AddFinds (Err Count) os ts from to ms l
     unfolding add_fault
     add_sum e = record { number_is = rw (e₄, e) }
 
     module _ (s₄ : ltb most_references (length ts + length from) ≡ false) where
-      pub add_7 : Lists? (length os - 1) (length ts) from to l ≡ true → AddFinds (Faulty Buffer) os ts from to ms l
+      pub add_7 : Lists? (length os - 1) (length ts) from to l ≡ true → AddFinds (Err Buffer) os ts from to ms l
       unfolding add_fault
       add_7 e = record { number_is = rw (e₄, s₄, e) }
 
       module _ (e₇ : Lists? (length os - 1) (length ts) from to l ≡ false) where
-        pub add_10 : well_formed (graph os ts) ≡ false → AddFinds (Faulty NoGraph) os ts from to ms l
+        pub add_10 : well_formed (graph os ts) ≡ false → AddFinds (Err NoGraph) os ts from to ms l
         unfolding add_fault
         add_10 e = record { number_is = rw (e₄, s₄, e₇, e) }
 
         module _ (e₁₀ : well_formed (graph os ts) ≡ true) where
-          pub add_5 : Pairs? (length os - 1) from to ≡ true → AddFinds (Faulty Object) os ts from to ms l
+          pub add_5 : Pairs? (length os - 1) from to ≡ true → AddFinds (Err Object) os ts from to ms l
           unfolding add_fault
           add_5 e = record { number_is = rw (e₄, s₄, e₇, e₁₀, e) }
 
           module _ (e₅ : Pairs? (length os - 1) from to ≡ false) where
-            pub add_17 : all_up_to (length os - 1) (closed_at (graph os ts) ms) ≡ false → AddFinds (Faulty Marks) os ts from to ms l
+            pub add_17 : all_up_to (length os - 1) (closed_at (graph os ts) ms) ≡ false → AddFinds (Err Marks) os ts from to ms l
             unfolding add_fault
             add_17 e = record { number_is = rw (e₄, s₄, e₇, e₁₀, e₅) (sym (ap (λ (t : Bool). raise (not t) 17 0) e)) }
 
-            pub add_none : all_up_to (length os - 1) (closed_at (graph os ts) ms) ≡ true → AddFinds Fine os ts from to ms l
+            pub add_none : all_up_to (length os - 1) (closed_at (graph os ts) ms) ≡ true → AddFinds (Ok tt) os ts from to ms l
             unfolding add_fault
             add_none e = record { number_is = rw (e₄, s₄, e₇, e₁₀, e₅) (sym (ap (λ (t : Bool). raise (not t) 17 0) e)) }
 
@@ -173,58 +172,58 @@ module _ (os ts from to bounds places ms work : List ℕ) where
             (not-false _ (raise_none (not (all_up_to n (closed_at (graph os ts) ms))) 16 0 e.1).0);
       }
 
-module _ {os ts from to : List ℕ} (bounds places ms work : List ℕ) {v : Verdict} (found : AddFinds v os ts from to ms (lengths bounds places ms work)) where
-  pub adds_refused : {cause : Refusal} → v ≡ Faulty cause → Adds os ts from to bounds places ms work (Faulty cause) bounds places ms work
-  adds_refused {cause} e =
-      let k = when_faulty found.number_is e in
+module _ {os ts from to : List ℕ} (bounds places ms work : List ℕ) where
+  pub adds_refused : {cause : Refusal} → AddFinds (Err cause) os ts from to ms (lengths bounds places ms work)
+      → Adds os ts from to bounds places ms work (Err cause) bounds places ms work
+  adds_refused {cause} found =
       record {
-        number_is = k;
-        store_is = λ z. absurd (omega (arith, z, k, numbered cause));
-        marks_are = λ z. absurd (omega (arith, z, k, numbered cause));
-        promise = λ z. absurd (omega (arith, z, k, numbered cause));
-        work_left = λ z. absurd (omega (arith, z, k, numbered cause));
+        number_is = found.number_is;
+        store_is = λ z. absurd (omega (arith, z, found.number_is, numbered cause));
+        marks_are = λ z. absurd (omega (arith, z, found.number_is, numbered cause));
+        promise = λ z. absurd (omega (arith, z, found.number_is, numbered cause));
+        work_left = λ z. absurd (omega (arith, z, found.number_is, numbered cause));
         unchanged = λ i z. (refl, refl, refl, refl);
       }
 
-  pub found_ready : v ≡ Fine → AddReady os ts from to bounds places ms work
-  found_ready e = add_ready os ts from to bounds places ms work (when_fine found.number_is e)
+  module _ {x : Unit {0}} (found : AddFinds (Ok x) os ts from to ms (lengths bounds places ms work)) where
+    pub found_ready : AddReady os ts from to bounds places ms work
+    found_ready = add_ready os ts from to bounds places ms work (sym found.number_is)
 
-  pub adds_fine : v ≡ Fine → {bounds' places' ms' work' : List ℕ} → graph bounds' places' ≡ added (graph os ts) (paired from to)
-      → ms' ≡ completed (added (graph os ts) (paired from to)) ms → ListLeft 0 ms work ms' work'
-      → Adds os ts from to bounds places ms work Fine bounds' places' ms' work'
-  adds_fine e g m left =
-      let z = when_fine found.number_is e in
-      let r = found_ready e in
-      let a = r.addable in
-      let low = paired_inside (length os - 1) from to a.alike a.from_below a.to_below in
-      record {
-        number_is = sym z;
-        store_is = λ q. g;
-        marks_are = λ q. m;
-        promise = λ q. rw m (add_promise (graph os ts) a.formed (paired from to) low ms r.marks_long r.closed);
-        work_left = λ q. left;
-        unchanged = λ i q. absurd (omega (arith, z, q));
-      }
+    pub adds_fine : {y : Unit {0}} {bounds' places' ms' work' : List ℕ} → graph bounds' places' ≡ added (graph os ts) (paired from to)
+        → ms' ≡ completed (added (graph os ts) (paired from to)) ms → ListLeft 0 ms work ms' work'
+        → Adds os ts from to bounds places ms work (Ok y) bounds' places' ms' work'
+    adds_fine g m left =
+        let r = found_ready in
+        let a = r.addable in
+        let low = paired_inside (length os - 1) from to a.alike a.from_below a.to_below in
+        record {
+          number_is = found.number_is;
+          store_is = λ q. g;
+          marks_are = λ q. m;
+          promise = λ q. rw m (add_promise (graph os ts) a.formed (paired from to) low ms r.marks_long r.closed);
+          work_left = λ q. left;
+          unchanged = λ i q. absurd (omega (arith, found.number_is, q));
+        }
 
 -- ---- taking out
 
 module _ {os ts ns starts : List ℕ} {l : Lengths} where
-  pub remove_4 : counts_outside (length os - 1) (length ts) ≡ true → RemoveFinds (Faulty Count) os ts ns starts l
+  pub remove_4 : counts_outside (length os - 1) (length ts) ≡ true → RemoveFinds (Err Count) os ts ns starts l
   unfolding remove_fault
   remove_4 e = record { number_is = rw e }
 
   module _ (e₄ : counts_outside (length os - 1) (length ts) ≡ false) where
-    pub remove_5 : all_below (length ts) ns ≡ false → RemoveFinds (Faulty Object) os ts ns starts l
+    pub remove_5 : all_below (length ts) ns ≡ false → RemoveFinds (Err Object) os ts ns starts l
     unfolding remove_fault
     remove_5 e = record { number_is = rw (e₄, e) }
 
     module _ (e₅ : all_below (length ts) ns ≡ true) {r : ℕ} (g : r ≡ distinct ns (length ts)) where
-      pub remove_7 : lengths_wrong (length os - 1) (length ts - r) l ≡ true → RemoveFinds (Faulty Buffer) os ts ns starts l
+      pub remove_7 : lengths_wrong (length os - 1) (length ts - r) l ≡ true → RemoveFinds (Err Buffer) os ts ns starts l
       unfolding remove_fault
       remove_7 e = record { number_is = rw (e₄, e₅, ← g, e) }
 
       -- by what the checks of the store find: none, 10, 13 or 5
-      pub remove_by : lengths_wrong (length os - 1) (length ts - r) l ≡ false → (v : Verdict) → number_of v ≡ store_fault os ts starts
+      pub remove_by : lengths_wrong (length os - 1) (length ts - r) l ≡ false → (v : Result (Unit {0}) Refusal) → number_of v ≡ store_fault os ts starts
           → RemoveFinds v os ts ns starts l
       unfolding remove_fault
       remove_by e₇ v e = record { number_is = rw (e₄, e₅, ← g, e₇) e }
@@ -265,39 +264,38 @@ module _ (os ts ns starts bounds places ms work : List ℕ) where
         starts_low = rw f.marks_long s.inside;
       }
 
-module _ {os ts ns starts : List ℕ} (bounds places ms work : List ℕ) {v : Verdict}
-    (found : RemoveFinds v os ts ns starts (lengths bounds places ms work)) where
-  pub removes_refused : {cause : Refusal} → v ≡ Faulty cause → Removes os ts ns starts bounds places ms work (Faulty cause) bounds places ms work
-  removes_refused {cause} e =
-      let k = when_faulty found.number_is e in
+module _ {os ts ns starts : List ℕ} (bounds places ms work : List ℕ) where
+  pub removes_refused : {cause : Refusal} → RemoveFinds (Err cause) os ts ns starts (lengths bounds places ms work)
+      → Removes os ts ns starts bounds places ms work (Err cause) bounds places ms work
+  removes_refused {cause} found =
       record {
-        number_is = k;
-        store_is = λ z. absurd (omega (arith, z, k, numbered cause));
-        marks_are = λ z. absurd (omega (arith, z, k, numbered cause));
-        promise = λ z. absurd (omega (arith, z, k, numbered cause));
-        work_left = λ z. absurd (omega (arith, z, k, numbered cause));
+        number_is = found.number_is;
+        store_is = λ z. absurd (omega (arith, z, found.number_is, numbered cause));
+        marks_are = λ z. absurd (omega (arith, z, found.number_is, numbered cause));
+        promise = λ z. absurd (omega (arith, z, found.number_is, numbered cause));
+        work_left = λ z. absurd (omega (arith, z, found.number_is, numbered cause));
         unchanged = λ i z. (refl, refl, refl, refl);
       }
 
-  pub found_removable : v ≡ Fine → RemoveReady os ts ns starts bounds places ms work
-  found_removable e = remove_ready os ts ns starts bounds places ms work (when_fine found.number_is e)
+  module _ {x : Unit {0}} (found : RemoveFinds (Ok x) os ts ns starts (lengths bounds places ms work)) where
+    pub found_removable : RemoveReady os ts ns starts bounds places ms work
+    found_removable = remove_ready os ts ns starts bounds places ms work (sym found.number_is)
 
-  pub removes_fine : v ≡ Fine → {bounds' places' ms' work' : List ℕ} → graph bounds' places' ≡ removed (graph os ts) ns
-      → ms' ≡ marks_afresh (removed (graph os ts) ns) starts → ListLeft 0 (replicate (length ms) 0) work ms' work'
-      → Removes os ts ns starts bounds places ms work Fine bounds' places' ms' work'
-  removes_fine e g m left =
-      let z = when_fine found.number_is e in
-      let r = found_removable e in
-      let G = removed (graph os ts) ns in
-      let n : length ms ≡ objects G = omega (arith, r.marks_long, removed_objects ns (graph os ts) r.formed) in
-      record {
-        number_is = sym z;
-        store_is = λ q. g;
-        marks_are = λ q. m;
-        promise = λ q. rw m (afresh_promise G (removed_formed ns (graph os ts) r.formed) starts (rw n at r.starts_low));
-        work_left = λ q. left;
-        unchanged = λ i q. absurd (omega (arith, z, q));
-      }
+    pub removes_fine : {y : Unit {0}} {bounds' places' ms' work' : List ℕ} → graph bounds' places' ≡ removed (graph os ts) ns
+        → ms' ≡ marks_afresh (removed (graph os ts) ns) starts → ListLeft 0 (replicate (length ms) 0) work ms' work'
+        → Removes os ts ns starts bounds places ms work (Ok y) bounds' places' ms' work'
+    removes_fine g m left =
+        let r = found_removable in
+        let G = removed (graph os ts) ns in
+        let n : length ms ≡ objects G = omega (arith, r.marks_long, removed_objects ns (graph os ts) r.formed) in
+        record {
+          number_is = found.number_is;
+          store_is = λ q. g;
+          marks_are = λ q. m;
+          promise = λ q. rw m (afresh_promise G (removed_formed ns (graph os ts) r.formed) starts (rw n at r.starts_low));
+          work_left = λ q. left;
+          unchanged = λ i q. absurd (omega (arith, found.number_is, q));
+        }
 
 -- ---- from the checks to what remains
 

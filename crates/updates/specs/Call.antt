@@ -1,8 +1,8 @@
 -- SPECIFICATION 12: the two calls' checks in their order, their answers, the lent words afterwards, and how many work words they take.
-use Rattle.std.specs.Prelude.{◌≡◌, Bool, not, ◌||◌, List, ℕ, suc, ◌+◌, ◌-◌, ltb, eqb, length, get_or, replicate}
+use Rattle.std.specs.Prelude.{◌≡◌, Bool, not, ◌||◌, List, ℕ, suc, ◌+◌, ◌-◌, ltb, eqb, length, get_or, replicate, Result}
 use Rattle.laws.specs.Choice.{either}
 use Rattle.laws.specs.Test.{all, all_up_to}
-use Rattle.refusal.specs.declared.Verdict.{Verdict}
+use Rattle.refusal.specs.declared.Refusal.{Refusal}
 use Rattle.refusal.specs.Number.{number_of}
 use Rattle.refusal.specs.Order.{raise, first}
 use Rattle.graph.specs.Graph.{Graph, graph, objects, references, references_of, all_below}
@@ -68,11 +68,11 @@ add_fault offsets targets from to marks l =
     (marks_fault (graph offsets targets) marks)))))
 
 -- what the checks find is the first fault
-pub record AddFinds (v : Verdict) (offsets targets from to marks : List ℕ) (l : Lengths) : Type 0 where
+pub record AddFinds (v : Result (Unit {0}) Refusal) (offsets targets from to marks : List ℕ) (l : Lengths) : Type 0 where
   pub number_is : number_of v ≡ add_fault offsets targets from to marks l
 
 -- the promise of the call, for all inputs
-pub record Adds (offsets targets from to new_offsets new_targets marks work : List ℕ) (v : Verdict) (new_offsets' new_targets' marks' work' : List ℕ)
+pub record Adds (offsets targets from to new_offsets new_targets marks work : List ℕ) (v : Result (Unit {0}) Refusal) (new_offsets' new_targets' marks' work' : List ℕ)
     : Type 0 where
   pub number_is : number_of v ≡ add_fault offsets targets from to marks (lengths new_offsets new_targets marks work)
   -- without a fault: the enlarged store, and the marks completed on it
@@ -107,11 +107,11 @@ remove_fault offsets targets ns starts l =
     (store_fault offsets targets starts)))
 
 -- what the checks find is the first fault
-pub record RemoveFinds (v : Verdict) (offsets targets ns starts : List ℕ) (l : Lengths) : Type 0 where
+pub record RemoveFinds (v : Result (Unit {0}) Refusal) (offsets targets ns starts : List ℕ) (l : Lengths) : Type 0 where
   pub number_is : number_of v ≡ remove_fault offsets targets ns starts l
 
 -- the promise of the call, for all inputs
-pub record Removes (offsets targets ns starts new_offsets new_targets marks work : List ℕ) (v : Verdict) (new_offsets' new_targets' marks' work' : List ℕ)
+pub record Removes (offsets targets ns starts new_offsets new_targets marks work : List ℕ) (v : Result (Unit {0}) Refusal) (new_offsets' new_targets' marks' work' : List ℕ)
     : Type 0 where
   pub number_is : number_of v ≡ remove_fault offsets targets ns starts (lengths new_offsets new_targets marks work)
   -- without a fault: what remains, and the marks afresh on it
