@@ -150,6 +150,7 @@ fn stride(before: Option<Turn>, now: Turn, step: usize, left: usize) -> usize {
 }
 
 // The number of the name that a window is.
+// Stays (6): names are lent as bytes end to end, so `binary_search_by` has no slice of names; and the index says where to begin.
 pub fn find(names: &LentNames, index: &[u32], window: &[u8]) -> Option<usize>
     requires { Searchable (names_in names.now) index.now window.now }
     ensures { FoundIs (names_in names.now) window.now result }
@@ -214,6 +215,7 @@ fn slide(text: &[u8], from: usize, width: usize, index: &[u32]) -> Result<usize,
 }
 
 // The next place where a name may stand. The bytes up to `sure` were looked at before.
+// Stays (3): the place jumps behind what was found, by up to a name's width, and no iterator of std's does.
 pub fn next_place(
     text: &[u8],
     from: usize,
