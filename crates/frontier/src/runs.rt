@@ -22,7 +22,7 @@ fn further(offset: u32, e: u32, low: usize, half: usize) -> usize
     requires { low + half < 2 ^ 64 }
     ensures { result ≡ pick (leb offset e) (low + half) low }
 {
-    let at = (e as u64 + WORDS - offset as u64) / WORDS;
+    let at = (u64::from(e) + WORDS - u64::from(offset)) / WORDS;
     low + half * at as usize
 }
 
@@ -104,10 +104,8 @@ fn check_runs(
 {
     let mut carried = 0;
     let mut whole = true;
-    let pairs = stretch.len() / 2;
-    for i in 0..pairs {
-        let from = stretch[2 * i];
-        let to = stretch[2 * i + 1];
+    let (pairs, _) = stretch.as_chunks::<2>();
+    for (i, &[from, to]) in pairs.iter().enumerate() {
         if to <= from {
             return Some(Runs { pairs: i, carried });
         }
@@ -121,7 +119,10 @@ fn check_runs(
         }
         carried += u64::from(to - from);
     }
-    Some(Runs { pairs, carried })
+    Some(Runs {
+        pairs: pairs.len(),
+        carried,
+    })
 }
 
 // Whether the words are zeros. Looks at all of them, so that the processor takes several at once.

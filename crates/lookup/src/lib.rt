@@ -87,11 +87,19 @@ pub fn all_digits(bytes: &[u8]) -> bool
 }
 
 // How bytes and a name stand to each other. The lead of the bytes is handed in, since many names are looked at.
+// Stays (4): the leads compared by `cmp` and `then_with`, tried, and texts full of names take a tenth longer.
 fn look(bytes: &[u8], head: u64, name: &[u8]) -> Ordering
     requires { (length name.now ≡ length bytes.now) × (head ≡ lead_of bytes.now) }
     ensures { result ≡ order bytes.now name.now }
 {
-    head.cmp(&lead(name)).then_with(|| bytes.cmp(name))
+    let other = lead(name);
+    if head < other {
+        return Ordering::Less;
+    }
+    if other < head {
+        return Ordering::Greater;
+    }
+    bytes.cmp(name)
 }
 
 // The order of two names.
