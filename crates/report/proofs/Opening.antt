@@ -1,4 +1,4 @@
--- The program's course up to the header: which text is due at each of its ends.
+-- The program's course up to the header: what it leaves to the store; and the promise, of what is written.
 use mathlib.Core.Path.{◌≡◌, refl, sym, ap, subst, ◌∙◌}
 use mathlib.Core.Bool.{◌||◌}
 use mathlib.Core.List.{List}
@@ -9,41 +9,21 @@ use lib.Seq.{take_at}
 use lib.Dec.{ltb}
 use borrow.Author.Tests.{ltb-false}
 use Rattle.laws.specs.Words.{Bytes}
-use Rattle.refusal.specs.declared.Refusal.{Refusal}
-use Rattle.refusal.specs.Number.{number}
 use Rattle.refusal.proofs.None.{first_none, raise_none, or_none}
-use Rattle.refusal.proofs.Numbers.{first_found}
-use Rattle.slices.specs.Put.{Put}
-use Rattle.slices.proofs.Written.{same_long}
 use Rattle.records.specs.Layout.{header}
 use Rattle.records.specs.Store.{objects, references}
 use Rattle.records.specs.Reading.{store_of, record_fault, n_field, m_field}
-use Rattle.std.specs.Prelude.{Ok, Err}
+use Rattle.std.specs.Prelude.{Ok}
 use Rattle.faults.specs.declared.Header.{Header}
 use Rattle.catalogue.specs.Answer.{Row, row, header_row, header_values}
 use Rattle.catalogue.proofs.Reader.{store_objects, store_references}
 use Rattle.program.specs.Limits.{most_objects, most_references, order_length, text_room}
-use Rattle.lines.specs.Lines.{refusal_line}
-use Rattle.program.specs.Program.{Files, unreadable, order_of, schedule_of, contents_of, files_fault, counts_fault, program_fault, later_text, program_text}
+use Rattle.program.specs.Program.{Files, unreadable, files_fault, counts_fault, program_text}
 use Rattle.program.specs.Promise.{Promise}
-use Rattle.program.proofs.Printed.{printed_refusal}
 use Rattle.program.proofs.Promise.{promise}
 use Rattle.text.specs.declared.Page.{Page}
 use Rattle.text.specs.Pages.{Room}
 use Rattle.report.specs.Ready.{Holding, Prints}
-
--- a text at the beginning of a buffer with room
-pub prints_text : {before text after : List ℕ} {end : ℕ} → text_room ≤ length before → Put before 0 text after end
-    → Prints before text after end
-prints_text {text = text} {end = end} h p =
-    let e = p.ends in
-    let f = p.fits in
-    let n : end ≡ length text = omega arith in
-    record {
-      prints = λ q. (n, p.holds ∙ rw n);
-      keeps = λ q. absurd (omega arith);
-      inside = omega (arith, same_long p);
-    }
 
 -- the promise, of the bytes that stand in the buffer
 pub promised : (f : Files) → Bytes f.store → {before after : List ℕ} {end : ℕ} → Prints before (program_text f) after end
@@ -65,13 +45,6 @@ told b e =
     (f.0 ∙ sym (store_objects b), f.1 ∙ sym (store_references b))
 
 module _ (f : Files) where
-  due : (r : Refusal) → number r ≡ program_fault f → program_text f ≡ refusal_line (number r)
-  due r h = sym (printed_refusal (contents_of (store_of f.store)) (order_of f.order) (schedule_of f.order) r refl h)
-
-  -- a fault of the files
-  pub due_files : (r : Refusal) → number r ≡ files_fault f → program_text f ≡ refusal_line (number r)
-  due_files r h = due r (first_found r (files_fault f) _ h)
-
   module _ (none : files_fault f ≡ 0) where
     -- files without a fault hold the settings
     order_whole : order_length ≤ length f.order
@@ -80,25 +53,13 @@ module _ (f : Files) where
         let g = (raise_none (u || ltb (length f.order) order_length) 11 0 (first_none _ _ none).0).0 in
         ltb-false (length f.order) order_length (or_none u (ltb (length f.order) order_length) g).1
 
-    -- a header that is refused
-    pub due_header : (r : Refusal) → row (Err r) ≡ header_row f.store → program_text f ≡ refusal_line (number r)
-    due_header r is = due r (rw none (first_found r (header_row f.store).refusal _ (ap (λ (x : Row). x.refusal) is)))
-
 -- files without a fault, and a header without one that tells n and m
 pub record Headed (f : Files) (x : Header) : Type 0 where
   pub none : files_fault f ≡ 0
   pub read : row (Ok x) ≡ header_row f.store
 
 module _ {f : Files} {x : Header} (h : Headed f x) where
-  -- more objects, or references, than the program takes
-  pub due_counts : (r : Refusal) → number r ≡ counts_fault x.n x.m → program_text f ≡ refusal_line (number r)
-  due_counts r q = due f r (rw (h.none, ← h.read) (first_found r (counts_fault x.n x.m) _ q))
-
   module _ (few : counts_fault x.n x.m ≡ 0) where
-    -- everything behind the header
-    pub due_later : later_text f.store f.order ≡ program_text f
-    due_later = rw (h.none, ← h.read, few)
-
     pub holding : {page : Page} → Room text_room page → Holding f.store f.order x.n x.m page
     holding room =
         let t = told f.store h.read in

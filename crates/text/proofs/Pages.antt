@@ -1,5 +1,5 @@
 -- One text behind another on a page, and the room that is left.
-use Rattle.std.proofs.Common.{◌≡◌, refl, List, [], ◌++◌, ℕ, ◌+◌, ◌≤◌, length, ◌∙◌, arith}
+use Rattle.std.proofs.Common.{◌≡◌, refl, List, [], ◌++◌, ℕ, ◌+◌, ◌≤◌, length, ◌∙◌}
 use Rattle.slices.proofs.Written.{nothing, exactly, then_in, room_left, as_text_in}
 use Rattle.text.specs.declared.Page.{Page}
 use Rattle.text.specs.Pages.{Room, Wrote}
@@ -12,10 +12,6 @@ module _ {m : ℕ} {t : List ℕ} {before page : Page} (w : Wrote m t before pag
   -- the room that is left
   pub room : (n : ℕ) → Room (m + n) before → Room n page
   room n h = room_left w.put n h
-
-  -- with more room
-  pub in_room : (k : ℕ) → m ≤ k → Wrote k t before page
-  in_room k h = record { same_buffer = w.same_buffer; put = record { put = w.put.put; low = omega (arith, w.put.low) } }
 
   -- with no more room than the text takes
   pub tight : Wrote (length t) t before page
