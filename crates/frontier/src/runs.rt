@@ -22,7 +22,7 @@ fn further(offset: u32, e: u32, low: usize, half: usize) -> usize
     requires { low + half < 2 ^ 64 }
     ensures { result ≡ pick (leb offset e) (low + half) low }
 {
-    let at = (e as u64 + WORDS - offset as u64) / WORDS;
+    let at = (u64::from(e) + WORDS - u64::from(offset)) / WORDS;
     low + half * at as usize
 }
 

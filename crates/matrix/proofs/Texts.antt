@@ -49,9 +49,6 @@ line_length f t =
     ∙ omega (arith, stopped_length (decimal (f + 1)) space, stopped_length (decimal (t + 1)) feed)
 
 module _ (f t : ℕ) {before mid : List ℕ} {at end : ℕ} (p : Put before at (stopped (decimal (f + 1)) space) mid end) where
-  pub line_room : at + length (line_of (pair_at f t)) ≤ length before → end + suc (length (decimal (t + 1))) ≤ length mid
-  line_room h = omega (arith, p.ends, same_long p, line_length f t, stopped_length (decimal (f + 1)) space)
-
   pub line_put : {end' : ℕ} {last : List ℕ} → Put mid end (stopped (decimal (t + 1)) feed) last end' → Put before at (line_of (pair_at f t)) last end'
   line_put q = as_text (line_is f t) (then p q)
 
@@ -70,25 +67,14 @@ head_length n m =
       stopped_length (decimal m) feed,
     )
 
-module _ (n m : ℕ) {b0 b1 : List ℕ} {e1 : ℕ} (room : length (banner ++ counts_line n m) ≤ length b0) (p : Put b0 0 banner b1 e1) where
-  pub room_one : e1 + suc (length (decimal n)) ≤ length b1
-  room_one = omega (arith, p.ends, same_long p, head_length n m)
-
-  module _ {b2 : List ℕ} {e2 : ℕ} (q : Put b1 e1 (stopped (decimal n) space) b2 e2) where
-    pub room_two : e2 + suc (length (decimal n)) ≤ length b2
-    room_two = omega (arith, p.ends, q.ends, same_long p, same_long q, head_length n m, stopped_length (decimal n) space)
-
-    module _ {b3 : List ℕ} {e3 : ℕ} (r : Put b2 e2 (stopped (decimal n) space) b3 e3) where
-      pub room_three : e3 + suc (length (decimal m)) ≤ length b3
-      room_three = omega (arith, p.ends, q.ends, r.ends, same_long p, same_long q, same_long r, head_length n m, stopped_length (decimal n) space)
-
-      pub head_put : {b4 : List ℕ} {e4 : ℕ} → Put b3 e3 (stopped (decimal m) feed) b4 e4 → Put b0 0 (banner ++ counts_line n m) b4 e4
-      head_put s =
-          let a = stopped (decimal n) space in
-          let c = stopped (decimal m) feed in
-          as_text
-          (append_assoc (banner ++ a) a c ∙ append_assoc banner a (a ++ c))
-          (then (then (then p q) r) s)
+pub head_put : (n m : ℕ) {b0 b1 b2 b3 b4 : List ℕ} {e1 e2 e3 e4 : ℕ} → Put b0 0 banner b1 e1 → Put b1 e1 (stopped (decimal n) space) b2 e2
+    → Put b2 e2 (stopped (decimal n) space) b3 e3 → Put b3 e3 (stopped (decimal m) feed) b4 e4 → Put b0 0 (banner ++ counts_line n m) b4 e4
+head_put n m p q r s =
+    let a = stopped (decimal n) space in
+    let c = stopped (decimal m) feed in
+    as_text
+    (append_assoc (banner ++ a) a c ∙ append_assoc banner a (a ++ c))
+    (then (then (then p q) r) s)
 
 -- ---- the lines of one object
 

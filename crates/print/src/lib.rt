@@ -1,4 +1,5 @@
 // The text of a graph (SPECIFICATION 13): its length, and the text in a buffer of exactly that length.
+// Stays (5): a buffer and a place in it; a struct of both is no plainer, since `text::put` takes the two and `slices` `Put` names them.
 #![tactic(auto)]
 
 ghost use Rattle.std.specs.Prelude.{◌≡◌, ◌++◌, ℕ, suc, ◌+◌, ◌*◌, ◌≤◌, ◌<◌, length};

@@ -18,8 +18,8 @@ use Rattle.slices.proofs.Written.{same_long}
 use Rattle.records.specs.Layout.{header}
 use Rattle.records.specs.Store.{objects, references}
 use Rattle.records.specs.Reading.{store_of, record_fault, n_field, m_field}
-use Rattle.catalogue.specs.declared.Answer.{Answer}
-use Rattle.catalogue.specs.declared.Answer.TheVariants.{Read, Refused}
+use Rattle.std.specs.Prelude.{Ok, Err}
+use Rattle.faults.specs.declared.Header.{Header}
 use Rattle.catalogue.specs.Answer.{Row, row, header_row, header_values}
 use Rattle.catalogue.proofs.Reader.{store_objects, store_references}
 use Rattle.program.specs.Limits.{most_objects, most_references, order_length, text_room}
@@ -28,6 +28,8 @@ use Rattle.program.specs.Program.{Files, unreadable, order_of, schedule_of, cont
 use Rattle.program.specs.Promise.{Promise}
 use Rattle.program.proofs.Printed.{printed_refusal}
 use Rattle.program.proofs.Promise.{promise}
+use Rattle.text.specs.declared.Page.{Page}
+use Rattle.text.specs.Pages.{Room}
 use Rattle.report.specs.Ready.{Holding, Prints}
 
 -- a text at the beginning of a buffer with room
@@ -52,23 +54,23 @@ promised f h {before} {after} {end} p room =
     subst (Promise f) (sym e) (promise f h)
 
 -- what the header says is what the store has
-fields : {n m i : ℕ} (f : ℕ) (b : List ℕ) → row (Read n m i) ≡ header_values f b → (n ≡ n_field b) × (m ≡ m_field b)
+fields : {h : Header} (f : ℕ) (b : List ℕ) → row (Ok h) ≡ header_values f b → (h.n ≡ n_field b) × (h.m ≡ m_field b)
 fields zero b e = (ap (λ (x : Row). x.n) e, ap (λ (x : Row). x.m) e)
 fields (suc f) b e = let q = ap (λ (x : Row). x.refusal) e in absurd (omega arith)
 
-told : {n m i : ℕ} (b : List ℕ) → row (Read n m i) ≡ header_row b → (n ≡ objects (store_of b)) × (m ≡ references (store_of b))
+told : {h : Header} (b : List ℕ) → row (Ok h) ≡ header_row b → (h.n ≡ objects (store_of b)) × (h.m ≡ references (store_of b))
 unfolding header_row
 told b e =
     let f = fields (record_fault header (n_field b) b) b e in
     (f.0 ∙ sym (store_objects b), f.1 ∙ sym (store_references b))
 
 module _ (f : Files) where
-  due : {v : ℕ} (r : Refusal) → v ≡ number r → number r ≡ program_fault f → refusal_line v ≡ program_text f
-  due r e h = printed_refusal (contents_of (store_of f.store)) (order_of f.order) (schedule_of f.order) r e h
+  due : (r : Refusal) → number r ≡ program_fault f → program_text f ≡ refusal_line (number r)
+  due r h = sym (printed_refusal (contents_of (store_of f.store)) (order_of f.order) (schedule_of f.order) r refl h)
 
   -- a fault of the files
-  pub due_files : {v : ℕ} (r : Refusal) → v ≡ number r → number r ≡ files_fault f → refusal_line v ≡ program_text f
-  due_files r e h = due r e (first_found r (files_fault f) _ h)
+  pub due_files : (r : Refusal) → number r ≡ files_fault f → program_text f ≡ refusal_line (number r)
+  due_files r h = due r (first_found r (files_fault f) _ h)
 
   module _ (none : files_fault f ≡ 0) where
     -- files without a fault hold the settings
@@ -79,37 +81,33 @@ module _ (f : Files) where
         ltb-false (length f.order) order_length (or_none u (ltb (length f.order) order_length) g).1
 
     -- a header that is refused
-    pub due_header : {v : ℕ} {a : Answer} {r : Refusal} → a ≡ Refused r → v ≡ (row a).refusal → row a ≡ header_row f.store
-        → refusal_line v ≡ program_text f
-    due_header {r = r} e h is =
-        let q : number r ≡ (header_row f.store).refusal = ap (λ (x : Row). x.refusal) (ap row (sym e) ∙ is) in
-        due r (h ∙ ap (λ (x : Answer). (row x).refusal) e) (rw none (first_found r (header_row f.store).refusal _ q))
+    pub due_header : (r : Refusal) → row (Err r) ≡ header_row f.store → program_text f ≡ refusal_line (number r)
+    due_header r is = due r (rw none (first_found r (header_row f.store).refusal _ (ap (λ (x : Row). x.refusal) is)))
 
 -- files without a fault, and a header without one that tells n and m
-pub record Headed (f : Files) (n m : ℕ) : Type 0 where
+pub record Headed (f : Files) (x : Header) : Type 0 where
   pub none : files_fault f ≡ 0
-  pub index : ℕ
-  pub read : row (Read n m index) ≡ header_row f.store
+  pub read : row (Ok x) ≡ header_row f.store
 
-module _ {f : Files} {n m : ℕ} (h : Headed f n m) where
+module _ {f : Files} {x : Header} (h : Headed f x) where
   -- more objects, or references, than the program takes
-  pub due_counts : {v : ℕ} (r : Refusal) → v ≡ number r → number r ≡ counts_fault n m → refusal_line v ≡ program_text f
-  due_counts r e q = due f r e (rw (h.none, ← h.read) (first_found r (counts_fault n m) _ q))
+  pub due_counts : (r : Refusal) → number r ≡ counts_fault x.n x.m → program_text f ≡ refusal_line (number r)
+  due_counts r q = due f r (rw (h.none, ← h.read) (first_found r (counts_fault x.n x.m) _ q))
 
-  module _ (few : counts_fault n m ≡ 0) where
+  module _ (few : counts_fault x.n x.m ≡ 0) where
     -- everything behind the header
     pub due_later : later_text f.store f.order ≡ program_text f
     due_later = rw (h.none, ← h.read, few)
 
-    pub holding : {out : List ℕ} → text_room ≤ length out → Holding f.store f.order n m out
+    pub holding : {page : Page} → Room text_room page → Holding f.store f.order x.n x.m page
     holding room =
         let t = told f.store h.read in
-        let g = or_none (ltb most_objects n) (ltb most_references m) (raise_none _ 10 0 few).0 in
+        let g = or_none (ltb most_objects x.n) (ltb most_references x.m) (raise_none _ 10 0 few).0 in
         record {
           objects_are = t.0;
           references_are = t.1;
-          few_objects = ltb-false most_objects n g.0;
-          few_references = ltb-false most_references m g.1;
+          few_objects = ltb-false most_objects x.n g.0;
+          few_references = ltb-false most_references x.m g.1;
           whole_order = order_whole f h.none;
           room = room;
         }

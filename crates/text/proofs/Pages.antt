@@ -17,6 +17,10 @@ module _ {m : ℕ} {t : List ℕ} {before page : Page} (w : Wrote m t before pag
   pub in_room : (k : ℕ) → m ≤ k → Wrote k t before page
   in_room k h = record { same_buffer = w.same_buffer; put = record { put = w.put.put; low = omega (arith, w.put.low) } }
 
+  -- with no more room than the text takes
+  pub tight : Wrote (length t) t before page
+  tight = let p = w.put.put in record { same_buffer = w.same_buffer; put = exactly p }
+
   -- the same text, written another way
   pub as_page : {u : List ℕ} → t ≡ u → Wrote m u before page
   as_page e = record { same_buffer = w.same_buffer; put = as_text_in e w.put }

@@ -2,15 +2,8 @@
 use Rattle.worker.specs.Registers.{block_at}
 use Rattle.follow.specs.Claiming.{tally_at_claim, claim_row, claimed_marks}
 use Rattle.step.specs.Raising.{raised_words}
-use Rattle.step.proofs.Bounds.{block_room}
-use Rattle.follow.proofs.Looking.{claim_low, claim_there, claim_raisable, opens_there, claimed}
+use Rattle.follow.proofs.Looking.{claim_there, claim_raisable, claimed}
 use Rattle.follow.proofs.claim.Goals as goal
-
-pub load-first-requires : goal.load-first-requires
-load-first-requires c =
-    let b = c.args.step.entry.worker in
-    let x = c.requires in
-    block_room x.scene x.holds b (claim_low x)
 
 pub claim_target-told-requires : goal.claim_target-told-requires
 claim_target-told-requires c =
@@ -19,16 +12,6 @@ claim_target-told-requires c =
 pub count_claim-requires : goal.count_claim-requires
 count_claim-requires c =
     claim_raisable c.requires (claim_row c.claim_target-told.result).won
-
-pub opens-found-requires : goal.opens-found-requires
-opens-found-requires c =
-    rw c.load-first.ensures (opens_there c.requires)
-
-pub load-r-requires : goal.load-r-requires
-load-r-requires c =
-    let b = c.args.step.entry.worker in
-    let x = c.requires in
-    block_room x.scene x.holds b (claim_low x)
 
 pub follow-requires-clause-by_index : goal.follow-requires-clause-by_index
 follow-requires-clause-by_index c =

@@ -3,31 +3,13 @@ use native.Mathlib.Omega.{arith}
 use Prim.Native.Nat.{ℕ, ◌+◌, ◌-◌, ◌*◌}
 use mathlib.Core.Path.{◌≡◌, sym, ap, ◌∙◌}
 use Rattle.worker.specs.declared.registers.Block.{Block}
-use Rattle.step.proofs.Bounds.{block_room, roomy, place_limit, stretch_room}
+use Rattle.step.proofs.Bounds.{block_room, roomy, stretch_room}
 use Rattle.follow.proofs.Onward.{follow_low, advanceable, asker_room, carries_one, stopped_one, holds_onward, holds_stopped}
 use Rattle.follow.proofs.follow.Goals as goal
 
 -- a stretch from its start to its end
 long : (b l : ℕ) → b * l + l - b * l ≡ l
 long b l = omega arith
-
-pub overflow_mul-from : goal.overflow_mul-from
-overflow_mul-from c =
-    let b = c.args.step.entry.worker in
-    let x = c.requires.by_index.1.1.1.1 in
-    omega (arith, place_limit x.scene x.holds b (follow_low x))
-
-pub overflow_add-from : goal.overflow_add-from
-overflow_add-from c =
-    let b = c.args.step.entry.worker in
-    let x = c.requires.by_index.1.1.1.1 in
-    omega (arith, place_limit x.scene x.holds b (follow_low x))
-
-pub offset_bounds-work-from : goal.offset_bounds-work-from
-offset_bounds-work-from c =
-    let b = c.args.step.entry.worker in
-    let x = c.requires.by_index.1.1.1.1 in
-    omega (arith, place_limit x.scene x.holds b (follow_low x))
 
 pub slice_bounds-advance-end : goal.slice_bounds-advance-end
 slice_bounds-advance-end c =

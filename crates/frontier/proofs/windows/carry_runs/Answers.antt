@@ -1,11 +1,8 @@
 use Rattle.std.proofs.Common.{arith}
 use Rattle.saved.proofs.Pairs.{pair_at}
 use Rattle.frontier.proofs.StretchLaws.{runs_none, runs_out}
-use Rattle.frontier.proofs.WindowLaws.{taken_start, taken_end, taken_next, taken_twice, takes_not}
+use Rattle.frontier.proofs.WindowLaws.{taken_end, taken_next, taken_twice, takes_not}
 use Rattle.frontier.proofs.windows.carry_runs.Goals as goal
-
-pub loop-from-init : goal.loop-from-init
-loop-from-init c = taken_start
 
 pub returns-then-to-from : goal.returns-then-to-from
 returns-then-to-from c =
