@@ -2,7 +2,7 @@
 use Rattle.std.proofs.Common.{sym, ◌∙◌}
 use Rattle.refusal.proofs.Numbers.{passed_on}
 use Rattle.matrix.proofs.Exports.{exportable, export_refused, export_unfit, export_written}
-use Rattle.matrix.proofs.RoundTrip.{returns as returned}
+use Rattle.matrix.proofs.RoundTrip.{promised}
 use Rattle.market.proofs.export.Goals as goal
 
 pub returns-in_err-check_graph-clause-result_value : goal.returns-in_err-check_graph-clause-result_value
@@ -37,4 +37,4 @@ returns-clause-out_after c =
     (export_written _ _ c.args.out.now (sym c.in_ok-check_graph.ensures) (c.if-out-text_length.false ∙ c.text_length.ensures.0) c.put_text.ensures).1
 
 pub returns-clause-returns : goal.returns-clause-returns
-returns-clause-returns c = λ z. returned _ _ (sym c.in_ok-check_graph.ensures)
+returns-clause-returns c = promised _ _ _ (returns-clause-result_value c)
