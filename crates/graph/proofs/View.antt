@@ -1,12 +1,12 @@
 -- The part of the targets that one object's references are, case by case.
 use mathlib.Core.Path.{◌≡◌, ap, ◌∙◌}
-use mathlib.Core.Bool.{true, false}
+use mathlib.Core.Bool.{true}
 use mathlib.Core.List.{List}
 use Prim.Native.Nat.{ℕ, ◌+◌, ◌-◌, ◌≤◌, ◌<◌}
 use native.Mathlib.Omega.{arith}
 use lib.ListN.{length, get_or, take, drop, length-drop}
 use lib.Seq.{length-take-le, get_or-take, get_or-drop}
-use borrow.Author.Tests.{lt-ltb, le-ltb, le-leb, lt-leb}
+use borrow.Author.Tests.{lt-ltb, le-leb}
 use Rattle.laws.specs.Sum.{sum, hit}
 use Rattle.laws.proofs.Sum.{hit_same, hit_equal, sum_at, sum_positive}
 use Rattle.graph.specs.Graph.{Graph, Leaves, objects, references, first, after, degree, target, bounded, references_of, IsPart}
@@ -14,28 +14,8 @@ use Rattle.graph.specs.Formed.{Formed}
 use Rattle.graph.proofs.OverMarked.{after_limit}
 
 module _ (G : Graph) (v : ℕ) where
-  -- the empty part
-  nothing : bounded G v ≡ false → IsPart G v 0 0
-  nothing e = record { starts = rw e; long = rw e; order = omega arith; inside = omega arith }
-
-  -- no such object
-  pub part_none : objects G ≤ v → IsPart G v 0 0
-  part_none h = nothing (rw (le-ltb _ _ h))
-
-  -- offsets that fall
-  pub part_fall : v < objects G → after G v < first G v → IsPart G v 0 0
-  part_fall h q = nothing (rw (lt-ltb _ _ h, lt-leb _ _ q))
-
-  -- an end past the targets
-  pub part_past : v < objects G → first G v ≤ after G v → references G < after G v → IsPart G v 0 0
-  part_past h q p = nothing (rw (lt-ltb _ _ h, le-leb _ _ q, lt-leb _ _ p))
-
   bound : v < objects G → first G v ≤ after G v → after G v ≤ references G → bounded G v ≡ true
   bound h q p = rw (lt-ltb _ _ h, le-leb _ _ q, le-leb _ _ p)
-
-  -- from the object's offset to the next
-  pub part_whole : v < objects G → first G v ≤ after G v → after G v ≤ references G → IsPart G v (first G v) (after G v)
-  part_whole h q p = let e = bound h q p in record { starts = rw e; long = rw e; order = q; inside = p }
 
   -- the view, where the offsets bound a part
   pub view_part : v < objects G → first G v ≤ after G v → after G v ≤ references G

@@ -1,10 +1,8 @@
 -- Answers that decide facts.
 use mathlib.Core.Path.{◌≡◌, refl}
 use mathlib.Core.Bool.{Bool, true, false}
-use Prim.Native.Nat.{ℕ, ◌≤◌, ◌<◌}
+use Prim.Native.Nat.{ℕ}
 use native.Mathlib.Omega.{arith}
-use lib.Dec.{eqb, leb, ltb}
-use borrow.Author.Tests.{eqb-true, eq-eqb, leb-true, le-leb, ltb-true, lt-ltb}
 use Rattle.laws.specs.Decides.{Decides}
 
 -- no answer is both
@@ -24,12 +22,3 @@ refuted d e p = never (d.known p) e
 -- the same answer for a fact that holds as well
 pub decides_same : {r : Bool} {P Q : Type 0} → Decides r P → (P → Q) → (Q → P) → Decides r Q
 decides_same d f g = record { right = λ e. f (d.right e); known = λ q. d.known (g q) }
-
-pub decides_eqb : (a b : ℕ) → Decides (eqb a b) (a ≡ b)
-decides_eqb a b = record { right = eqb-true a b; known = eq-eqb a b }
-
-pub decides_leb : (a b : ℕ) → Decides (leb a b) (a ≤ b)
-decides_leb a b = record { right = leb-true a b; known = le-leb a b }
-
-pub decides_ltb : (a b : ℕ) → Decides (ltb a b) (a < b)
-decides_ltb a b = record { right = ltb-true a b; known = lt-ltb a b }

@@ -1,5 +1,5 @@
 -- A list that is filled from its beginning until it is another one.
-use mathlib.Core.Path.{◌≡◌, refl, ◌∙◌}
+use mathlib.Core.Path.{◌≡◌, ◌∙◌}
 use mathlib.Core.List.{List}
 use mathlib.Core.Logic.{by_cases}
 use Prim.Native.Nat.{ℕ, ◌+◌, ◌≤◌, ◌<◌}
@@ -29,10 +29,6 @@ filled_next {t} {i} {l} f h x e =
           (λ (q : ¬ (j < i)).
           let r : j ≡ i = omega arith in rw r (get_or-set_same l i x 0 (omega (arith, f.long)) ∙ e));
     }
-
--- the next one of t
-pub filled_copy : {t : List ℕ} {i : ℕ} {l : List ℕ} → Filled t i l → i < length t → Filled t (i + 1) (set l i (get_or t i 0))
-filled_copy {t} {i} f h = filled_next f h (get_or t i 0) refl
 
 -- all
 pub filled_all : {t : List ℕ} {i : ℕ} {l : List ℕ} → Filled t i l → length t ≤ i → l ≡ t

@@ -62,11 +62,6 @@ module _ {G : Graph} {hop u : ℕ} {H₀ L₀ : List ℕ} {S₀ : Bag} (ok : Wal
                 (λ w. rw (view_at ok.formed object i inside) (span_after (λ (e : ℕ). hit w (target G e)) (first G u) i));
           }
 
-    pub visiting_end : length (references_of G u) ≤ i → Grown hop (λ (w : ℕ). leads_to G w u) H₀ L₀ S₀ H L S
-    visiting_end h =
-        let n : i ≡ degree G u = omega (arith, v.within, view_long ok.formed object) in
-        rw n at v.grown
-
 -- ---- objects that are looked along
 
 -- a growing bag stays apart from them, and their links stay

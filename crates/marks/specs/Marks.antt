@@ -40,10 +40,6 @@ MarksFound W os ms r = MatchOption r (¬ MarksLow W ms) (MarksSound W os ms)
 abbrev pub StartsBelow : List ℕ → ℕ → Type 0
 StartsBelow starts n = (i : ℕ) → i < length starts → get_or starts i 0 < n
 
--- the words of a set of all objects
-abbrev pub object_words : ℕ
-object_words = 2048
-
 -- and there is a bit for each object, none of which is set
 pub record StartsThere (starts ms seen : List ℕ) : Type 0 where
   pub below : StartsBelow starts (length ms)

@@ -13,7 +13,7 @@ use lib.Pow.{pow_pos, pow-add, shr-shr, shr_lt, shl_exact}
 use Rattle.laws.specs.Sum.{hit}
 use Rattle.laws.proofs.Sum.{hit_same, hit_other}
 use Rattle.laws.proofs.Decides.{never}
-use Rattle.slices.specs.Bits.{bit, many_words, Inserts}
+use Rattle.slices.specs.Bits.{bit, Inserts}
 
 -- ---- one word x, whose bit k is 0
 
@@ -126,7 +126,3 @@ zero_at k i =
 pub bit_none : (k i : ℕ) → bit (replicate k 0) i ≡ 0
 unfolding bit
 bit_none k i = rw (zero_at k (i / 32), zero-div (2 ^ (i % 32)))
-
--- such a set has words, and not too many
-pub some_words : (k : ℕ) → 1 ≤ k → k ≤ many_words → (1 ≤ length (replicate {A = ℕ} k 0)) × (length (replicate {A = ℕ} k 0) ≤ many_words)
-some_words k h q = (omega (arith, length-replicate {A = ℕ} k 0), omega (arith, length-replicate {A = ℕ} k 0))

@@ -1,11 +1,11 @@
 -- One text behind another, in a buffer of which every other byte stays.
-use mathlib.Core.Path.{◌≡◌, refl, sym, ap, subst, ◌∙◌}
+use mathlib.Core.Path.{◌≡◌, sym, ap, subst, ◌∙◌}
 use mathlib.Core.List.{List, [], ◌++◌, append_assoc}
 use Prim.Native.Nat.{ℕ, ◌+◌, ◌≤◌}
 use native.Mathlib.Nat.{add-zero}
 use native.Mathlib.Omega.{arith}
 use lib.ListN.{length, take, drop, length-append, length-drop, take-append-drop}
-use lib.Seq.{paste, length-take-le, take-length, take_at, drop-append-add, drop-drop}
+use lib.Seq.{length-take-le, take_at, drop-append-add, drop-drop}
 use Rattle.slices.specs.Put.{Put, PutIn}
 
 module _ {before : List ℕ} {at : ℕ} {t after : List ℕ} {end : ℕ} (p : Put before at t after end) where
@@ -83,13 +83,3 @@ module _ {m : ℕ} {before mid t : List ℕ} {at end : ℕ} (p : PutIn m before 
   -- the room that is left
   pub room_left : (n : ℕ) → at + (m + n) ≤ length before → end + n ≤ length mid
   room_left n h = let a = p.low in omega (arith, same_long p.put)
-
--- all bytes of s pasted
-pub pasted : {d out s : List ℕ} {at i : ℕ} → i ≡ length s → at + length s ≤ length d → out ≡ paste d at s i
-    → Put d at s out (at + length s)
-pasted {d} {s = s} {at} e h p =
-    record {
-      ends = refl;
-      fits = h;
-      holds = p ∙ rw (e, take-length) (append_assoc (take at d) s (drop (at + length s) d));
-    }

@@ -6,10 +6,7 @@ use Rattle.laws.specs.Sum.{hit}
 abbrev pub word_bits : ℕ
 word_bits = 32
 
--- the words of a small set and of a large one
-abbrev pub few_words : ℕ
-few_words = 64
-
+-- the words of a large set
 abbrev pub many_words : ℕ
 many_words = 6144
 

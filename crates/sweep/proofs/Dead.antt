@@ -32,10 +32,7 @@ pub fit_end : (l : List ℕ) (i : ℕ) → length l ≤ i → all_fit (drop i l)
 unfolding all_fit
 fit_end l i h = rw (drop_of_length-le l h)
 
--- the upper half of a size: it is a word, and below that of the largest only where the size is
-pub upper_low : (x : ℕ) → x < 18446744073709551616 → x / 4294967296 < 4294967296
-upper_low x h = (div-lt_iff_lt-mul {k = 4294967296} {x = x} {y = 4294967296} (omega arith)).1 (omega arith)
-
+-- a size whose upper half is below that of the largest
 pub upper_fits : (x : ℕ) → x / 4294967296 < 256 → x ≤ largest_size
 upper_fits x h = let q = (div-lt_iff_lt-mul {k = 4294967296} {x = x} {y = 256} (omega arith)).0 h in omega arith
 

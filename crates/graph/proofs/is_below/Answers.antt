@@ -1,4 +1,4 @@
-use Rattle.std.proofs.Common.{◌≡◌, ◌∙◌, ◌+◌, ◌-◌, ℕ, arith, sym, ap}
+use Rattle.std.proofs.Common.{◌≡◌, ◌∙◌, ◌+◌, ℕ, arith, sym, ap}
 use Rattle.graph.specs.Graph.{all_below}
 use Rattle.graph.proofs.Scan.{below_none, below_all}
 use Rattle.graph.proofs.is_below.Goals as goal
