@@ -21,6 +21,7 @@ use program::limits::TEXT_ROOM;
 use text::Page;
 
 // Writes the answer, which is one line where there is a fault, to a page that has room for every answer.
+// Stays (1): `let .. else` on each answer, here and in the modules, and no `?`, is a form that the users named (docs/DECISIONS.md).
 fn put_answer(storefile: Loaded, store: &[u8], orderfile: Loaded, order: &[u8], page: &mut Page)
     requires { Room text_room page.old }
     ensures { let text = program_text (files storefile store.now orderfile order.now) in Wrote (length text) text page.old page.new }

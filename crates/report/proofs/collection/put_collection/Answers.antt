@@ -2,7 +2,7 @@
 -- schedule.
 use Rattle.std.proofs.Common.{sym, ap, ◌∙◌}
 use Rattle.std.specs.Prelude.{Ok, Err}
-use Rattle.refusal.specs.Number.{number_of}
+use Rattle.refusal.proofs.Numbers.{when_faulty}
 use Rattle.lines.specs.Lines.{refusal_line}
 use Rattle.text.proofs.Pages.{tight, as_page}
 use Rattle.report.proofs.Parts.{part_long}
@@ -15,9 +15,9 @@ slice_bounds-mark-end c = sym (part_long _ _ (words_few c.requires c.stretch.ens
 
 pub returns-in_default : goal.returns-in_default
 returns-in_default c =
-    let number = c.number_of.ensures ∙ ap number_of c.in_default.is in
+    let number = when_faulty (sym c.number_of.ensures) c.in_default.is in
     let e = answer_text_lem (cut c.requires c.stretch.ensures) c.args.schedule.now (Err c.in_default.field-0) c.in_default.ensures in
-    tight (as_page c.put_refusal.ensures (ap refusal_line number ∙ e))
+    tight (as_page c.put_refusal.ensures (sym (ap refusal_line number) ∙ e))
 
 pub returns : goal.returns
 returns c =
