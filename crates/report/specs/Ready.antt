@@ -3,7 +3,7 @@ use Rattle.std.specs.Prelude.{◌≡◌, Result, Ok, Err, true, false, List, ◌
 use Rattle.refusal.specs.declared.Refusal.{Refusal}
 use Rattle.refusal.specs.Number.{number}
 use Rattle.text.specs.declared.Page.{Page}
-use Rattle.text.specs.Pages.{Room, Wrote}
+use Rattle.text.specs.Pages.{Room}
 use Rattle.records.specs.Store.{objects, references, start_words}
 use Rattle.records.specs.Reading.{store_of}
 use Rattle.desk.specs.declared.Settings.{Settings}
@@ -75,11 +75,6 @@ pub record Holding (store order : List ℕ) (n m : ℕ) (page : Page) : Type 0 w
   pub few_references : m ≤ most_references
   pub whole_order : order_length ≤ length order
   pub room : Room text_room page
-
--- the text was written to a page, or it is the line of a refusal, beside which the page is as it was
-abbrev pub Told : {A : Type 0} → List ℕ → Result A Refusal → Page → Page → Type 0
-Told text (Ok x) before after = Wrote (length text) text before after
-Told text (Err r) before after = (text ≡ refusal_line (number r)) × (after ≡ before)
 
 -- A buffer that was `before` and is `after`: where there is room, the first `end` bytes are the text and the bytes
 -- behind it are as they were; one without room is unchanged.

@@ -2,14 +2,13 @@
 ghost use Rattle.std.specs.Prelude.{Ok, length};
 ghost use Rattle.text.specs.Pages.{Wrote};
 ghost use Rattle.program.specs.Program.{contents, order_text};
-ghost use Rattle.report.specs.Ready.{answer_text, collection_text, Printable, Collectable, Orderly, Told};
+ghost use Rattle.report.specs.Ready.{answer_text, collection_text, Printable, Collectable, Orderly};
 
 use crate::{dead, order};
 use desk::{Settings, places};
 use marker::Marked;
 use program::limits;
 use program::limits::ORDER_LENGTH;
-use refusal::Checked;
 use text::Page;
 
 // Writes the lines of what the marker's turns came to.
@@ -35,10 +34,10 @@ fn put_collection(
     settings: Settings,
     schedule: &[u8],
     page: &mut Page,
-) -> Checked
+)
     requires { Collectable (contents offsets.now targets.now sizes.now starts.now) settings page.old }
-    ensures { Told (collection_text (contents offsets.now targets.now sizes.now starts.now) settings schedule.now) result
-        page.old page.new }
+    ensures { let text = collection_text (contents offsets.now targets.now sizes.now starts.now) settings schedule.now in
+        Wrote (length text) text page.old page.new }
 {
     let mut marks = [0u8; limits::MOST_OBJECTS];
     let mut work = [0u32; limits::WORK_ROOM];
@@ -49,7 +48,7 @@ fn put_collection(
     let tallied = workers * places::TALLY;
     let marking = &mut marks[..n];
     let counted = &mut tallies[..tallied];
-    let marked = marker::mark(
+    let answer = marker::mark(
         offsets,
         targets,
         starts,
@@ -58,9 +57,12 @@ fn put_collection(
         marking,
         &mut work[..words],
         counted,
-    )?;
+    );
+    let Ok(marked) = answer else {
+        lines::put_refusal(page, refusal::number_of(&answer));
+        return;
+    };
     put_marked(marked, sizes, marking, counted, page);
-    Ok(())
 }
 
 // Checks the settings, and collects by them.
@@ -71,12 +73,17 @@ pub fn put_ordered(
     starts: &[u32],
     order: &[u8],
     page: &mut Page,
-) -> Checked
+)
     requires { Orderly (contents offsets.now targets.now sizes.now starts.now) order.now page.old }
-    ensures { Told (order_text (contents offsets.now targets.now sizes.now starts.now) order.now) result page.old page.new }
+    ensures { let text = order_text (contents offsets.now targets.now sizes.now starts.now) order.now in
+        Wrote (length text) text page.old page.new }
 {
     let settings = order::order_of(order);
-    order::check(settings)?;
+    let found = order::check(settings);
+    let Ok(()) = found else {
+        lines::put_refusal(page, refusal::number_of(&found));
+        return;
+    };
     put_collection(
         offsets,
         targets,
@@ -85,5 +92,5 @@ pub fn put_ordered(
         settings,
         &order[ORDER_LENGTH..],
         page,
-    )
+    );
 }

@@ -10,13 +10,15 @@ use sweep::Swept;
 use text::Page;
 
 // Writes a line for each unmarked object, and one for the sum of their sizes; the list holds the
-// numbers afterwards.
+// numbers afterwards. No sweep of such sizes and marks is refused.
 fn put_swept(sizes: &[u64], marks: &[u8], list: &mut [u32], page: &mut Page)
     requires { Sweepable sizes.now marks.now page.old × (length list.old ≡ length sizes.now) }
     ensures { let text = dead_text true sizes.now (dead marks.now) in Wrote (length text) text page.old page.new }
 {
-    let Ok(Swept { count, freed }) = sweep::sweep(marks, sizes, list) else {
-        unreachable!()
+    let swept = sweep::sweep(marks, sizes, list);
+    let Ok(Swept { count, freed }) = swept else {
+        lines::put_refusal(page, refusal::number_of(&swept));
+        return;
     };
     lines::put_dead_list(page, &list[..count as usize], sizes);
     lines::put_freed(page, freed);

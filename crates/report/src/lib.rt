@@ -12,40 +12,36 @@ ghost use Rattle.std.specs.Prelude.{◌≤◌, length, take};
 ghost use Rattle.text.specs.Pages.{Room, Wrote};
 ghost use Rattle.program.specs.Limits.{text_room};
 ghost use Rattle.program.specs.Program.{files, program_text};
-ghost use Rattle.report.specs.Ready.{Prints, Told};
+ghost use Rattle.report.specs.Ready.{Prints};
 ghost use Rattle.program.specs.Promise.{Promise};
 
 use catalogue::Header;
 use program::Loaded;
 use program::limits::TEXT_ROOM;
-use refusal::Checked;
 use text::Page;
 
-// Writes the answer of files and a store without a fault, or tells why there is none.
-fn put_accepted(
-    storefile: Loaded,
-    store: &[u8],
-    orderfile: Loaded,
-    order: &[u8],
-    page: &mut Page,
-) -> Checked
-    requires { Room text_room page.old }
-    ensures { Told (program_text (files storefile store.now orderfile order.now)) result page.old page.new }
-{
-    files::check(storefile, store, orderfile, order)?;
-    let Header { n, m, .. } = catalogue::header(store)?;
-    files::check_counts(n, m)?;
-    store::put_store(store, order, n as usize, m as usize, page)
-}
-
 // Writes the answer, which is one line where there is a fault, to a page that has room for every answer.
+// Stays (1): `let .. else` on each answer, here and in the modules, and no `?`, is a form that the users named (docs/DECISIONS.md).
 fn put_answer(storefile: Loaded, store: &[u8], orderfile: Loaded, order: &[u8], page: &mut Page)
     requires { Room text_room page.old }
     ensures { let text = program_text (files storefile store.now orderfile order.now) in Wrote (length text) text page.old page.new }
 {
-    if let Err(refusal) = put_accepted(storefile, store, orderfile, order, page) {
-        lines::put_refusal(page, u8::from(refusal));
-    }
+    let found = files::check(storefile, store, orderfile, order);
+    let Ok(()) = found else {
+        lines::put_refusal(page, refusal::number_of(&found));
+        return;
+    };
+    let head = catalogue::header(store);
+    let Ok(Header { n, m, .. }) = head else {
+        lines::put_refusal(page, refusal::number_of(&head));
+        return;
+    };
+    let counted = files::check_counts(n, m);
+    let Ok(()) = counted else {
+        lines::put_refusal(page, refusal::number_of(&counted));
+        return;
+    };
+    store::put_store(store, order, n as usize, m as usize, page);
 }
 
 // Writes it to the buffer's beginning, leaves the bytes behind it, and returns how many bytes it is. A buffer

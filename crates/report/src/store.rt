@@ -1,11 +1,12 @@
 // The store: read whole, then collected as the order says.
+ghost use Rattle.std.specs.Prelude.{length};
+ghost use Rattle.text.specs.Pages.{Wrote};
 ghost use Rattle.program.specs.Program.{later_text};
-ghost use Rattle.report.specs.Ready.{Holding, Readable, Told};
+ghost use Rattle.report.specs.Ready.{Holding, Readable};
 
 use crate::collection;
-use catalogue::STARTS;
+use catalogue::{Found, STARTS};
 use program::limits;
-use refusal::Checked;
 use text::Page;
 
 // Reads the store into buffers of exactly its lengths, and collects what was read.
@@ -17,19 +18,23 @@ fn put_read(
     sizes: &mut [u64],
     starts: &mut [u32],
     page: &mut Page,
-) -> Checked
+)
     requires { Readable store.now order.now offsets.old targets.old sizes.old starts.old page.old }
-    ensures { Told (later_text store.now order.now) result page.old page.new }
+    ensures { let text = later_text store.now order.now in Wrote (length text) text page.old page.new }
 {
-    let found = catalogue::read(store, offsets, targets, sizes, starts)?;
-    let end = found.starts as usize;
-    collection::put_ordered(offsets, targets, sizes, &starts[..end], order, page)
+    let found = catalogue::read(store, offsets, targets, sizes, starts);
+    let Ok(Found { starts: count, .. }) = found else {
+        lines::put_refusal(page, refusal::number_of(&found));
+        return;
+    };
+    let end = count as usize;
+    collection::put_ordered(offsets, targets, sizes, &starts[..end], order, page);
 }
 
 // Reads and collects a store of n objects and m references, in the program's own memory.
-pub fn put_store(store: &[u8], order: &[u8], n: usize, m: usize, page: &mut Page) -> Checked
+pub fn put_store(store: &[u8], order: &[u8], n: usize, m: usize, page: &mut Page)
     requires { Holding store.now order.now n m page.old }
-    ensures { Told (later_text store.now order.now) result page.old page.new }
+    ensures { let text = later_text store.now order.now in Wrote (length text) text page.old page.new }
 {
     let mut offsets = [0u32; limits::MOST_OBJECTS + 1];
     let mut targets = [0u32; limits::MOST_REFERENCES];
@@ -43,5 +48,5 @@ pub fn put_store(store: &[u8], order: &[u8], n: usize, m: usize, page: &mut Page
         &mut sizes[..n],
         &mut starts,
         page,
-    )
+    );
 }

@@ -4,10 +4,10 @@ use Rattle.text.proofs.Pages.{then, tight, as_page}
 use Rattle.report.proofs.Sweeping.{swept_to, not_refused, swept_text}
 use Rattle.report.proofs.dead.put_swept.Goals as goal
 
-pub unreachable-requires : goal.unreachable-requires
-unreachable-requires c =
+pub returns-in_default : goal.returns-in_default
+returns-in_default c =
     let p = c.requires in
-    not_refused p.0 _ p.1 c.in_default.field-0 c.in_default.ensures.result_value
+    absurd (not_refused p.0 _ p.1 c.in_default.field-0 c.in_default.ensures.result_value)
 
 pub put_dead_list-requires-clause-below : goal.put_dead_list-requires-clause-below
 put_dead_list-requires-clause-below c =
