@@ -179,9 +179,6 @@ module _ {g : Setup} {offsets targets : List ℕ} {b : ℕ} {marks work tallies 
         x.scene.accepted.workers_limit,
       )
 
-  pub opens_there : (block_at regs b).target + 1 < length offsets
-  opens_there = omega (arith, target_word, is_object, ap (λ (G : Graph). objects G) x.here.graph_is)
-
   -- its tally can be raised, whether it is won or lost
   pub claim_raisable : (t : Bool) → Raisable tallies b (claim_tally t)
   claim_raisable true = raisable x.scene x.holds b claim_low _ (omega arith) (omega arith) (omega arith) (omega arith)

@@ -1,4 +1,4 @@
--- Words by cases: a mark that is set, a batch that is not over.
+-- What a claim that is won tells and leaves.
 use mathlib.Core.Path.{◌≡◌, refl, sym}
 use mathlib.Core.Logic.{◌≢◌}
 use mathlib.Core.List.{List}
@@ -9,15 +9,7 @@ use lib.Seq.{get_or-set_same}
 use Rattle.machine.specs.Machine.{claim_mark}
 use Rattle.follow.specs.Claiming.{Claims, next_word}
 
-pub next_look : (k : ℕ) → k ≢ 0 → 6 ≡ next_word k
-next_look zero h = absurd (h refl)
-next_look (suc k) h = refl
-
 -- what a claim tells and leaves, by the mark that it reads
 module _ (marks : List ℕ) (b t : ℕ) (h : t < length marks) where
-  pub claims_lost : (x : ℕ) → x ≢ 0 → get_or marks t 0 ≡ x → Claims marks b t (Err x) marks
-  claims_lost zero n e = absurd (n refl)
-  claims_lost (suc x) n e = record { row_is = rw e; marks_are = rw e; owner_stands = sym e }
-
   pub claims_won_lem : get_or marks t 0 ≡ 0 → Claims marks b t (Ok (claim_mark b)) (set marks t (claim_mark b))
   claims_won_lem e = record { row_is = rw e; marks_are = rw e; owner_stands = sym (get_or-set_same marks t (claim_mark b) 0 h) }
