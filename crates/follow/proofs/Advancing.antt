@@ -88,15 +88,3 @@ module _ {targets s regs : List ℕ} {b : ℕ} {r : Block} {f g : ℕ} (a : Adva
           onward = λ q. rw (over, none, more) (stored popped (omega arith, (omega arith, (omega arith, (omega arith, (omega arith, (omega arith, tt)))))) e);
           nothing = λ q. absurd (true_false q);
         }
-
-    -- or there is none
-    pub advance_none : g ≤ f → r.used < 2 → Advanced targets s regs b r f g s regs false
-    advance_none k l =
-        let none = le-ltb f g k in
-        let last = lt-ltb r.used 2 l in
-        record {
-          says = rw (over, none, last);
-          words = rw over;
-          onward = λ q. absurd (true_false (sym q));
-          nothing = λ q. refl;
-        }

@@ -2,4 +2,3 @@ pub mod Advancing
 pub mod Looking
 pub mod Onward
 pub mod Taking
-pub mod Words

@@ -4,7 +4,7 @@
 ghost use Rattle.std.specs.Prelude.{◌≡◌, ◌≢◌, List, ℕ, ◌+◌, ◌-◌, ◌<◌, length, get_or};
 ghost use Rattle.desk.specs.Limits.{most_workers};
 ghost use Rattle.worker.specs.Registers.{Room, block_at, puts_at, step_words};
-ghost use Rattle.follow.specs.Claiming.{opened_none, opened_by, claim_row, claim_tally, Claims, next_word, Advanceable, Advanced, stopped_count, stopped_at, taken_block};
+ghost use Rattle.follow.specs.Claiming.{opened_by, claim_row, claim_tally, Claims, next_word, Advanceable, Advanced, stopped_count, stopped_at, taken_block};
 ghost use Rattle.step.specs.Held.{memory};
 ghost use Rattle.step.specs.Raising.{Raisable, raised_words};
 ghost use Rattle.step.specs.Turned.{Ready, DoesAny};

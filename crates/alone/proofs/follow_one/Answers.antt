@@ -1,7 +1,6 @@
 -- By the mark that stands there.
 use mathlib.Core.Path.{refl}
 use native.Mathlib.Omega.{arith}
-use lib.ListN.{length-set}
 use Rattle.alone.proofs.follow_one.Goals as goal
 
 pub returns-then-seen-ne0 : goal.returns-then-seen-ne0

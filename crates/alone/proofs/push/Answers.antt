@@ -1,6 +1,4 @@
 -- A run that has references is pushed.
-use mathlib.Core.Path.{refl}
-use lib.ListN.{length-set}
 use native.Mathlib.Omega.{arith}
 use Rattle.alone.proofs.Parts.{pushed, not_pushed}
 use Rattle.alone.proofs.push.Goals as goal

@@ -1,5 +1,4 @@
 -- By the holder and by worker 0's status.
-use Rattle.std.proofs.Common.{arith}
 use Rattle.step.proofs.Bounds.{roomy}
 use Rattle.idle.proofs.Asking.{idle_running, over_here, holding, asking_here, ends_behind, holds_ended}
 use Rattle.idle.proofs.idle_turn.Goals as goal

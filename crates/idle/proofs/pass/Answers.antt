@@ -33,7 +33,7 @@ returns c =
     let y = x.here in
     let some : b ≡ 0 → 0 < shade x.state.ring.token + shade (colour_of x.state.ring b) = λ (z : b ≡ 0).
     elim c.if-b-eq0.branch [
-      then-b-eq0+else-token-own-eq0 w ↦ omega (arith, token_is x, w.shade-own.ensures (holder_ring x), w.if-token-own-eq0.false)
+      | then-b-eq0+else-token-own-eq0 w ↦ omega (arith, token_is x, w.shade-own.ensures (holder_ring x), w.if-token-own-eq0.false)
       | else-b-eq0 w ↦ absurd (w.if-b-eq0.false z)
     ] in
     rw c.ringed.ensures

@@ -1,6 +1,6 @@
 -- What the checks and the test of the saved words find decides: a refusal, or the words taken up, the turns, the stretches written
 -- out, and the state saved, each on what the one before it left.
-use Rattle.std.proofs.Common.{refl, sym, ◌∙◌, arith}
+use Rattle.std.proofs.Common.{refl, arith}
 use Rattle.std.proofs.lemmas.Result.{err_from_is_err_and}
 use Rattle.refusal.specs.declared.Refusal.TheVariants.{Saved}
 use Rattle.marker.proofs.Stages.{registers_room, registers_long, passed, settle_ready, leaves}

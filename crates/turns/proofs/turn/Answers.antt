@@ -1,6 +1,6 @@
 -- By the status word, each kind of turn is the function's that is called.
 use native.Mathlib.Omega.{arith}
-use mathlib.Core.Path.{ap, ◌∙◌}
+use mathlib.Core.Path.{ap}
 use Rattle.worker.specs.declared.registers.Block.{Block}
 use Rattle.step.proofs.Bounds.{block_room, roomy}
 use Rattle.step.proofs.Turned.{told_as}
