@@ -15,7 +15,7 @@ use Rattle.graph.proofs.OverMarked.{after_limit}
 use Rattle.bag.specs.declared.Bag.{Bag}
 use Rattle.bag.specs.Bag.{Same, times, contents}
 use Rattle.layers.specs.Hops.{hop_of}
-use Rattle.layers.specs.Search.{leads_to, Growable, Grown, Walkable, Apart}
+use Rattle.layers.specs.Search.{Growable, Grown, Walkable, Apart}
 use Rattle.layers.proofs.Growing.{some_hit, grown_none, growable_after, grown_then, grown_as}
 
 -- ---- the references of one object
@@ -61,11 +61,6 @@ module _ {G : Graph} {hop u : ℕ} {H₀ L₀ : List ℕ} {S₀ : Bag} (ok : Wal
             grown = grown_as (λ (w : ℕ). span (λ (e : ℕ). hit w (target G e)) (first G u) (i + 1)) (grown_then v.grown g)
                 (λ w. rw (view_at ok.formed object i inside) (span_after (λ (e : ℕ). hit w (target G e)) (first G u) i));
           }
-
-    pub visiting_end : length (references_of G u) ≤ i → Grown hop (λ (w : ℕ). leads_to G w u) H₀ L₀ S₀ H L S
-    visiting_end h =
-        let n : i ≡ degree G u = omega (arith, v.within, view_long ok.formed object) in
-        rw n at v.grown
 
 -- ---- objects that are looked along
 
