@@ -116,7 +116,7 @@ EXPORT = re.compile(r"\b(?:no_mangle|extern|export_name)\b")
 RESULT = {"res": "result"}
 PARAMETER = re.compile(r"(\w+): (?:(&(?:mut )?)\[(u8|u32|u64)\]|(u32|u64|usize))")
 COUNT = re.compile(r"pub (\w+): u64,")
-NUMBER_OF = re.compile(r"pub fn number_of\b.*?\n\{\s*match r \{(.*?)\n    \}\n\}", re.DOTALL)
+NUMBER_OF = re.compile(r"impl From<Refusal> for u8 \{.*?\s*match refusal \{(.*?)\n        \}\n    \}\n\}", re.DOTALL)
 CAUSE = re.compile(r"Refusal::(\w+) => (\d+),")
 CONSTANT = r"^(?:pub )?const {}: (u8|u16|u32|u64|usize) = (\d+);"
 BITS = {"u8": 8, "u16": 16, "u32": 32, "u64": 64, "usize": 32}
@@ -199,11 +199,11 @@ def counts_in(source: str) -> List[str]:
 
 
 def refusals_in(source: str) -> Dict[str, int]:
-    """The causes of `number_of`, and the number of each."""
+    """The causes of the numbers of refusals, and the number of each."""
     source = bare(source)
     found = NUMBER_OF.search(source)
     if found is None:
-        raise Fault(f"{REFUSALS}: no function number_of")
+        raise Fault(f"{REFUSALS}: no number of each Refusal")
     numbers: Dict[str, int] = {}
     for number, line in enumerate(found[1].split("\n"), line_of(source, found.start(1))):
         if line.strip():

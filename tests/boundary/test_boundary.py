@@ -418,7 +418,7 @@ class Numbers(Boundary):
         self.assert_fault("[records.tally] has 4 fields, and desk::places::TALLY is another number")
 
     def test_a_new_refusal(self):
-        self.edit(REFUSALS, "        Refusal::Names => 19,\n", "        Refusal::Names => 19,\n        Refusal::Late => 20,\n")
+        self.edit(REFUSALS, "            Refusal::Names => 19,\n", "            Refusal::Names => 19,\n            Refusal::Late => 20,\n")
         self.assert_fault("crates/refusal/src/lib.rt has the cause Late, which has no row in [refusals]")
         self.edit(TABLE, "\n# The constants:", '\n[refusals.Late]\nc = "LATE"\ngo = "TooLate"\nwords = "too late"\n\n# The constants:')
         self.assertEqual(self.differing(), [HEADER, NUMBERS, GO_NUMBERS, PYTHON_NUMBERS])
@@ -438,8 +438,8 @@ class Numbers(Boundary):
             ("Refusal::Names => 19,", "Refusal::Names => 20,", "the numbers are not 1 to 19"),
             ("Refusal::Names => 19,", "Refusal::Names => 18,", "the numbers are not 1 to 19"),
             ("Refusal::Text => 18,", "Refusal::Text => 9 + 9,", "not understood: Refusal::Text => 9 + 9,"),
-            ("        Refusal::Names => 19,\n", "", "[refusals.Names]: crates/refusal/src/lib.rt has no cause Names"),
-            ("pub fn number_of", "pub fn numbers_of", "no function number_of"),
+            ("            Refusal::Names => 19,\n", "", "[refusals.Names]: crates/refusal/src/lib.rt has no cause Names"),
+            ("impl From<Refusal> for u8", "impl From<Refusal> for u16", "no number of each Refusal"),
         ):
             self.edit(REFUSALS, old, new)
             with self.subTest(new):

@@ -36,7 +36,7 @@ ASKED = ("Proof.antt", "Invariants.antt", "Answers.antt")
 
 # Code: what is no code in it, the clauses of its contracts and ghost items, the lemmas that a tactic is given, and what it brings in.
 NO_CODE = re.compile(r"""//[^\n]*|b?'(?:\\.|[^\\'])'|b?"(?:\\[\s\S]|[^\\"])*\"""")
-CLAUSE = re.compile(r"\b(?:(?:requires|ensures)\*?(?:\s+\w+)?|ghost\s+\w+\s*:)\s*\{")
+CLAUSE = re.compile(r"\b(?:(?:requires|ensures)\*?(?:\s+\w+)?|ghost\s+\w+\s*[:=])\s*\{")
 TACTIC = re.compile(r"#!?\[tactic\(([^\]]*)\)\]")
 GHOST = re.compile(r"^ghost (use [^;]*);", re.MULTILINE)
 BROUGHT = re.compile(r"^use ([\w:]+?)(?:::\{([^{}]*)\}|(?: as (\w+))?);", re.MULTILINE)

@@ -8,22 +8,22 @@ ghost use Rattle.saved.specs.Calls.{saving_lengths};
 ghost use Rattle.begin.specs.Answer.{length_for, Begun};
 
 use checkpoint::save;
-use desk::{Length, Lengths, SavedWords, Settings, places};
+use desk::{Lengths, Settings, places};
 use marker::{Marked, start};
-use refusal::{Refusal, Verdict};
+use refusal::Refusal;
 use worker::registers;
 
 // How many words a collection of n objects with W workers takes when it is saved.
-pub fn saved_words(objects: u32, workers: u32) -> Length
+pub fn saved_words(objects: u32, workers: u32) -> Result<u64, Refusal>
     ensures { length_row result ≡ length_for objects workers }
 {
     if checks::workers_outside(workers) {
-        return Length::Refused(Refusal::Setting);
+        return Err(Refusal::Setting);
     }
     if checks::objects_outside(objects) {
-        return Length::Refused(Refusal::Count);
+        return Err(Refusal::Count);
     }
-    Length::Is(places::saved(objects as usize, workers) as u64)
+    Ok(places::saved(objects as usize, workers) as u64)
 }
 
 // The lengths of the buffers of a call that saves.
@@ -34,7 +34,7 @@ pub fn lent(marks: usize, work: usize, tallies: usize, saved: usize) -> Lengths
         marks,
         work,
         tallies,
-        saved: SavedWords::Lent(saved),
+        saved: Some(saved),
     }
 }
 
@@ -49,26 +49,19 @@ pub fn begin(
     work: &mut [u32],
     tallies: &mut [u64],
     saved: &mut [u32],
-) -> Marked
+) -> Result<Marked, Refusal>
     ensures { Begun (call_of offsets.now targets.now starts.now settings schedule.now)
         marks.old work.old tallies.old saved.old result marks.new work.new tallies.new saved.new }
 {
     let lengths = lent(marks.len(), work.len(), tallies.len(), saved.len());
-    let verdict = marker::check(offsets, targets, starts, settings, schedule, lengths);
-    if let Verdict::Faulty(cause) = verdict {
-        return Marked::Refused(cause);
-    }
-    let setup = marker::setup_of(settings, offsets.len() - 1);
-    let workers = settings.workers;
+    let setup = marker::accept(offsets, targets, starts, settings, schedule, lengths)?;
     let mut registers = [0u32; registers::ALL];
-    let size = registers::BLOCK * workers as usize;
-    let regs = &mut registers[..size];
-    let begun = start::start(offsets, targets, starts, setup, marks, work, regs);
-    slices::clear_u64s(tallies);
+    let regs = &mut registers[..registers::BLOCK * setup.workers as usize];
+    let begun = start::start(offsets, targets, starts, setup, marks, work, tallies, regs);
     let p = marker::take_turns(
         offsets, targets, setup, schedule, marks, work, tallies, regs, begun,
     );
     marker::settle(setup, work, regs);
-    save::save(workers, marks, work, tallies, regs, p, saved);
-    marker::answer(tallies, workers, p)
+    save::save(setup.workers, marks, work, tallies, regs, p, saved);
+    Ok(marker::answer(tallies, setup.workers, p))
 }

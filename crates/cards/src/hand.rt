@@ -1,113 +1,84 @@
 // The schedule of a hand: its length, and its rounds, copied out of those of all cards or made worker
 // by worker.
-ghost use Rattle.std.specs.Prelude.{◌≡◌, ◌*◌, ◌≤◌, length, take, drop, eqb};
-ghost use Rattle.slices.specs.Put.{Put};
+ghost use Rattle.std.specs.Prelude.{◌≡◌, ℕ, ◌/◌, ◌≤◌, length, eqb};
 ghost use Rattle.hands.specs.Deck.{card_workers};
 ghost use Rattle.hands.specs.Hand.{turns_of, bytes_of};
 ghost use Rattle.seats.specs.Rounding.{Roomy, Rounded, Dealing};
-ghost use Rattle.cards.specs.Copying.{Copies, Tables};
+ghost use Rattle.tables.specs.Table.{rounds};
 
 use crate::table;
-
-// As many cards have no schedule whose length wraps, for any number of workers.
-const FEW_CARDS: usize = 1537228672809129301;
 
 // Check 7: whether so many bytes are the schedule of so many cards.
 pub fn is_schedule_of(bytes: usize, cards: usize, workers: u32) -> bool
     requires { (1 ≤ workers) × (workers ≤ card_workers) }
     ensures { result ≡ eqb bytes (bytes_of workers cards) }
 {
-    let round = 2 * workers as usize;
-    if FEW_CARDS < cards {
-        if bytes / round != cards {
-            return false;
-        }
-    }
-    bytes == cards * round
+    cards.checked_mul(2 * workers as usize) == Some(bytes)
 }
 
-// Copies a part of a card's round out of those of all cards, and answers where it ends.
-fn copy_part(parts: &[u8], card: u32, size: usize, schedule: &mut [u8], at: usize) -> usize
-    requires { Copies (length parts.now) card size at (length schedule.old) }
-    ensures { Put schedule.old at (take size (drop (card * size) parts.now)) schedule.new result }
-{
-    let from = card as usize * size;
-    let to = from + size;
-    text::put(schedule, at, &parts[from..to])
+// How the round of a card is written, for so many workers.
+pub trait Rounds {
+    ghost workers: { Self → ℕ };
+
+    // That what the rounds are taken from is right.
+    ghost right: { Self → Type 0 };
+
+    // Writes the round of a card, and answers where it ends.
+    fn put_round(&self, card: u32, schedule: &mut [u8], at: usize) -> usize
+        requires right { right self.now }
+        requires roomy { Roomy (workers self.now) card at (length schedule.old) }
+        ensures { Rounded (workers self.now) card at schedule.old schedule.new result };
 }
 
-// Copies the round of a card in two parts, each of which is one load and one store where its size is
-// known to the compiler.
-pub fn copy_round(
-    front: &[u8],
-    back: &[u8],
-    card: u32,
-    workers: u32,
-    schedule: &mut [u8],
-    at: usize,
-) -> usize
-    requires tables { Tables front.now back.now workers }
-    requires roomy { Roomy workers card at (length schedule.old) }
-    ensures { Rounded workers card at schedule.old schedule.new result }
-{
-    let next = copy_part(front, card, 8, schedule, at);
-    copy_part(back, card, 2 * workers as usize - 8, schedule, next)
-}
+// Copied out of the rounds of all cards. How long a round is is a constant, so that the compiler makes a
+// load and a store or two of it.
+impl<const N: usize> Rounds for [[u8; N]; 720] {
+    ghost workers = { λ all. N / 2 };
 
-fn copy_rounds(front: &[u8], back: &[u8], cards: &[u32], workers: u32, schedule: &mut [u8])
-    requires tables { Tables front.now back.now workers }
-    requires dealing { Dealing cards.now workers (length schedule.old) }
-    ensures { schedule.new ≡ turns_of workers cards.now }
-{
-    let mut at: usize = 0;
-    for i in 0..cards.len() {
-        at = copy_round(front, back, cards[i], workers, schedule, at);
+    ghost right = { λ all. all ≡ rounds (N / 2) };
+
+    fn put_round(&self, card: u32, schedule: &mut [u8], at: usize) -> usize {
+        text::put(schedule, at, &self[card as usize])
     }
 }
 
-// The number of workers is a constant in these calls, so that the compiler knows how long a round is.
-fn copy_four(cards: &[u32], schedule: &mut [u8])
-    requires { Dealing cards.now 4 (length schedule.old) }
-    ensures { schedule.new ≡ turns_of 4 cards.now }
-{
-    let front = tables::four();
-    let back = [0u8; 0];
-    copy_rounds(&front, &back, cards, 4, schedule);
+// Worker by worker, by the card's digits.
+#[derive(Clone, Copy, Debug, PartialEq, Eq)]
+pub struct ByDigits {
+    pub workers: u32,
 }
 
-fn copy_six(cards: &[u32], schedule: &mut [u8])
-    requires { Dealing cards.now 6 (length schedule.old) }
-    ensures { schedule.new ≡ turns_of 6 cards.now }
-{
-    let front = tables::six_front();
-    let back = tables::six_back();
-    copy_rounds(&front, &back, cards, 6, schedule);
+impl Rounds for ByDigits {
+    ghost workers = { λ s. s.workers };
+
+    ghost right = { λ s. Unit {0} };
+
+    fn put_round(&self, card: u32, schedule: &mut [u8], at: usize) -> usize {
+        seats::put_round(table::all()[card as usize], self.workers, schedule, at)
+    }
 }
 
-// A shorter hand is dealt by its cards' digits: the rounds of all cards would take longer to put
-// into the frame.
-pub const LONG_HAND: usize = 20;
+// Writes the rounds of a hand, one behind the other.
+fn put_rounds<R: Rounds>(cards: &[u32], rounds: &R, schedule: &mut [u8])
+    requires right { R.right rounds.now }
+    requires dealing { Dealing cards.now (R.workers rounds.now) (length schedule.old) }
+    ensures { schedule.new ≡ turns_of (R.workers rounds.now) cards.now }
+{
+    let mut at = 0;
+    for card in cards {
+        at = rounds.put_round(*card, schedule, at);
+    }
+}
 
 // Fills the schedule of a hand.
 pub fn put_hand(cards: &[u32], workers: u32, schedule: &mut [u8])
     requires { Dealing cards.now workers (length schedule.old) }
     ensures { schedule.new ≡ turns_of workers cards.now }
 {
-    if workers == 1 {
-        let end = schedule.len();
-        slices::clear_bytes(schedule, 0, end);
-        return;
+    match workers {
+        1 => schedule.fill(0),
+        4 => put_rounds(cards, tables::four(), schedule),
+        6 => put_rounds(cards, tables::six(), schedule),
+        _ => put_rounds(cards, &ByDigits { workers }, schedule),
     }
-    if LONG_HAND <= cards.len() {
-        if workers == 4 {
-            copy_four(cards, schedule);
-            return;
-        }
-        if workers == 6 {
-            copy_six(cards, schedule);
-            return;
-        }
-    }
-    let deck = table::all();
-    seats::put_rounds(&deck, cards, workers, schedule);
 }

@@ -1,5 +1,5 @@
 -- The words of each worker's runs in the work memory, worker by worker; and what a block tells of a stretch depends on them alone.
-use mathlib.Core.Path.{◌≡◌, refl, ap, ◌∙◌}
+use mathlib.Core.Path.{◌≡◌, ap, ◌∙◌}
 use mathlib.Core.List.{List, [], ◌∷◌, ◌++◌}
 use mathlib.Core.Logic.{by_cases}
 use Prim.Native.Nat.{ℕ, ◌+◌, ◌-◌, ◌*◌, ◌≤◌, ◌<◌}
@@ -12,7 +12,7 @@ use Rattle.graph.specs.Graph.{Graph}
 use Rattle.machine.specs.Run.{Run, run}
 use Rattle.machine.specs.Machine.{Worker, idle, asking, denied, ended, given, busy}
 use Rattle.worker.specs.declared.registers.Block.{Block}
-use Rattle.worker.specs.Registers.{Room, block_at}
+use Rattle.worker.specs.Registers.{block_at}
 use Rattle.worker.specs.Stretch.{TopIs, Told, below}
 use Rattle.step.specs.Held.{stretch_at, top_of, Carrying, BlockIs}
 use Rattle.step.proofs.Parts.{length_stretch, length_back, back_here, back_other}
@@ -27,16 +27,10 @@ module _ {stretches regs work₀ : List ℕ} {W L : ℕ} (x : Puttable stretches
     pub long : length work ≡ length work₀
     pub done : (b : ℕ) → b < k → RunPut stretches regs L b work
 
-  pub put_none : PutTo 0 work₀
-  put_none = record { long = refl; done = λ b h. absurd (omega arith) }
-
   pub put_all : {k : ℕ} {work : List ℕ} → PutTo k work → W ≤ k → RunsPut stretches regs W L work
   put_all t h = record { long = t.long ∙ x.work_long; each = λ b l. t.done b (omega arith) }
 
   module _ (k : ℕ) (low : k < W) where
-    pub block_room : Room regs k
-    block_room = record { low = omega (arith, x.few); long = omega (arith, x.regs_long) }
-
     pub part_room : k * L + L ≤ W * L
     part_room = rw suc-mul at (mul-le-mul_right L low)
 

@@ -58,9 +58,6 @@ pub record Going (s : List ℕ) (words references : ℕ) : Type 0 where
   pub words_are : words + 2 * length (runs_in (drop words s)) ≡ 2 * length (runs_in s)
   pub references_are : references + carried (runs_in (drop words s)) ≡ carried (runs_in s)
 
-pub going_none : (s : List ℕ) → Going s 0 0
-going_none s = record { words_are = omega arith; references_are = omega arith }
-
 module _ {s : List ℕ} {k c : ℕ} (x : Going s k c) where
   -- the next two words
   two : k + 1 < length s → drop k s ≡ get_or s k 0 ∷ get_or s (k + 1) 0 ∷ drop (k + 2) s

@@ -11,8 +11,8 @@ use lib.Seq.{get_or-append-add, get_or_at, take_at}
 use Rattle.graph.specs.Graph.{Graph, objects}
 use Rattle.desk.specs.Lengths.{stretch_length}
 use Rattle.machine.specs.Run.{Run, run, carried, pairs}
-use Rattle.machine.specs.Machine.{Worker, idle, asking, denied, ended, given, busy, poll, look, claim, runs_of, carried_by, stretch}
-use Rattle.machine.specs.Sound.{since_of, batch_in, Supplied}
+use Rattle.machine.specs.Machine.{Worker, idle, asking, denied, ended, given, busy, runs_of, carried_by, stretch}
+use Rattle.machine.specs.Sound.{batch_in, Supplied}
 use Rattle.worker.specs.declared.registers.Block.{Block}
 use Rattle.worker.specs.Registers.{status_given, store_at}
 use Rattle.worker.specs.Stretch.{top_with, Told}
@@ -21,8 +21,8 @@ use Rattle.worker.proofs.Pairs.{length_pairs}
 use Rattle.step.specs.Held.{stretch_at, BlockIs, RestIs}
 use Rattle.saved.specs.Layout.{worker_words, runs_in}
 use Rattle.saved_theorems.proofs.RoundTrip.{runs_stretch, stretch_length_lem}
-use Rattle.checkpoint.specs.declared.workers.Saved.{Saved}
-use Rattle.checkpoint.specs.Workers.{listed, Measured, Restorable, SomeRestorable, Restores, saved_at, AllRestorable, Restored}
+use Rattle.saved.specs.declared.WorkerWords.{WorkerWords}
+use Rattle.checkpoint.specs.Workers.{listed, Measured, Restorable, Restores, saved_at, AllRestorable, Restored}
 
 -- ---- the uppermost pair of a stretch
 
@@ -57,7 +57,7 @@ module _ (n : ℕ) (w : Worker) (f j : ℕ) (rs : List Run) (is : runs_of w ≡ 
 
 -- ---- what is measured of a stretch
 
-module _ {G : Graph} {u : Worker} {rested : ℕ} {targets s : List ℕ} {w : Saved} (x : Restorable G u rested targets s w) where
+module _ {G : Graph} {u : Worker} {rested : ℕ} {targets s : List ℕ} {w : WorkerWords} (x : Restorable G u rested targets s w) where
   -- the stretch's runs are the worker's
   pub runs_are : runs_in s ≡ runs_of u
   runs_are = rw x.stretch_is (runs_stretch (objects G) u)
@@ -68,22 +68,6 @@ module _ {G : Graph} {u : Worker} {rested : ℕ} {targets s : List ℕ} {w : Sav
   -- word k
   word : (k : ℕ) → get_or (listed w) k 0 ≡ get_or (worker_words u rested) k 0
   word k = ap (λ (l : List ℕ). get_or l k 0) x.words_are
-
-  -- a worker whose status is below `given` carries nothing
-  pub light : w.status < status_given → (r : Block) → r.status ≡ w.status → r.since ≡ w.since
-      → BlockIs G u r s × RestIs u rested r
-  light h r e d = by u (word 0) (word 2)
-    where
-      by : (v : Worker) → w.status ≡ get_or (worker_words v rested) 0 0 → w.since ≡ get_or (worker_words v rested) 2 0
-          → BlockIs G v r s × RestIs v rested r
-      by idle p q = (e ∙ p, d ∙ q)
-      by asking p q = (e ∙ p, d ∙ q)
-      by denied p q = (e ∙ p, d ∙ q)
-      by ended p q = (e ∙ p, d ∙ q)
-      by (given rs) p q = absurd (omega (arith, h, p))
-      by (busy c k poll rs) p q = absurd (omega (arith, h, p))
-      by (busy c k (look i) rs) p q = absurd (omega (arith, h, p))
-      by (busy c k (claim i) rs) p q = absurd (omega (arith, h, p))
 
   -- its runs can be measured
   pub measurable : (carried (runs_in s) < 2 ^ 32) × (length s < 2 ^ 32)
@@ -161,20 +145,6 @@ module _ {G : Graph} {u : Worker} {rested : ℕ} {targets s : List ℕ} {w : Sav
         batch ended p = p
         batch (given rs) p = p
         batch (busy c k i rs) p = p
-
-    -- a busy worker's since and batch are those of a store; another one's batch is 0
-    pub sum_fits : w.since < 2 ^ 32 → w.since + w.batch < 2 ^ 32
-    sum_fits h = by u refl (word 2) (word 3)
-      where
-        by : (v : Worker) → u ≡ v → w.since ≡ get_or (worker_words v rested) 2 0 → w.batch ≡ get_or (worker_words v rested) 3 0
-            → w.since + w.batch < 2 ^ 32
-        by idle e p q = omega (arith, h, q)
-        by asking e p q = omega (arith, h, q)
-        by denied e p q = omega (arith, h, q)
-        by ended e p q = omega (arith, h, q)
-        by (given rs) e p q = omega (arith, h, q)
-        by (busy y k i rs) e p q =
-            omega (arith, p, q, x.batch_carried, x.carried_limit, x.since_limit, ap since_of e, ap batch_in e, ap carried_by e)
 
     told : (rs : List Run) → runs_of u ≡ rs → Told rs (top_with (words - 2) (get_or s (words - 2) 0) (get_or s (words - 2 + 1) 0)) s
     told rs e =
@@ -258,12 +228,9 @@ module _ {targets words stretches regs₀ : List ℕ} {W L : ℕ} (x : AllRestor
         }
 
     -- the part that is lent goes up to e, and w are the words that were read
-    module _ {e : ℕ} (end : e ≡ k * L + L) {w : Saved} (is : w ≡ saved_at words k) where
+    module _ {e : ℕ} (end : e ≡ k * L + L) {w : WorkerWords} (is : w ≡ saved_at words k) where
       lent : Restorable x.graph (get_or x.workers k ended) (get_or x.rested k 0) targets (take (e - k * L) (drop (k * L) stretches)) w
       lent = rw (part_is end, is) (x.each k low)
-
-      pub one_restorable : SomeRestorable targets (take (e - k * L) (drop (k * L) stretches)) w
-      one_restorable = record { graph = x.graph; worker = get_or x.workers k ended; rested = get_or x.rested k 0; is = lent }
 
       pub one_restored : {regs regs' : List ℕ} (r : Block) → Restores targets (take (e - k * L) (drop (k * L) stretches)) w r → Taking k regs
           → regs' ≡ store_at regs k r → Taking (k + 1) regs'

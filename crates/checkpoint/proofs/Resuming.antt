@@ -136,9 +136,7 @@ module _ {targets : List ℕ} {g : Setup} {w marks work tallies regs : List ℕ}
 
     listed_are : (b : ℕ) → b < W → listed (saved_at words b) ≡ worker_words (worker s b) (get_or s.rested b 0)
     listed_are b h =
-        let z : 4 * b + 0 ≡ 4 * b = omega arith in
-        let first = rw z at (word_at b 0 h (omega arith)) in
-        rw (first, word_at b 1 h (omega arith), word_at b 2 h (omega arith), word_at b 3 h (omega arith))
+        rw (word_at b 0 h (omega arith), word_at b 1 h (omega arith), word_at b 2 h (omega arith), word_at b 3 h (omega arith))
         (four_words (worker s b) (get_or s.rested b 0))
 
     stretch_are : (b : ℕ) → b < W → stretch_at g.stretch b stretches ≡ stretch n (worker s b)

@@ -12,7 +12,7 @@ use Rattle.machine.specs.Row.{count_words}
 use Rattle.machine.specs.Tally.{tallies_words}
 use Rattle.machine.specs.Machine.{State, Worker, memory}
 use Rattle.saved.specs.Layout.{two_words, workers_words, saved_words}
-use Rattle.saved_theorems.proofs.RoundTrip.{saved_length_lem, workers_long, tallies_count, tallies_long, stretches_long}
+use Rattle.saved_theorems.proofs.RoundTrip.{workers_long, tallies_count, tallies_long, stretches_long}
 use Rattle.theorems.proofs.Colours.{shade_limit, set_limit}
 use Rattle.step.specs.declared.ring.Ring.{Ring}
 use Rattle.step.specs.Ringing.{ring_of}
@@ -147,10 +147,6 @@ module _ {W : ℕ} {μ : Memory} {w : List ℕ} (x : Savable W μ w) where
 
   -- ---- what is written after each part
 
-  -- as many words as before
-  pub same_long : {l : List ℕ} → l ≡ saved_words n s → length l ≡ length w
-  same_long e = ap length e ∙ saved_length_lem x.shaped ∙ sym x.long
-
   module _ {c : Counts} (made : (y : Countable μ.tallies W μ.progress) → c ≡ counts_of μ.progress y.tallies) {l₁ : List ℕ}
       (b₁ : Begins (length w) (head_words c μ.progress.ring) l₁) where
     counted : Begins N A₀ l₁
@@ -158,9 +154,6 @@ module _ {W : ℕ} {μ : Memory} {w : List ℕ} (x : Savable W μ w) where
         let heads : head_words c μ.progress.ring ≡ A₀ =
         ap (λ (d : Counts). head_words d μ.progress.ring) (made x.countable ∙ x.counts_are) ∙ ap (λ (q : Ring). head_words s.counts q) x.ring_is in
         subst (λ (k : ℕ). Begins k A₀ l₁) x.long (subst (λ (pre : List ℕ). Begins (length w) pre l₁) heads b₁)
-
-    pub long₁ : length l₁ ≡ length w
-    long₁ = omega (arith, counted.long, x.long)
 
     module _ {l₂ : List ℕ} (e₂ : l₂ ≡ placed workers_place (workers_words x.recorded.workers x.recorded.rested) l₁) where
       recorded : Begins N A₁ l₂
@@ -179,9 +172,6 @@ module _ {W : ℕ} {μ : Memory} {w : List ℕ} (x : Savable W μ w) where
         tallied =
             begins_next recorded (laid two_words (tallies_words s.tallies)) a₃ e₃ (ap (laid two_words) x.tallies_are) (A₁Long ∙ sym p₃)
             (omega (arith, p₃, tallies_long x.shaped))
-
-        pub long₃ : length l₃ ≡ length w
-        long₃ = omega (arith, tallied.long, x.long)
 
         module _ {a₄ : ℕ} (p₄ : a₄ ≡ marks_place W) {l₄ : List ℕ} (e₄ : l₄ ≡ placed a₄ μ.marks l₃) where
           marked : Begins N A₃ l₄

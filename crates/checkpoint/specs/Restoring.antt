@@ -3,7 +3,7 @@ use Rattle.std.specs.Prelude.{ℕ, ◌+◌, ◌-◌, ◌*◌, ◌≤◌, ◌<◌
 use Rattle.laws.specs.Choice.{pick}
 use Rattle.laws.specs.Span.{span}
 use Rattle.laws.specs.Sum.{sum}
-use Rattle.graph.specs.Graph.{Graph, graph, objects, references}
+use Rattle.graph.specs.Graph.{Graph, objects, references}
 use Rattle.graph.specs.Limits.{most_objects, most_references}
 use Rattle.desk.specs.Lengths.{counts_number, tally_word_count, stretch_length, ring_place, worker_word_count}
 use Rattle.desk.specs.Limits.{most_workers}

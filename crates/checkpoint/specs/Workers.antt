@@ -1,5 +1,5 @@
 -- Each worker's words: those that are saved of its block, and what the runs of a saved stretch come to.
-use Rattle.std.specs.Prelude.{ℕ, suc, ◌+◌, ◌-◌, ◌*◌, ◌≤◌, ◌<◌, ◌≡◌, List, [], ◌∷◌, length, get_or, ltb}
+use Rattle.std.specs.Prelude.{ℕ, suc, ◌-◌, ◌*◌, ◌≤◌, ◌<◌, ◌≡◌, List, [], ◌∷◌, length, get_or, ltb}
 use Rattle.laws.specs.Choice.{pick}
 use Rattle.laws.specs.Every.{Every}
 use Rattle.graph.specs.Graph.{Graph, objects}
@@ -14,20 +14,21 @@ use Rattle.worker.specs.Registers.{block_at, block_words, status_poll}
 use Rattle.step.specs.Held.{stretch_at, BlockIs, RestIs}
 use Rattle.saved.specs.Layout.{worker_words, workers_words, runs_in}
 use Rattle.checkpoint.specs.Copies.{Prefix}
-use Rattle.checkpoint.specs.declared.workers.Saved.{Saved}
+use Rattle.saved.specs.declared.WorkerWords.{WorkerWords}
+use Rattle.saved.specs.Words.{words_at}
 use Rattle.checkpoint.specs.declared.workers.Extent.{Extent}
 
 -- status, cell, since and batch
-abbrev pub saved_with : ℕ → ℕ → ℕ → ℕ → Saved
+abbrev pub saved_with : ℕ → ℕ → ℕ → ℕ → WorkerWords
 saved_with status cell since batch = record { status = status; cell = cell; since = since; batch = batch }
 
 -- as a block says them
-abbrev pub words_of : Block → Saved
+abbrev pub words_of : Block → WorkerWords
 words_of r =
     pick (ltb r.status status_poll) (saved_with r.status 0 r.since 0)
     (saved_with r.status r.cell (r.since - r.batch) r.batch)
 
-abbrev pub listed : Saved → List ℕ
+abbrev pub listed : WorkerWords → List ℕ
 listed w = w.status ∷ w.cell ∷ w.since ∷ w.batch ∷ []
 
 -- registers of W workers whose saved words these blocks say
@@ -54,7 +55,7 @@ measures s m = Measured s m.words m.carried
 
 -- the saved words and the stretch of worker u, whose since is n where it is not busy; it has runs where it must, all of them among
 -- the targets, and its numbers are those of a store
-pub record Restorable (G : Graph) (u : Worker) (n : ℕ) (targets s : List ℕ) (w : Saved) : Type 0 where
+pub record Restorable (G : Graph) (u : Worker) (n : ℕ) (targets s : List ℕ) (w : WorkerWords) : Type 0 where
   pub words_are : listed w ≡ worker_words u n
   pub stretch_is : s ≡ stretch (objects G) u
   pub targets_are : targets ≡ G.targets
@@ -67,20 +68,19 @@ pub record Restorable (G : Graph) (u : Worker) (n : ℕ) (targets s : List ℕ) 
   pub since_limit : since_of u ≤ most_references
 
 -- they are those of some worker
-pub record SomeRestorable (targets s : List ℕ) (w : Saved) : Type 0 where
+pub record SomeRestorable (targets s : List ℕ) (w : WorkerWords) : Type 0 where
   pub graph : Graph
   pub worker : Worker
   pub rested : ℕ
   pub is : Restorable graph worker rested targets s w
 
 -- the block and the stretch are that worker's
-abbrev pub Restores : List ℕ → List ℕ → Saved → Block → Type 0
+abbrev pub Restores : List ℕ → List ℕ → WorkerWords → Block → Type 0
 Restores targets s w r = (G : Graph) (u : Worker) (n : ℕ) → Restorable G u n targets s w → BlockIs G u r s × RestIs u n r
 
 -- the saved words of worker b
-abbrev pub saved_at : List ℕ → ℕ → Saved
-saved_at words b =
-    let at = worker_word_count * b in saved_with (get_or words at 0) (get_or words (at + 1) 0) (get_or words (at + 2) 0) (get_or words (at + 3) 0)
+abbrev pub saved_at : List ℕ → ℕ → WorkerWords
+saved_at words b = words_at words (worker_word_count * b)
 
 -- the saved words and stretches of W workers, and registers for them
 pub record AllRestorable (targets words stretches regs : List ℕ) (W L : ℕ) : Type 0 where

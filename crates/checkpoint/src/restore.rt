@@ -2,7 +2,7 @@
 ghost use Rattle.std.specs.Prelude.{◌≡◌, ◌+◌, ◌*◌, ◌≤◌, length};
 ghost use Rattle.desk.specs.Limits.{most_workers};
 ghost use Rattle.desk.specs.Lengths.{counts_number, counts_place, ring_place, workers_place, worker_word_count};
-ghost use Rattle.checkpoint.specs.Restoring.{runs?, running_in, ring_from, Telling, progress_from, part_of, Resumable, Resumes};
+ghost use Rattle.checkpoint.specs.Restoring.{running_in, ring_from, Telling, progress_from, part_of, Resumable, Resumes};
 ghost use Rattle.checkpoint.specs.Copies.{numbers_of, Bytes};
 
 use crate::{words, workers};
@@ -11,24 +11,14 @@ use step::ring::Ring;
 use step::{Progress, Setup, counts};
 use worker::registers;
 
-// 1 for a worker with this status that has not ended.
-fn runs(status: u32) -> u64
-    ensures { (result ≡ runs? status) × (result ≤ 1) }
-{
-    if status == registers::ENDED {
-        return 0;
-    }
-    1
-}
-
 // How many of the workers whose words these are have not ended.
 fn running(words: &[u32], workers: u32) -> u64
     requires { (length words.now ≡ worker_word_count * workers) × (workers ≤ most_workers) }
     ensures { result ≡ running_in words.now workers }
 {
-    let mut count: u64 = 0;
+    let mut count = 0;
     for b in 0..workers {
-        count += runs(words[places::WORKER * b as usize]);
+        count += u64::from(words[places::WORKER * b as usize] != registers::ENDED);
     }
     count
 }
@@ -54,9 +44,9 @@ fn ring_from(saved: &[u32]) -> Ring
     ensures { result ≡ ring_from saved.now }
 {
     Ring {
-        holder: saved[places::RING] as u64,
-        token: saved[places::RING + 1] as u64,
-        black: saved[places::RING + 2] as u64,
+        holder: u64::from(saved[places::RING]),
+        token: u64::from(saved[places::RING + 1]),
+        black: u64::from(saved[places::RING + 2]),
     }
 }
 

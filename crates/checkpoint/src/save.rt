@@ -46,7 +46,7 @@ fn work_at(work: &[u32], saved: &mut [u32])
     ensures { saved.new ≡ placed (length saved.old - length work.now) work.now saved.old }
 {
     let at = saved.len() - work.len();
-    words::copy(work, &mut saved[at..]);
+    saved[at..].copy_from_slice(work);
 }
 
 // The number of the form, the counts and the token ring.

@@ -1,4 +1,4 @@
-// Numbers, marks and words copied between the lent buffers and the saved words.
+// Numbers and marks copied between the lent buffers and the saved words.
 ghost use Rattle.std.specs.Prelude.{◌≡◌, ◌*◌, ◌≤◌, length};
 ghost use Rattle.laws.specs.Blocks.{laid};
 ghost use Rattle.saved.specs.Layout.{two_words};
@@ -9,10 +9,9 @@ pub fn put_numbers(numbers: &[u64], out: &mut [u32])
     requires { length out.old ≡ 2 * length numbers.now }
     ensures { out.new ≡ laid two_words numbers.now }
 {
-    for i in 0..numbers.len() {
-        let x = numbers[i];
-        out[2 * i] = (x % 4294967296) as u32;
-        out[2 * i + 1] = (x / 4294967296) as u32;
+    for (i, number) in numbers.iter().enumerate() {
+        out[2 * i] = (*number % 4294967296) as u32;
+        out[2 * i + 1] = (*number / 4294967296) as u32;
     }
 }
 
@@ -21,10 +20,8 @@ pub fn take_numbers(words: &[u32], out: &mut [u64])
     requires { length words.now ≡ 2 * length out.old }
     ensures { out.new ≡ numbers_of words.now (length out.old) }
 {
-    for i in 0..out.len() {
-        let low = words[2 * i] as u64;
-        let high = words[2 * i + 1] as u64;
-        out[i] = low + 4294967296 * high;
+    for (i, number) in out.iter_mut().enumerate() {
+        *number = saved::number(words, 2 * i);
     }
 }
 
@@ -33,8 +30,8 @@ pub fn put_bytes(bytes: &[u8], out: &mut [u32])
     requires { length out.old ≡ length bytes.now }
     ensures { out.new ≡ bytes.now }
 {
-    for i in 0..bytes.len() {
-        out[i] = bytes[i] as u32;
+    for (i, byte) in bytes.iter().enumerate() {
+        out[i] = u32::from(*byte);
     }
 }
 
@@ -43,18 +40,8 @@ pub fn take_bytes(words: &[u32], out: &mut [u8])
     requires { (length out.old ≡ length words.now) × Bytes words.now }
     ensures { out.new ≡ words.now }
 {
-    for i in 0..words.len() {
-        out[i] = words[i] as u8;
-    }
-}
-
-// Words.
-pub fn copy(words: &[u32], out: &mut [u32])
-    requires { length out.old ≡ length words.now }
-    ensures { out.new ≡ words.now }
-{
-    for i in 0..words.len() {
-        out[i] = words[i];
+    for (i, word) in words.iter().enumerate() {
+        out[i] = *word as u8;
     }
 }
 
@@ -63,7 +50,5 @@ pub fn copy_first(words: &[u32], count: usize, out: &mut [u32])
     requires { (length out.old ≡ length words.now) × (count ≤ length words.now) }
     ensures { Prefix words.now count out.new }
 {
-    for i in 0..count {
-        out[i] = words[i];
-    }
+    out[..count].copy_from_slice(&words[..count]);
 }

@@ -9,34 +9,26 @@ ghost use Rattle.checkpoint.specs.Workers.{words_of, Recorded, Records, measures
 
 use crate::words;
 use desk::places;
+use saved::WorkerWords;
 use worker::registers;
 use worker::registers::Block;
 
-// Status, cell, since and batch of a worker, as they are saved.
-#[derive(Clone, Copy)]
-pub struct Saved {
-    pub status: u32,
-    pub cell: u32,
-    pub since: u32,
-    pub batch: u32,
-}
-
-// What a block says of them. A busy worker's since is brought forward by its batch; one that is not
+// What a block says of the words of a worker. A busy worker's since is brought forward by its batch; one that is not
 // busy has neither cell nor batch.
-fn saved_of(r: Block) -> Saved
+fn saved_of(r: Block) -> WorkerWords
     requires { status_poll ≤ r.status → r.batch ≤ r.since }
     ensures { result ≡ words_of r }
 {
     let status = r.status;
     if status < registers::POLL {
-        return Saved {
+        return WorkerWords {
             status,
             cell: 0,
             since: r.since,
             batch: 0,
         };
     }
-    Saved {
+    WorkerWords {
         status,
         cell: r.cell,
         since: r.since - r.batch,
@@ -60,7 +52,7 @@ pub fn put_workers(regs: &[u32], workers: u32, out: &mut [u32])
 }
 
 // How many words the runs of a stretch take, and how many references they hold.
-#[derive(Clone, Copy)]
+#[derive(Clone, Copy, Debug, PartialEq, Eq)]
 pub struct Extent {
     pub words: u32,
     pub carried: u32,
@@ -71,28 +63,25 @@ fn measure(s: &[u32]) -> Extent
     requires { (carried (runs_in s.now) < 2 ^ 32) × (length s.now < 2 ^ 32) }
     ensures { measures s.now result }
 {
-    let mut at: usize = 0;
-    let mut carried: u32 = 0;
-    while at + 1 < s.len() {
-        let first = s[at];
-        let end = s[at + 1];
+    let mut carried = 0;
+    let (pairs, _) = s.as_chunks::<2>();
+    for (i, &[first, end]) in pairs.iter().enumerate() {
         if end <= first {
             return Extent {
-                words: at as u32,
+                words: 2 * i as u32,
                 carried,
             };
         }
         carried += end - first;
-        at += 2;
     }
     Extent {
-        words: at as u32,
+        words: 2 * pairs.len() as u32,
         carried,
     }
 }
 
 // The block of a worker whose saved words these are, with the stretch s.
-fn block_of(targets: &[u32], s: &[u32], w: Saved) -> Block
+fn block_of(targets: &[u32], s: &[u32], w: WorkerWords) -> Block
     requires { SomeRestorable targets.now s.now w }
     ensures { Restores targets.now s.now w result }
 {
@@ -128,17 +117,11 @@ fn block_of(targets: &[u32], s: &[u32], w: Saved) -> Block
 }
 
 // The saved words of worker b.
-fn saved_at(words: &[u32], b: u32) -> Saved
+fn saved_at(words: &[u32], b: u32) -> WorkerWords
     requires { (worker_word_count * b + worker_word_count ≤ length words.now) × (b < most_workers) }
     ensures { result ≡ saved_at words.now b }
 {
-    let at = places::WORKER * b as usize;
-    Saved {
-        status: words[at],
-        cell: words[at + 1],
-        since: words[at + 2],
-        batch: words[at + 3],
-    }
+    WorkerWords::at(words, places::WORKER * b as usize)
 }
 
 // The blocks of all workers, from the words and the stretches that are saved of them.
@@ -161,17 +144,6 @@ pub fn take_workers(
     }
 }
 
-// So many words, but no more than there are.
-fn within(used: u32, len: usize) -> usize
-    ensures { (result ≤ len) × (used ≤ len → result ≡ used) }
-{
-    let words = used as usize;
-    if words < len {
-        return words;
-    }
-    len
-}
-
 // The words of the runs below each worker's first, as its block tells, from the saved stretches into the work memory. What stands
 // behind them there is not written.
 pub fn put_runs(stretches: &[u32], workers: u32, len: usize, regs: &[u32], work: &mut [u32])
@@ -180,12 +152,9 @@ pub fn put_runs(stretches: &[u32], workers: u32, len: usize, regs: &[u32], work:
 {
     for b in 0..workers {
         let r = registers::load(regs, b);
-        let count = within(r.used, len);
+        let count = len.min(r.used as usize);
         let from = b as usize * len;
-        words::copy_first(
-            &stretches[from..from + len],
-            count,
-            &mut work[from..from + len],
-        );
+        let stretch = &stretches[from..from + len];
+        words::copy_first(stretch, count, &mut work[from..from + len]);
     }
 }

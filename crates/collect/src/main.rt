@@ -2,29 +2,23 @@
 // collection did. What it prints is made by `report::answer`; here are only files.
 #![tactic(auto)]
 
-ghost use Rattle.std.specs.Prelude.{◌≤◌, length};
-
 use program::Loaded;
 use program::limits::{MOST_ORDER_BYTES, MOST_STORE_BYTES, TEXT_ROOM};
 use std::fs;
 use std::io::{Error, Read};
 use std::rt::Files;
 
-// A file: how it was got, and how many bytes of it stand in the buffer.
+// A file: how it was got, and what of it stands in the buffer.
 #[derive(Clone, Copy)]
-struct Got {
+struct Got<'a> {
     file: Loaded,
-    len: usize,
+    bytes: &'a [u8],
 }
 
-fn unreadable() -> Got
-    ensures { result.len ≤ 0 }
-{
-    Got {
-        file: Loaded::Unreadable,
-        len: 0,
-    }
-}
+const UNREADABLE: Got<'static> = Got {
+    file: Loaded::Unreadable,
+    bytes: &[],
+};
 
 // How a file was got whose limit has been read: it is asked for one byte more. Its length is not
 // asked for, since a pipe has none and a device may tell any.
@@ -38,37 +32,36 @@ fn filled(file: &mut impl Read) -> Loaded {
 }
 
 // Reads up to the buffer's length, which is the file's limit.
-fn read_up_to(file: &mut impl Read, buffer: &mut [u8]) -> Got
-    ensures { result.len ≤ length buffer.new }
-{
+fn read_up_to<'a>(file: &mut impl Read, buffer: &'a mut [u8]) -> Got<'a> {
     let mut at: usize = 0;
     while at < buffer.len() {
         match file.read(&mut buffer[at..]) {
-            Err(_) => return unreadable(),
+            Err(_) => return UNREADABLE,
             Ok(0) => {
                 return Got {
                     file: Loaded::Whole,
-                    len: at,
+                    bytes: &buffer[..at],
                 };
             }
             Ok(n) => at += n,
         }
     }
-    let file = filled(file);
-    Got { file, len: at }
+    Got {
+        file: filled(file),
+        bytes: buffer,
+    }
 }
 
 // Opens, reads and closes a file.
-fn load(rt: &impl Files, path: &str, buffer: &mut [u8]) -> Got
-    ensures { result.len ≤ length buffer.new }
-{
+fn load<'a>(rt: &impl Files, path: &str, buffer: &'a mut [u8]) -> Got<'a> {
     match fs::open(rt, path) {
-        Err(_) => unreadable(),
+        Err(_) => UNREADABLE,
         Ok(mut file) => read_up_to(&mut file, buffer),
     }
 }
 
 // Tells on standard error that the answer was not written whole, and the system's words for why.
+// Stays (2): the crate below both programs, `text`, is part of the C library, which tells nothing and has no heap.
 fn tell(rt: &(impl Eprint + Alloc), error: &Error) {
     let _ = match error.to_string(rt.alloc()) {
         Ok(text) => {
@@ -81,27 +74,8 @@ fn tell(rt: &(impl Eprint + Alloc), error: &Error) {
 }
 
 // Makes the answer and writes it. That it could not be written whole is told on standard error.
-fn respond(
-    rt: &(impl Print + Eprint + Alloc),
-    storefile: Got,
-    store: &[u8],
-    orderfile: Got,
-    order: &[u8],
-    out: &mut [u8],
-)
-    requires { (storefile.len ≤ length store.now) × (orderfile.len ≤ length order.now) }
-{
-    let store_len = storefile.len;
-    let order_len = orderfile.len;
-    let store_got = storefile.file;
-    let order_got = orderfile.file;
-    let n = report::answer(
-        store_got,
-        &store[..store_len],
-        order_got,
-        &order[..order_len],
-        out,
-    );
+fn respond(rt: &(impl Print + Eprint + Alloc), store: Got, order: Got, out: &mut [u8]) {
+    let n = report::answer(store.file, store.bytes, order.file, order.bytes, out);
     if let Err(error) = rt.write_all(&out[..n]) {
         tell(rt, &error);
     }
@@ -113,5 +87,5 @@ fn main(rt: HostRuntime) {
     let mut out = [0u8; TEXT_ROOM];
     let storefile = load(&rt, "store.cat", &mut store);
     let orderfile = load(&rt, "order.run", &mut order);
-    respond(&rt, storefile, &store, orderfile, &order, &mut out);
+    respond(&rt, storefile, orderfile, &mut out);
 }

@@ -7,6 +7,7 @@ use print::TEXT_LENGTH;
 use std::io::Error;
 
 // Tells on standard error that the cards were not written whole, and the system's words for why.
+// Stays (2): the crate below both programs, `text`, is part of the C library, which tells nothing and has no heap.
 fn tell(rt: &(impl Eprint + Alloc), error: &Error) {
     let _ = match error.to_string(rt.alloc()) {
         Ok(text) => {

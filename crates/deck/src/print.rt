@@ -1,27 +1,34 @@
 // The deck as text, a card of six digits to a line.
-ghost use Rattle.std.specs.Prelude.{◌+◌, ◌≤◌, ◌<◌, length};
-ghost use Rattle.slices.specs.Put.{Put};
-ghost use Rattle.deck.specs.Text.{card_line, Prints};
+ghost use Rattle.std.specs.Prelude.{◌<◌};
+ghost use Rattle.text.specs.Pages.{Room, Wrote};
+ghost use Rattle.deck.specs.Text.{card_line, deck_text, deck_bytes, Prints};
 
 use cards::table;
-use cards::table::DECK_SIZE;
+use text::Page;
 
 // How many bytes the text has.
 pub const TEXT_LENGTH: usize = 5040;
 
-// Writes a card's line behind the first `at` bytes, and answers how many bytes there are then.
-fn put_card(out: &mut [u8], at: usize, n: u32) -> usize
-    requires { (at + 7 ≤ length out.old) × (n < 1000000) }
-    ensures { Put out.old at (card_line n) out.new result }
+// Writes a card's line.
+fn put_card(page: &mut Page, n: u32)
+    requires room { Room 7 page.old }
+    requires six_digits { n < 1000000 }
+    ensures { Wrote 7 (card_line n) page.old page.new }
 {
-    out[at] = (48 + n / 100000) as u8;
-    out[at + 1] = (48 + n / 10000 % 10) as u8;
-    out[at + 2] = (48 + n / 1000 % 10) as u8;
-    out[at + 3] = (48 + n / 100 % 10) as u8;
-    out[at + 4] = (48 + n / 10 % 10) as u8;
-    out[at + 5] = (48 + n % 10) as u8;
-    out[at + 6] = b'\n';
-    at + 7
+    for digit in hands::digits_of(n) {
+        page.put(&[b'0' + digit as u8]);
+    }
+    page.put(b"\n");
+}
+
+// Writes the cards in their order.
+fn put_cards(page: &mut Page)
+    requires { Room deck_bytes page.old }
+    ensures { Wrote deck_bytes deck_text page.old page.new }
+{
+    for n in table::all() {
+        put_card(page, *n);
+    }
 }
 
 // Writes the deck to the buffer's beginning, leaves the bytes behind it, and answers how many bytes
@@ -32,10 +39,7 @@ pub fn put_deck(out: &mut [u8]) -> usize
     if out.len() < TEXT_LENGTH {
         return 0;
     }
-    let deck = table::all();
-    let mut at: usize = 0;
-    for i in 0..DECK_SIZE {
-        at = put_card(out, at, deck[i]);
-    }
-    at
+    let mut page = Page { out, at: 0 };
+    put_cards(&mut page);
+    page.at
 }

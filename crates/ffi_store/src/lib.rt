@@ -13,6 +13,8 @@ ghost use Rattle.matrix.specs.Export.{export_fault, bytes_after, length_for as e
 ghost use Rattle.names.specs.Names.{names_of};
 ghost use Rattle.names.specs.Call.{texts_of, blank, length_for as scan_length};
 
+use names::{LentNames, LentTexts};
+
 // `header`; result words: n, m, index.
 #[unsafe(no_mangle)]
 pub extern "C" fn kullneyra_header(bytes: &[u8], res: &mut [u32]) -> u32
@@ -107,7 +109,7 @@ pub extern "C" fn kullneyra_export(offsets: &[u32], targets: &[u32], out: &mut [
     ensures out_after { out.new ≡ bytes_after offsets.now targets.now out.old }
     ensures returns { result ≡ 0 → Returns offsets.now targets.now }
 {
-    refusal::verdict_number(market::export(offsets, targets, out)) as u32
+    u32::from(refusal::number_of(&market::export(offsets, targets, out)))
 }
 
 // How many mentions of names texts have; one result word.
@@ -129,12 +131,17 @@ pub extern "C" fn kullneyra_scan_length(
 {
     kullneyra::give_length(
         scan::scan_length(
-            scan::Shape { objects, width },
-            names,
-            named,
-            texts,
-            ends,
-            owners,
+            objects,
+            LentNames {
+                width: width as usize,
+                bytes: names,
+                objects: named,
+            },
+            LentTexts {
+                bytes: texts,
+                ends,
+                owners,
+            },
             work,
         ),
         res,
@@ -159,15 +166,15 @@ pub extern "C" fn kullneyra_scan(
         (texts_of texts.now ends.now owners.now)
         work.old from.old to.old work.new from.new to.new result }
 {
-    refusal::verdict_number(scan::scan(
-        scan::Shape { objects, width },
-        names,
-        named,
-        texts,
+    let names = LentNames {
+        width: width as usize,
+        bytes: names,
+        objects: named,
+    };
+    let texts = LentTexts {
+        bytes: texts,
         ends,
         owners,
-        work,
-        from,
-        to,
-    )) as u32
+    };
+    u32::from(refusal::number_of(&scan::scan(objects, names, texts, work, from, to)))
 }

@@ -1,11 +1,13 @@
 -- The stretches of all workers, one after the other.
-use mathlib.Core.Path.{◌≡◌, refl, ap, subst, ◌∙◌}
-use mathlib.Core.Bool.{Bool, true, false}
+use mathlib.Core.Path.{◌≡◌, refl, sym, ap, ◌∙◌}
+use mathlib.Core.Bool.{Bool, true, false, not}
+use lib.Dec.{eqb}
+use mir.Val.{bool_byte}
+use borrow.Author.Tests.{eqb-true, eqb-false}
 use mathlib.Core.List.{List, [], ◌∷◌}
 use mathlib.Core.Logic.{by_cases}
 use native.Mathlib.Decide.{dec_lt}
 use Prim.Native.Nat.{ℕ, zero, suc, ◌+◌, ◌-◌, ◌*◌, ◌≤◌, ◌<◌}
-use native.Mathlib.Nat.{mul-le-mul, mul-le-mul_right, suc-mul}
 use native.Mathlib.Omega.{arith}
 use lib.ListN.{length, take, drop, length-take}
 use borrow.Author.Count.{below_more}
@@ -13,7 +15,6 @@ use Rattle.laws.specs.Decides.{Decides}
 use Rattle.laws.specs.Every.{Every}
 use Rattle.laws.specs.Span.{span}
 use Rattle.laws.specs.Sum.{sum, hit}
-use Rattle.laws.proofs.Decides.{never, refuted}
 use Rattle.laws.proofs.Passing.{span_next, span_agree, span_limit}
 use Rattle.laws.proofs.Span.{span_hit_in}
 use Rattle.graph.specs.Graph.{Graph, objects, references}
@@ -21,14 +22,12 @@ use Rattle.graph.specs.Formed.{Formed}
 use Rattle.graph.specs.Chain.{set?}
 use Rattle.graph.proofs.OverMarked.{after_limit}
 use Rattle.graph.specs.Limits.{most_objects}
-use Rattle.desk.specs.Limits.{most_workers}
-use Rattle.desk.specs.Lengths.{saved_length, marks_place, stretch_length}
+use Rattle.desk.specs.Lengths.{marks_place, stretch_length}
 use Rattle.machine.specs.Run.{Run, run, carried}
 use Rattle.machine.specs.Sound.{Within, runs_sum}
 use Rattle.saved.specs.Layout.{worker_word, stretch_in}
-use Rattle.frontier.specs.declared.runs.Load.{Load}
 use Rattle.frontier.specs.declared.runs.Loads.{Loads}
-use Rattle.frontier.specs.Runs.{LoadFound, runs_at, times_words, carried_words, carrying_words, StretchAt, StretchesSound, LoadsFound, LoadsThere, TargetsSound, LoadedFound}
+use Rattle.frontier.specs.Runs.{LoadIs, runs_at, times_words, carried_words, carrying_words, StretchAt, LoadsAre, LoadsThere, LoadedAre}
 use Rattle.frontier.specs.Windows.{WindowSound}
 
 -- ---- where worker b's stretch stands, with the marks from m on and stretches of L words
@@ -38,17 +37,6 @@ module _ (n W b : ℕ) {m L : ℕ} (w : List ℕ) (place : m ≡ marks_place W) 
   stretch_is =
       let e : m + n + b * L + L - (m + n + b * L) ≡ L = omega arith in
       rw (e, place, size)
-
-  pub stretch_inside : b < W → length w ≡ saved_length n W → m + n + b * L + L ≤ length w
-  stretch_inside h long =
-      rw size (omega (arith, place, long, mul-le-mul_right {m = suc b} {n = W} (stretch_length n) h, suc-mul b (stretch_length n)))
-
-  -- the places that the code computes fit
-  pub stretch_low : n ≤ most_objects → W ≤ most_workers → b < W → m + n + b * L + L ≤ 2294036
-  stretch_low h q l =
-      let short : L ≤ stretch_length most_objects = omega arith in
-      let few : b ≤ most_workers = omega arith in
-      omega (arith, mul-le-mul few short, place)
 
 -- it is short
 pub stretch_short : (n : ℕ) {L : ℕ} → L ≡ stretch_length n → n ≤ most_objects → (at : ℕ) (w : List ℕ)
@@ -77,30 +65,35 @@ loads_start =
       total_low = omega arith;
     }
 
-set_one : (x : ℕ) → (x ≡ 0 → ⊥) → set? x ≡ 1
-set_one zero n = absurd (n refl)
-set_one (suc x) n = refl
+-- 1 for a worker that carries something
+set_byte : (k : ℕ) → bool_byte (not (eqb k 0)) ≡ set? k
+set_byte k =
+    let cases : (b : Bool) → eqb k 0 ≡ b → bool_byte (not b) ≡ set? k =
+    λ b. elim b as (λ b. eqb k 0 ≡ b → bool_byte (not b) ≡ set? k)
+    [ true ↦ λ p. rw (eqb-true k 0 p) refl | false ↦ λ p. sym (set_one k (eqb-false k 0 p)) ] in
+    cases (eqb k 0) refl
+  where
+    set_one : (x : ℕ) → (x ≡ 0 → ⊥) → set? x ≡ 1
+    set_one zero n = absurd (n refl)
+    set_one (suc x) n = refl
 
 module _ {G : Graph} {ms : List ℕ} {W : ℕ} {w : List ℕ} {carrying total b : ℕ} (x : LoadsAt G ms W w carrying total b)
-    (h : b < W) {st : List ℕ} {r : Load} (found : LoadFound G ms (worker_word w b 0) (worker_word w b 3) st r)
-    (is : st ≡ stretch_in (objects G) W w b) where
-  here : LoadFound G ms (worker_word w b 0) (worker_word w b 3) (stretch_in (objects G) W w b) r
-  here = subst (λ (l : List ℕ). LoadFound G ms (worker_word w b 0) (worker_word w b 3) l r) is found
+    (h : b < W) {status batch k : ℕ} {st : List ℕ} (found : LoadIs G ms status batch st k)
+    (s : status ≡ worker_word w b 0) (t : batch ≡ worker_word w b 3) (is : st ≡ stretch_in (objects G) W w b) where
+  here : LoadIs G ms (worker_word w b 0) (worker_word w b 3) (stretch_in (objects G) W w b) k
+  here = rw (← s, ← t, ← is) found
 
-  -- worker b's stretch is wrong
-  pub loads_wrong : r.sound ≡ false → ((a : ℕ) → a < W → StretchAt G ms W w a) → ⊥
-  loads_wrong f s = never (here.known (s b h)) f
-
-  pub loads_next : {carrying' : ℕ} → r.sound ≡ true → carrying' ≡ carrying + set? r.carried
-      → length st ≤ 131076 → LoadsAt G ms W w carrying' (total + r.carried) (b + 1)
-  loads_next t c low =
-      let own = here.total t in
+  pub loads_next : {one : ℕ} → one ≡ bool_byte (not (eqb k 0))
+      → length st ≤ 131076 → LoadsAt G ms W w (carrying + one) (total + k) (b + 1)
+  loads_next c low =
+      let own = here.total in
+      let one = c ∙ set_byte k in
       record {
         high = omega arith;
-        each = below_more _ b x.each (here.right t);
+        each = below_more _ b x.each here.right;
         total_is = omega (arith, x.total_is, own, span_next (λ (a : ℕ). carried (runs_at (objects G) W w a)) b);
-        carrying_is = omega (arith, x.carrying_is, c, ap set? own, span_next (λ (a : ℕ). set? (carried (runs_at (objects G) W w a))) b);
-        carrying_low = omega (arith, x.carrying_low, c, set_low r.carried);
+        carrying_is = omega (arith, x.carrying_is, one, ap set? own, span_next (λ (a : ℕ). set? (carried (runs_at (objects G) W w a))) b);
+        carrying_low = omega (arith, x.carrying_low, one, set_low k);
         total_low = omega (arith, x.total_low, found.low);
       }
     where
@@ -108,49 +101,7 @@ module _ {G : Graph} {ms : List ℕ} {W : ℕ} {w : List ℕ} {carrying total b 
       set_low zero = omega arith
       set_low (suc k) = omega arith
 
-pub carrying_one : (c k : ℕ) → (k ≡ 0 → ⊥) → c + 1 ≡ c + set? k
-carrying_one c k n = rw (set_one k n)
-
-pub carrying_none : (c k : ℕ) → k ≡ 0 → c ≡ c + set? k
-carrying_none c k e = rw e (omega arith)
-
-pub loads_end : {G : Graph} {ms : List ℕ} {W : ℕ} {w : List ℕ} {carrying total b : ℕ}
-    → LoadsAt G ms W w carrying total b → W ≤ b → W ≤ 16
-    → LoadsFound G ms W w (record { sound = true; carrying = carrying; carried = total })
-loads_end {G = G} {W = W} {w = w} {b = b} x h low =
-    let same : b ≡ W = omega (arith, x.high) in
-    record {
-      right = λ z a q. x.each a (omega arith);
-      known = λ q. refl;
-      total = λ z. x.total_is ∙ ap (carried_words (objects G) W w) same;
-      carrying = λ z. x.carrying_is ∙ ap (carrying_words (objects G) W w) same;
-      low = omega (arith, x.total_low, x.high);
-    }
-
-pub loads_stop : {G : Graph} {ms : List ℕ} {W : ℕ} {w : List ℕ} → (((b : ℕ) → b < W → StretchAt G ms W w b) → ⊥)
-    → LoadsFound G ms W w (record { sound = false; carrying = 0; carried = 0 })
-loads_stop n =
-    record {
-      right = λ z. never z refl;
-      known = λ h. absurd (n h);
-      total = λ z. never z refl;
-      carrying = λ z. never z refl;
-      low = omega arith;
-    }
-
 -- ---- `check_loads`
-
-pub loaded_none : {G : Graph} {ms : List ℕ} {W : ℕ} {w : List ℕ} → (StretchesSound G ms W w → TargetsSound G ms W w → ⊥)
-    → LoadedFound G ms W w (record { sound = false; carrying = 0; carried = 0 })
-loaded_none n =
-    record {
-      right = λ z. never z refl;
-      targets = λ z. never z refl;
-      known = λ s t. absurd (n s t);
-      total = λ z. never z refl;
-      carrying = λ z. never z refl;
-      low = omega arith;
-    }
 
 -- nobody carries a reference that is none of the graph
 runs_beyond : {G : Graph} (ms : List ℕ) (F : Formed G) (e : ℕ) → references G ≤ e → (rs : List Run) → Every (Within G ms) rs → runs_sum (hit e) rs ≡ 0
@@ -165,33 +116,26 @@ runs_beyond {G} ms F e h (run f k ∷ rs) w =
     (λ (p : ¬ (0 < span (hit e) f (suc k))). omega arith) in
     omega (arith, none, runs_beyond ms F e h rs w.1)
 
-module _ {G : Graph} {ms : List ℕ} {W : ℕ} {w : List ℕ} {r : Loads} (there : LoadsThere G ms W w) (x : LoadsFound G ms W w r) where
-  pub loaded_wrong : r.sound ≡ false → StretchesSound G ms W w → TargetsSound G ms W w → ⊥
-  loaded_wrong f s t = never (x.known s.each) f
-
-  module _ (z : r.sound ≡ true) {t : Bool} (d : Decides t (WindowSound G ms W w 0 (references G))) where
-    pub loaded_unmarked : t ≡ false → StretchesSound G ms W w → TargetsSound G ms W w → ⊥
-    loaded_unmarked f s all =
-        refuted d f (record { once = λ e a b. s.once e; targets = λ v h m e a b p q. all v h m e a b })
-
+module _ {G : Graph} {ms : List ℕ} {W : ℕ} {w : List ℕ} {r : Loads} (there : LoadsThere G ms W w) (x : LoadsAre G ms W w r)
+    {t : Bool} (d : Decides t (WindowSound G ms W w 0 (references G))) where
+  module _ (q : t ≡ true) where
     -- no reference is carried twice
-    once : t ≡ true → (e : ℕ) → times_words (objects G) W w e W ≤ 1
+    once : (e : ℕ) → times_words (objects G) W w e W ≤ 1
     unfolding span
-    once q e =
+    once e =
         by_cases (dec_lt e (references G))
         (λ (p : e < references G). (d.right q).once e (omega arith) p)
         (λ (p : ¬ (e < references G)).
         let none : times_words (objects G) W w e W ≡ span (λ (b : ℕ). 0) 0 W =
         span_agree (λ (b : ℕ). runs_sum (hit e) (runs_at (objects G) W w b)) (λ (b : ℕ). 0) W
-        (λ b h. runs_beyond ms there.formed e (omega arith) (runs_at (objects G) W w b) (x.right z b h).within) in
+        (λ b h. runs_beyond ms there.formed e (omega arith) (runs_at (objects G) W w b) (x.right b h).within) in
         omega (arith, none, span_limit (λ (b : ℕ). 0) 0 0 W (λ i. omega arith)))
 
-    pub loaded : t ≡ true → LoadedFound G ms W w r
-    loaded q =
+    pub loaded : LoadedAre G ms W w r
+    loaded =
         record {
-          right = λ z'. record { each = x.right z; once = once q };
-          targets = λ z' v h m e a b clear. (d.right q).targets v h m e a b (omega arith) (omega (arith, after_limit G there.formed v (omega (arith, there.marks_length)))) clear;
-          known = λ s all. z;
+          right = record { each = x.right; once = once };
+          targets = λ v h m e a b clear. (d.right q).targets v h m e a b (omega arith) (omega (arith, after_limit G there.formed v (omega (arith, there.marks_length)))) clear;
           total = x.total;
           carrying = x.carrying;
           low = x.low;

@@ -205,10 +205,5 @@ module _ {ws : List ℕ} {from to i : ℕ} {ws' : List ℕ} (x : RowAt ws from t
         omega (arith, x.bits j, none j (omega (arith, place, x.begun)) (omega (arith, place, x.begun))))))
         f
 
-  pub row_end : to ≤ i → Row ws from (to - from) true ws'
-  row_end h =
-      let all : i ≡ to = omega (arith, x.left) in
-      record { fresh = λ z j. rw (← all) (x.bits j); known = λ q. refl }
-
 pub row_wrong : {ws : List ℕ} {f k : ℕ} {ws' : List ℕ} → (((j : ℕ) → f ≤ j → j < f + k → bit ws j ≡ 0) → ⊥) → Row ws f k false ws'
 row_wrong n = record { fresh = λ z. never z refl; known = λ h. absurd (n h) }

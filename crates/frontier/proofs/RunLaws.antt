@@ -1,6 +1,6 @@
 -- One run: the object that it lies in, its bits, and whether it is whole.
-use mathlib.Core.Path.{◌≡◌, refl, sym, ap, ◌∙◌}
-use mathlib.Core.Bool.{Bool, true, false}
+use mathlib.Core.Path.{◌≡◌, sym, ◌∙◌}
+use mathlib.Core.Bool.{Bool}
 use mathlib.Core.List.{List}
 use mathlib.Core.Logic.{by_cases}
 use Prim.Native.Nat.{ℕ, suc, ◌+◌, ◌-◌, ◌/◌, ◌≤◌, ◌<◌}
@@ -9,17 +9,16 @@ use native.Mathlib.Decide.{dec_le}
 use native.Mathlib.Omega.{arith}
 use lib.Dec.{leb}
 use borrow.Author.Tests.{le-leb, lt-leb}
-use lib.ListN.{length, get_or, drop, replicate, length-drop, length-replicate, get_or-replicate}
-use lib.Seq.{get_or-drop, ext_get_or}
+use lib.ListN.{length, get_or}
 use Rattle.laws.specs.Choice.{pick}
 use Rattle.laws.specs.Decides.{Decides}
-use Rattle.laws.proofs.Decides.{never, decides_same}
+use Rattle.laws.proofs.Decides.{decides_same}
 use Rattle.graph.specs.Graph.{Graph, Leaves, objects, references}
 use Rattle.graph.proofs.OverMarked.{after_limit, offsets_rise}
 use Rattle.machine.specs.Sound.{Marked, Within, Whole}
 use Rattle.theorems.proofs.Room.{leaves_one}
 use Rattle.frontier.specs.Index.{Indexable}
-use Rattle.frontier.specs.Runs.{HasOwner, Owns, Marking, run_of, RunFound, LoadsThere}
+use Rattle.frontier.specs.Runs.{HasOwner, Owns, Marking, run_of, RunIs, LoadsThere}
 
 -- ---- `object_of`
 
@@ -47,27 +46,6 @@ between_half {os} {e} {low} {size} {half} there x more is pick_is =
       below = omega (arith, rw up at (there.rise (low + half) (size - half - half) (omega (arith, is, x.inside))));
     }))
 
-pub between_end : {os : List ℕ} {e low size : ℕ} → Between os e low (low + size) → size ≤ 1 → Owns os e low
-between_end {os} {e} {low} {size} x h =
-    let next : low + size ≡ low + 1 = omega (arith, x.order) in
-    record { object = omega (arith, x.inside); from = x.from; below = rw next at x.below }
-
--- ---- `zeros`
-
-pub zeros_end : (ws : List ℕ) (from : ℕ) → from ≤ length ws → ((k : ℕ) → from ≤ k → k < length ws → get_or ws k 0 ≡ 0)
-    → drop from ws ≡ replicate (length ws - from) 0
-zeros_end ws from h z =
-    ext_get_or 0 (drop from ws) (replicate (length ws - from) 0) (rw (length-drop, length-replicate))
-    (λ i q.
-    let l : i < length ws - from = rw length-drop at q in
-    rw (get_or-drop, get_or-replicate {A = ℕ} (length ws - from) i 0 0 l) (z (from + i) (omega arith) (omega arith)))
-
-pub zeros_at : (ws : List ℕ) (from k : ℕ) → drop from ws ≡ replicate (length ws - from) 0 → from ≤ k → k < length ws → get_or ws k 0 ≡ 0
-zeros_at ws from k e h q =
-    let there : from + (k - from) ≡ k = omega arith in
-    let at = get_or-drop from ws (k - from) 0 in
-    sym (rw there at at) ∙ ap (λ (l : List ℕ). get_or l (k - from) 0) e ∙ get_or-replicate {A = ℕ} (length ws - from) (k - from) 0 0 (omega arith)
-
 -- ---- `check_run`
 
 -- a graph and its marks, beside saved words
@@ -89,9 +67,6 @@ module _ {G : Graph} {ms : List ℕ} {from to : ℕ} (there : Marking G ms) (h :
   -- the run's end, and how many references it has
   ends : from + suc (to - suc from) ≡ to
   ends = omega arith
-
-  pub run_wrong : (Within G ms (run_of from to) → ⊥) → RunFound G ms from to (record { sound = false; whole = false })
-  run_wrong n = record { within = λ z. never z refl; whole = λ z. never z refl; known = λ w. absurd (n w) }
 
   pub run_limit : Within G ms (run_of from to) → to ≤ references G
   run_limit w = omega (arith, ends, w.ends, after_limit G there.formed w.object w.is_object)
@@ -122,11 +97,11 @@ module _ {G : Graph} {ms : List ℕ} {from to : ℕ} (there : Marking G ms) (h :
 
     pub run_right : {whole : Bool} → to ≤ get_or G.offsets (v + 1) 0 → Marked ms v
         → Decides whole ((from ≡ get_or G.offsets v 0) × (to ≡ get_or G.offsets (v + 1) 0))
-        → RunFound G ms from to (record { sound = true; whole = whole })
+        → RunIs G ms from to whole
     run_right a m d =
         let inside = leaves in
         record {
-          within = λ z.
+          within =
               record {
                 object = v;
                 is_object = inside.object;
@@ -134,12 +109,11 @@ module _ {G : Graph} {ms : List ℕ} {from to : ℕ} (there : Marking G ms) (h :
                 begins = owns.from;
                 ends = rw ends (rw add-one at a);
               };
-          whole = λ z.
+          whole =
               decides_same d
               (λ p. record { object = v; is_object = inside.object; begins = p.0; ends = ends ∙ (rw add-one at p.1) })
               (λ (w : Whole G (run_of from to)).
               let same : w.object ≡ v =
               leaves_one there.formed (record { object = w.is_object; from = omega (arith, w.begins); below = omega (arith, ends, w.ends) }) inside in
               (rw (← same) w.begins, rw (add-one, ← same) (sym ends ∙ w.ends)));
-          known = λ w. refl;
         }

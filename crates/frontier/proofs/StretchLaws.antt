@@ -4,8 +4,8 @@ use mathlib.Core.Bool.{Bool, true, false}
 use mathlib.Core.List.{List, [], ◌∷◌, ◌++◌, append_assoc, append-nil}
 use Prim.Native.Nat.{ℕ, suc, ◌+◌, ◌-◌, ◌*◌, ◌≤◌, ◌<◌}
 use native.Mathlib.Omega.{arith}
-use lib.ListN.{length, get_or, take, drop, replicate, length-drop, take-append-drop}
-use lib.Seq.{drop-cons, take-suc, drop_at}
+use lib.ListN.{length, get_or, take, drop, replicate, length-drop}
+use lib.Seq.{drop-cons, take-suc}
 use borrow.Author.Tests.{lt-ltb, le-ltb}
 use Rattle.laws.specs.Decides.{Decides}
 use Rattle.laws.specs.Every.{Every}
@@ -15,12 +15,9 @@ use Rattle.graph.specs.Graph.{Graph}
 use Rattle.machine.specs.Run.{Run, carried, pairs}
 use Rattle.machine.specs.Sound.{Within, Whole, WholeButLast, WholeInside}
 use Rattle.theorems.proofs.Runs.{whole_tail}
-use Rattle.worker.proofs.Pairs.{length_pairs}
 use Rattle.worker.specs.Registers.{status_given}
 use Rattle.saved.specs.Layout.{runs_in}
-use Rattle.frontier.specs.declared.runs.Tested.{Tested}
-use Rattle.frontier.specs.declared.runs.Runs.{Runs}
-use Rattle.frontier.specs.Runs.{run_of, RunFound, RunsSound, RunsFound, runs_for, StretchSound, LoadFound}
+use Rattle.frontier.specs.Runs.{run_of, RunIs, RunsSound, RunsCounted, runs_for, StretchSound, LoadIs}
 
 -- ---- runs before and behind others
 
@@ -118,19 +115,18 @@ runs_start {st = st} =
 module _ {G : Graph} {ms st : List ℕ} {total : ℕ} {whole : Bool} {i : ℕ} (x : RunsAt G ms st total whole i) where
   -- no pair is left
   pub runs_end : {p : ℕ} → p ≡ i → runs_in (drop (2 * i) st) ≡ []
-      → RunsFound G ms st (record { sound = true; pairs = p; carried = total })
+      → RunsCounted G ms st (record { pairs = p; carried = total })
   runs_end same none =
       let all : runs_in st ≡ x.runs = x.left ∙ ap (λ (l : List Run). l ++ x.runs) none in
       record {
-        right = λ z.
+        right =
             record {
               within = subst (λ (l : List Run). Every (Within G ms) l) (sym all) x.within;
               whole = subst (λ (l : List Run). WholeInside G l) (sym all) x.inside;
             };
-        known = λ q. refl;
-        number = λ z. same ∙ sym x.number ∙ ap length (sym all);
-        words = λ z. ap (λ (k : ℕ). take (2 * k) st) same ∙ x.words ∙ ap pairs (sym all);
-        total = λ z. x.total_is ∙ ap carried (sym all);
+        number = same ∙ sym x.number ∙ ap length (sym all);
+        words = ap (λ (k : ℕ). take (2 * k) st) same ∙ x.words ∙ ap pairs (sym all);
+        total = x.total_is ∙ ap carried (sym all);
         room = omega (arith, x.high);
         low = omega (arith, x.low, x.high);
       }
@@ -151,18 +147,18 @@ module _ {G : Graph} {ms st : List ℕ} {total : ℕ} {whole : Bool} {i : ℕ} (
         let t = subst (λ (l : List Run). WholeInside G l) split s.whole in
         never (x.flag.known (inside_behind G (runs_in (drop (2 * (i + 1)) st)) r x.runs t)) f
 
-    module _ {tested : Tested} (found : RunFound G ms (get_or st (2 * i) 0) (get_or st (2 * i + 1) 0) tested) where
-      -- the pair is no run of the graph
-      pub runs_wrong_run : tested.sound ≡ false → RunsSound G ms (runs_in st) → ⊥
-      runs_wrong_run f s =
-          let rest = runs_in (drop (2 * (i + 1)) st) in
-          never (found.known (every_middle (Within G ms) rest r x.runs (subst (λ (l : List Run). Every (Within G ms) l) split s.within))) f
+    -- the pair is no run of the graph
+    pub runs_wrong_run : ¬ Within G ms r → RunsSound G ms (runs_in st) → ⊥
+    runs_wrong_run n s =
+        let rest = runs_in (drop (2 * (i + 1)) st) in
+        n (every_middle (Within G ms) rest r x.runs (subst (λ (l : List Run). Every (Within G ms) l) split s.within))
 
-      pub runs_next : {whole' : Bool} → whole ≡ true → tested.sound ≡ true
+    module _ {own : Bool} (found : RunIs G ms (get_or st (2 * i) 0) (get_or st (2 * i + 1) 0) own) where
+      pub runs_next : {whole' : Bool} → whole ≡ true
           → Decides whole' (WholeButLast G (r ∷ x.runs)) → get_or st (2 * i + 1) 0 < 4294967296
           → RunsAt G ms st (total + (get_or st (2 * i + 1) 0 - get_or st (2 * i) 0)) whole' (i + 1)
       unfolding carried sum pairs
-      runs_next w s d small =
+      runs_next w d small =
           let ends : get_or st (2 * i) 0 + suc (get_or st (2 * i + 1) 0 - suc (get_or st (2 * i) 0)) ≡ get_or st (2 * i + 1) 0 = omega arith in
           record {
             high = omega arith;
@@ -171,106 +167,46 @@ module _ {G : Graph} {ms st : List ℕ} {total : ℕ} {whole : Bool} {i : ℕ} (
             words = two_taken st i h ∙ rw (x.words, ends);
             left = split;
             total_is = omega (arith, x.total_is);
-            within = (found.within s, x.within);
+            within = (found.within, x.within);
             inside = x.flag.right w;
             flag = d;
             low = omega (arith, x.low);
           }
 
       -- whether the runs with this one are whole but for the last
-      pub flag_more : 0 < i → whole ≡ true → tested.sound ≡ true → Decides tested.whole (WholeButLast G (r ∷ x.runs))
-      flag_more q w s = whole_more G r x.runs (omega (arith, x.number)) (x.flag.right w) (found.whole s)
+      pub flag_more : 0 < i → whole ≡ true → Decides own (WholeButLast G (r ∷ x.runs))
+      flag_more q w = whole_more G r x.runs (omega (arith, x.number)) (x.flag.right w) found.whole
 
     pub flag_one : i ≤ 0 → whole ≡ true → Decides whole (WholeButLast G (r ∷ x.runs))
     flag_one q w = rw w (decides_yes (whole_one G r x.runs (omega (arith, x.number))))
-
-pub runs_wrong : {G : Graph} {ms st : List ℕ} → (RunsSound G ms (runs_in st) → ⊥)
-    → RunsFound G ms st (record { sound = false; pairs = 0; carried = 0 })
-runs_wrong n =
-    record {
-      right = λ z. never z refl;
-      known = λ h. absurd (n h);
-      number = λ z. never z refl;
-      words = λ z. never z refl;
-      total = λ z. never z refl;
-      room = omega arith;
-      low = omega arith;
-    }
 
 -- ---- `check_stretch`
 
 pub runs_all : (status : ℕ) (st : List ℕ) → status_given ≤ status → runs_for status st ≡ runs_in st
 runs_all status st h = rw (le-ltb status 4 h)
 
+none_for : (status : ℕ) (st : List ℕ) → status < status_given → runs_for status st ≡ []
+none_for status st h = rw (lt-ltb status 4 h)
+
+-- no pairs, then all words
+whole_left : (st : List ℕ) → replicate {A = ℕ} (length st) 0 ≡ replicate {A = ℕ} (length st - 0) 0
+whole_left st = ap (λ (k : ℕ). replicate {A = ℕ} k 0) (omega arith)
+
 module _ {G : Graph} {ms : List ℕ} {status batch : ℕ} {st : List ℕ} where
-  pub stretch_wrong : (StretchSound G ms status batch st (runs_for status st) → ⊥)
-      → LoadFound G ms status batch st (record { sound = false; carried = 0 })
-  stretch_wrong n =
-      record {
-        right = λ z. never z refl;
-        known = λ s. absurd (n s);
-        total = λ z. never z refl;
-        low = omega arith;
-      }
-
   -- a worker that carries nothing
-  pub stretch_idle : {clear : Bool} → status < status_given → batch ≡ 0 → Decides clear (drop 0 st ≡ replicate (length st - 0) 0)
-      → LoadFound G ms status batch st (record { sound = clear; carried = 0 })
-  unfolding pairs carried sum
-  stretch_idle h z d =
-      let none : runs_for status st ≡ [] = rw (lt-ltb status 4 h) in
-      record {
-        right = λ t.
-            subst (λ (l : List Run). StretchSound G ms status batch st l) (sym none)
-            record { within = tt; whole = tt; words = d.right t; supplied = λ q. absurd (omega arith); batch_carried = omega arith };
-        known = λ s. d.known (subst (λ (l : List Run). StretchSound G ms status batch st l) none s).words;
-        total = λ t. ap carried (sym none);
-        low = omega arith;
-      }
+  module _ (h : status < status_given) where
+    pub stretch_idle : batch ≡ 0 → st ≡ replicate (length st) 0 → LoadIs G ms status batch st 0
+    unfolding pairs carried sum
+    stretch_idle z d =
+        let none = none_for status st h in
+        record {
+          right =
+              subst (λ (l : List Run). StretchSound G ms status batch st l) (sym none)
+              record { within = tt; whole = tt; words = d ∙ whole_left st; supplied = λ q. absurd (omega arith); batch_carried = omega arith };
+          total = ap carried (sym none);
+          low = omega arith;
+        }
 
-  -- one that carries
-  module _ (h : status_given ≤ status) {found : Runs} (x : RunsFound G ms st found) where
-    sound_all : StretchSound G ms status batch st (runs_for status st) → StretchSound G ms status batch st (runs_in st)
-    sound_all s = subst (λ (l : List Run). StretchSound G ms status batch st l) (runs_all status st h) s
-
-    pub wrong_runs : found.sound ≡ false → StretchSound G ms status batch st (runs_for status st) → ⊥
-    wrong_runs f s =
-        let t = sound_all s in
-        never (x.known (record { within = t.within; whole = t.whole })) f
-
-    module _ (t : found.sound ≡ true) where
-      pub wrong_none : found.pairs ≡ 0 → StretchSound G ms status batch st (runs_for status st) → ⊥
-      wrong_none z s = omega (arith, (sound_all s).supplied h, x.number t)
-
-      pub wrong_batch : found.carried < batch → StretchSound G ms status batch st (runs_for status st) → ⊥
-      wrong_batch z s = omega (arith, (sound_all s).batch_carried, x.total t)
-
-      pub stretch_right : {clear : Bool} → (found.pairs ≡ 0 → ⊥) → batch ≤ found.carried
-          → Decides clear (drop (2 * found.pairs) st ≡ replicate (length st - 2 * found.pairs) 0)
-          → LoadFound G ms status batch st (record { sound = clear; carried = found.carried })
-      stretch_right n b d =
-          let r = x.right t in
-          let all = runs_all status st h in
-          let long : length (pairs (runs_in st)) ≡ 2 * found.pairs = omega (arith, length_pairs (runs_in st), x.number t) in
-          record {
-            right = λ z.
-                subst (λ (l : List Run). StretchSound G ms status batch st l) (sym all)
-                record {
-                  within = r.within;
-                  whole = r.whole;
-                  words = sym (take-append-drop (2 * found.pairs) st) ∙ rw (x.words t, d.right z, long);
-                  supplied = λ q. omega (arith, n, x.number t);
-                  batch_carried = omega (arith, x.total t);
-                };
-            known = λ s. d.known (tail (sound_all s).words);
-            total = λ z. x.total t ∙ ap carried (sym all);
-            low = x.low;
-          }
-        where
-          tail : st ≡ pairs (runs_in st) ++ replicate (length st - length (pairs (runs_in st))) 0
-              → drop (2 * found.pairs) st ≡ replicate (length st - 2 * found.pairs) 0
-          tail e =
-              let long : length (pairs (runs_in st)) ≡ 2 * found.pairs = omega (arith, length_pairs (runs_in st), x.number t) in
-              ap (drop (2 * found.pairs)) e
-              ∙ drop_at (pairs (runs_in st)) (replicate (length st - length (pairs (runs_in st))) 0) (2 * found.pairs) long
-              ∙ ap (λ (k : ℕ). replicate (length st - k) 0) long
+    pub idle_zeros : StretchSound G ms status batch st (runs_for status st) → st ≡ replicate (length st) 0
+    unfolding pairs
+    idle_zeros s = (subst (λ (l : List Run). StretchSound G ms status batch st l) (none_for status st h) s).words ∙ sym (whole_left st)

@@ -110,9 +110,6 @@ pub record TakenAt (base end : ℕ) (bs st : List ℕ) (i : ℕ) (bs' : List ℕ
   pub left : (e : ℕ) → base ≤ e → e < end
       → bit bs' (e - base) + runs_sum (hit e) (runs_in (drop (2 * i) st)) ≡ bit bs (e - base) + runs_sum (hit e) (runs_in st)
 
-pub taken_start : {base end : ℕ} {bs st : List ℕ} → TakenAt base end bs st 0 bs
-taken_start = record { long = refl; left = λ e h q. refl }
-
 module _ {base end : ℕ} {bs st : List ℕ} {i : ℕ} {bs' : List ℕ} (x : TakenAt base end bs st i bs') where
   -- no pair is left
   pub taken_end : runs_in (drop (2 * i) st) ≡ [] → RunsCarried base end bs st true bs'
@@ -150,11 +147,6 @@ unfolding span
 all_start {base} none = record { high = omega arith; long = refl; times = λ e h q. none (e - base) }
 
 module _ {base end n W : ℕ} {w bs : List ℕ} {b : ℕ} {bs' : List ℕ} (x : AllAt base end n W w bs b bs') where
-  pub all_end : W ≤ b → AllCarried base end n W w true bs'
-  all_end h =
-      let same : b ≡ W = omega (arith, x.high) in
-      record { times = λ z e p q. x.times e p q ∙ ap (times_words n W w e) same; known = λ q. refl }
-
   module _ (h : b < W) where
     one_more : (e : ℕ) → times_words n W w e (b + 1) ≡ times_words n W w e b + runs_sum (hit e) (runs_at n W w b)
     one_more e = span_next (λ (a : ℕ). runs_sum (hit e) (runs_at n W w a)) b
@@ -265,26 +257,3 @@ module _ {G : Graph} {ms : List ℕ} {W : ℕ} {w : List ℕ} (there : LoadsTher
           targets = λ v l m e a b p q z. all v l m e (omega arith) (omega arith) (found.times done e p q ∙ z);
         })
         (λ s v l m e a b z. s.targets v l m e (omega arith) (omega arith) (omega arith) (omega arith) (sym (found.times done e (omega arith) (omega arith)) ∙ z))
-
-pub window_twice : {G : Graph} {ms : List ℕ} {W : ℕ} {w : List ℕ} {from to : ℕ} {r : Bool} {bs : List ℕ} → AllCarried from to (objects G) W w r bs → r ≡ false
-    → WindowSound G ms W w from to → ⊥
-window_twice found e s = never (found.known s.once) e
-
--- ---- `check_windows`
-
-pub windows_start : {G : Graph} {ms : List ℕ} {W : ℕ} {w : List ℕ} → WindowSound G ms W w 0 0
-windows_start = record { once = λ e p q. absurd (omega arith); targets = λ v l m e a b p q. absurd (omega arith) }
-
-module _ {G : Graph} {ms : List ℕ} {W : ℕ} {w : List ℕ} {from to : ℕ} where
-  pub windows_next : WindowSound G ms W w 0 from → WindowSound G ms W w from to → WindowSound G ms W w 0 to
-  windows_next x y =
-      record {
-        once = λ e p q. by_cases (dec_lt e from) (λ (l : e < from). x.once e p l) (λ (l : ¬ (e < from)). y.once e (omega arith) q);
-        targets = λ v h m e a b p q.
-            by_cases (dec_lt e from) (λ (l : e < from). x.targets v h m e a b p l) (λ (l : ¬ (e < from)). y.targets v h m e a b (omega arith) q);
-      }
-
-  -- a part of what is sound
-  pub windows_part : {m : ℕ} → to ≤ m → WindowSound G ms W w 0 m → WindowSound G ms W w from to
-  windows_part l s =
-      record { once = λ e p q. s.once e (omega arith) (omega arith); targets = λ v h m e a b p q. s.targets v h m e a b (omega arith) (omega arith) }

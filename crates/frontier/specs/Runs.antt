@@ -1,5 +1,5 @@
 -- The stretches, and what the functions on them say.
-use Rattle.std.specs.Prelude.{◌≡◌, true, List, [], ◌++◌, ℕ, suc, ◌+◌, ◌-◌, ◌*◌, ◌≤◌, ◌<◌, ltb, length, get_or, take, replicate}
+use Rattle.std.specs.Prelude.{◌≡◌, Bool, Option, MatchOption, List, [], ◌++◌, ℕ, suc, ◌+◌, ◌-◌, ◌*◌, ◌≤◌, ◌<◌, ltb, length, get_or, take, replicate}
 use Rattle.laws.specs.Choice.{pick}
 use Rattle.laws.specs.Decides.{Decides}
 use Rattle.laws.specs.Every.{Every}
@@ -15,9 +15,7 @@ use Rattle.machine.specs.Run.{Run, run, carried, pairs}
 use Rattle.machine.specs.Sound.{Marked, Within, Whole, WholeInside, runs_sum}
 use Rattle.worker.specs.Registers.{status_given}
 use Rattle.saved.specs.Layout.{worker_word, stretch_in, runs_in}
-use Rattle.frontier.specs.declared.runs.Tested.{Tested}
 use Rattle.frontier.specs.declared.runs.Runs.{Runs}
-use Rattle.frontier.specs.declared.runs.Load.{Load}
 use Rattle.frontier.specs.declared.runs.Loads.{Loads}
 
 -- ---- one run
@@ -46,11 +44,14 @@ pub record Marking (G : Graph) (ms : List ℕ) : Type 0 where
 abbrev pub run_of : ℕ → ℕ → Run
 run_of from to = run from (to - suc from)
 
--- what `check_run` says of a run
-pub record RunFound (G : Graph) (ms : List ℕ) (from to : ℕ) (r : Tested) : Type 0 where
-  pub within : r.sound ≡ true → Within G ms (run_of from to)
-  pub whole : r.sound ≡ true → Decides r.whole (Whole G (run_of from to))
-  pub known : Within G ms (run_of from to) → r.sound ≡ true
+-- a run is within, and whether it is whole
+pub record RunIs (G : Graph) (ms : List ℕ) (from to : ℕ) (r : Bool) : Type 0 where
+  pub within : Within G ms (run_of from to)
+  pub whole : Decides r (Whole G (run_of from to))
+
+-- what `check_run` says of a run: nothing exactly where it is not within
+abbrev pub RunFound : Graph → List ℕ → ℕ → ℕ → Option Bool → Type 0
+RunFound G ms from to r = MatchOption r (¬ Within G ms (run_of from to)) (RunIs G ms from to)
 
 -- ---- one stretch
 
@@ -59,15 +60,18 @@ pub record RunsSound (G : Graph) (ms : List ℕ) (rs : List Run) : Type 0 where
   pub within : Every (Within G ms) rs
   pub whole : WholeInside G rs
 
--- what `check_runs` says of a stretch
-pub record RunsFound (G : Graph) (ms st : List ℕ) (r : Runs) : Type 0 where
-  pub right : r.sound ≡ true → RunsSound G ms (runs_in st)
-  pub known : RunsSound G ms (runs_in st) → r.sound ≡ true
-  pub number : r.sound ≡ true → r.pairs ≡ length (runs_in st)
-  pub words : r.sound ≡ true → take (2 * r.pairs) st ≡ pairs (runs_in st)
-  pub total : r.sound ≡ true → r.carried ≡ carried (runs_in st)
+-- what the runs of a stretch come to that may stand in it
+pub record RunsCounted (G : Graph) (ms st : List ℕ) (r : Runs) : Type 0 where
+  pub right : RunsSound G ms (runs_in st)
+  pub number : r.pairs ≡ length (runs_in st)
+  pub words : take (2 * r.pairs) st ≡ pairs (runs_in st)
+  pub total : r.carried ≡ carried (runs_in st)
   pub room : 2 * r.pairs ≤ length st
   pub low : r.carried ≤ 4294967296 * length st
+
+-- what `check_runs` says of a stretch: nothing exactly where they may not
+abbrev pub RunsFound : Graph → List ℕ → List ℕ → Option Runs → Type 0
+RunsFound G ms st r = MatchOption r (¬ RunsSound G ms (runs_in st)) (RunsCounted G ms st)
 
 -- the runs of a worker with this status: one that carries nothing has none
 abbrev pub runs_for : ℕ → List ℕ → List Run
@@ -81,12 +85,16 @@ pub record StretchSound (G : Graph) (ms : List ℕ) (status batch : ℕ) (st : L
   pub supplied : status_given ≤ status → 0 < length rs
   pub batch_carried : batch ≤ carried rs
 
--- what `check_stretch` says
-pub record LoadFound (G : Graph) (ms : List ℕ) (status batch : ℕ) (st : List ℕ) (r : Load) : Type 0 where
-  pub right : r.sound ≡ true → StretchSound G ms status batch st (runs_for status st)
-  pub known : StretchSound G ms status batch st (runs_for status st) → r.sound ≡ true
-  pub total : r.sound ≡ true → r.carried ≡ carried (runs_for status st)
-  pub low : r.carried ≤ 4294967296 * length st
+-- the stretch is sound, and k references are carried
+pub record LoadIs (G : Graph) (ms : List ℕ) (status batch : ℕ) (st : List ℕ) (k : ℕ) : Type 0 where
+  pub right : StretchSound G ms status batch st (runs_for status st)
+  pub total : k ≡ carried (runs_for status st)
+  pub low : k ≤ 4294967296 * length st
+
+-- what `check_stretch` says: nothing exactly where it is not
+abbrev pub LoadFound : Graph → List ℕ → ℕ → ℕ → List ℕ → Option ℕ → Type 0
+LoadFound G ms status batch st r =
+    MatchOption r (¬ StretchSound G ms status batch st (runs_for status st)) (LoadIs G ms status batch st)
 
 -- ---- all stretches
 
@@ -125,13 +133,16 @@ pub record LoadsThere (G : Graph) (ms : List ℕ) (W : ℕ) (w : List ℕ) : Typ
   pub long : length w ≡ saved_length (objects G) W
   pub batch_none : (b : ℕ) → b < W → worker_word w b 0 < status_given → worker_word w b 3 ≡ 0
 
--- what `check_stretches` says
-pub record LoadsFound (G : Graph) (ms : List ℕ) (W : ℕ) (w : List ℕ) (r : Loads) : Type 0 where
-  pub right : r.sound ≡ true → (b : ℕ) → b < W → StretchAt G ms W w b
-  pub known : ((b : ℕ) → b < W → StretchAt G ms W w b) → r.sound ≡ true
-  pub total : r.sound ≡ true → r.carried ≡ carried_words (objects G) W w W
-  pub carrying : r.sound ≡ true → r.carrying ≡ carrying_words (objects G) W w W
+-- each worker's stretch is sound, and what they carry
+pub record LoadsAre (G : Graph) (ms : List ℕ) (W : ℕ) (w : List ℕ) (r : Loads) : Type 0 where
+  pub right : (b : ℕ) → b < W → StretchAt G ms W w b
+  pub total : r.carried ≡ carried_words (objects G) W w W
+  pub carrying : r.carrying ≡ carrying_words (objects G) W w W
   pub low : r.carried ≤ 1152921504606846976
+
+-- what `check_stretches` says: nothing exactly where one is not
+abbrev pub LoadsFound : Graph → List ℕ → ℕ → List ℕ → Option Loads → Type 0
+LoadsFound G ms W w r = MatchOption r (¬ ((b : ℕ) → b < W → StretchAt G ms W w b)) (LoadsAre G ms W w)
 
 -- a marked object's reference that nobody carries has a marked target
 abbrev pub TargetsSound : Graph → List ℕ → ℕ → List ℕ → Type 0
@@ -139,11 +150,14 @@ TargetsSound G ms W w =
     (v : ℕ) → v < length ms → Marked ms v → (e : ℕ) → first G v ≤ e → e < after G v
     → times_words (objects G) W w e W ≡ 0 → Marked ms (target G e)
 
--- what `check_loads` says
-pub record LoadedFound (G : Graph) (ms : List ℕ) (W : ℕ) (w : List ℕ) (r : Loads) : Type 0 where
-  pub right : r.sound ≡ true → StretchesSound G ms W w
-  pub targets : r.sound ≡ true → TargetsSound G ms W w
-  pub known : StretchesSound G ms W w → TargetsSound G ms W w → r.sound ≡ true
-  pub total : r.sound ≡ true → r.carried ≡ carried_words (objects G) W w W
-  pub carrying : r.sound ≡ true → r.carrying ≡ carrying_words (objects G) W w W
+-- they are a frontier, and what they carry
+pub record LoadedAre (G : Graph) (ms : List ℕ) (W : ℕ) (w : List ℕ) (r : Loads) : Type 0 where
+  pub right : StretchesSound G ms W w
+  pub targets : TargetsSound G ms W w
+  pub total : r.carried ≡ carried_words (objects G) W w W
+  pub carrying : r.carrying ≡ carrying_words (objects G) W w W
   pub low : r.carried ≤ 1152921504606846976
+
+-- what `check_loads` says: nothing exactly where they are not
+abbrev pub LoadedFound : Graph → List ℕ → ℕ → List ℕ → Option Loads → Type 0
+LoadedFound G ms W w r = MatchOption r (StretchesSound G ms W w → TargetsSound G ms W w → ⊥) (LoadedAre G ms W w)

@@ -18,8 +18,9 @@ const NEAR: usize = 16;
 fn place(offsets: &[u32], index: &mut [u16])
     requires { Indexable offsets.now × (length index.old ≡ index_blocks) }
 {
-    for v in 0..offsets.len() - 1 {
-        let block = (offsets[v] + (BLOCK - 1)) / BLOCK;
+    let objects = offsets.len() - 1;
+    for (v, offset) in offsets[..objects].iter().enumerate() {
+        let block = (*offset + (BLOCK - 1)) / BLOCK;
         index[block as usize] = v as u16;
     }
 }
@@ -27,12 +28,9 @@ fn place(offsets: &[u32], index: &mut [u16])
 // Each entry as large as the largest before it.
 fn level(index: &mut [u16]) {
     let mut last: u16 = 0;
-    for k in 0..index.len() {
-        let own = index[k];
-        if last < own {
-            last = own;
-        }
-        index[k] = last;
+    for entry in index.iter_mut() {
+        last = last.max(*entry);
+        *entry = last;
     }
 }
 
@@ -50,19 +48,10 @@ fn count_on(offsets: &[u32], e: u32, low: usize) -> usize
     ensures { result + 1 < length offsets.now }
 {
     let mut passed: u32 = 0;
-    for j in 0..NEAR {
-        if offsets[low + 1 + j] <= e {
-            passed += 1;
-        }
+    for offset in &offsets[low + 1..low + 1 + NEAR] {
+        passed += u32::from(*offset <= e);
     }
     low + passed as usize
-}
-
-// An entry of the index as a place.
-fn wide(x: u16) -> usize
-    ensures { result < 65536 }
-{
-    x as usize
 }
 
 // An object, which reference e leaves if the index is that of the offsets and few objects begin in its block.
@@ -74,7 +63,7 @@ pub fn guess(offsets: &[u32], e: u32, index: &[u16]) -> usize
     if index.len() <= block {
         return 0;
     }
-    let low = wide(index[block]);
+    let low = usize::from(index[block]);
     if offsets.len() <= low + NEAR + 1 {
         return 0;
     }

@@ -15,36 +15,38 @@ use index::INDEXED;
 use runs::Loads;
 
 // What all workers carry, by an index where there are many references.
-fn check_each(offsets: &[u32], targets: &[u32], marks: &[u32], saved: &[u32], workers: u32) -> Loads
+fn check_each(
+    offsets: &[u32],
+    targets: &[u32],
+    marks: &[u32],
+    saved: &[u32],
+    workers: u32,
+) -> Option<Loads>
     requires { LoadsThere (graph offsets.now targets.now) marks.now workers saved.now }
     ensures { LoadsFound (graph offsets.now targets.now) marks.now workers saved.now result }
 {
     if targets.len() < INDEXED {
-        let none = [0u16; 1];
-        return runs::check_stretches(offsets, targets, marks, &none, saved, workers);
+        return runs::check_stretches(offsets, targets, marks, &[], saved, workers);
     }
     let mut index = [0u16; index::BLOCKS];
     index::fill(offsets, &mut index);
     runs::check_stretches(offsets, targets, marks, &index, saved, workers)
 }
 
-// What all workers carry, where a marked object's reference that nobody carries has a marked target.
+// What all workers carry; nothing where it is no frontier.
 pub fn check_loads(
     offsets: &[u32],
     targets: &[u32],
     marks: &[u32],
     saved: &[u32],
     workers: u32,
-) -> Loads
+) -> Option<Loads>
     requires { LoadsThere (graph offsets.now targets.now) marks.now workers saved.now }
     ensures { LoadedFound (graph offsets.now targets.now) marks.now workers saved.now result }
 {
-    let loads = check_each(offsets, targets, marks, saved, workers);
-    if !loads.sound {
-        return runs::NO_LOADS;
-    }
+    let loads = check_each(offsets, targets, marks, saved, workers)?;
     if !windows::check_references(offsets, targets, marks, saved, workers) {
-        return runs::NO_LOADS;
+        return None;
     }
-    loads
+    Some(loads)
 }

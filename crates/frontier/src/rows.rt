@@ -5,9 +5,6 @@ ghost use Rattle.frontier.specs.Rows.{Row};
 
 use slices::bits;
 
-// A word whose bits are all set.
-const FULL: u32 = 4294967295;
-
 // Takes so many numbers into the word at a place, from one of its bits on; false where one of them is in it already.
 fn insert_part(words: &mut [u32], at: usize, low: u32, count: u32) -> bool
     requires { (at < length words.old) × (0 < count) × (low + count ≤ word_bits) }
@@ -18,7 +15,7 @@ fn insert_part(words: &mut [u32], at: usize, low: u32, count: u32) -> bool
     if (word >> low) << rest != 0 {
         return false;
     }
-    words[at] = word + ((FULL >> rest) << low);
+    words[at] = word + ((u32::MAX >> rest) << low);
     true
 }
 
@@ -27,10 +24,11 @@ pub fn insert(words: &mut [u32], from: u32, to: u32) -> bool
     requires { (from ≤ to) × (to ≤ word_bits * length words.old) }
     ensures { Row words.old from (to - from) result words.new }
 {
+    // Stays (3): the first part is what is left of a word, so the steps are not alike.
     let mut i = from;
     while i < to {
         let low = i % bits::WORD;
-        let count = slices::smaller(bits::WORD - low, to - i);
+        let count = (bits::WORD - low).min(to - i);
         if !insert_part(words, (i / bits::WORD) as usize, low, count) {
             return false;
         }

@@ -12,7 +12,7 @@ ghost use Rattle.frontier.specs.Windows.{Carried, RunsCarried, AllThere, AllCarr
 use crate::{rows, runs};
 use desk::places;
 use marks::Window;
-use protocol::fields;
+use saved::WorkerWords;
 use slices::bits;
 use worker::registers;
 
@@ -22,8 +22,8 @@ fn carry(carried: &mut [u32], base: u32, end: u32, from: u32, to: u32) -> bool
     requires { end ≤ base + word_bits * length carried.old }
     ensures { Carried base end carried.old from to result carried.new }
 {
-    let low = slices::larger(base, from);
-    let high = slices::smaller(end, to);
+    let low = base.max(from);
+    let high = end.min(to);
     if high <= low {
         return true;
     }
@@ -35,10 +35,8 @@ fn carry_runs(carried: &mut [u32], base: u32, end: u32, stretch: &[u32]) -> bool
     requires { (end ≤ base + word_bits * length carried.old) × (length stretch.now ≤ stretch_length most_objects) }
     ensures { RunsCarried base end carried.old stretch.now result carried.new }
 {
-    let pairs = stretch.len() / 2;
-    for i in 0..pairs {
-        let from = stretch[2 * i];
-        let to = stretch[2 * i + 1];
+    let (pairs, _) = stretch.as_chunks::<2>();
+    for &[from, to] in pairs {
         if to <= from {
             return true;
         }
@@ -64,19 +62,18 @@ fn carry_all(
     let len = places::stretch(n);
     let stretches = places::marks(workers) + n;
     for b in 0..workers {
-        let at = places::WORKERS + places::WORKER * b as usize;
         let from = stretches + b as usize * len;
-        if registers::GIVEN <= saved[at + fields::STATUS] {
-            if !carry_runs(carried, base, end, &saved[from..from + len]) {
-                return false;
-            }
+        if registers::GIVEN <= WorkerWords::of(saved, b).status
+            && !carry_runs(carried, base, end, &saved[from..from + len])
+        {
+            return false;
         }
     }
     true
 }
 
 // The references from one to another.
-#[derive(Clone, Copy)]
+#[derive(Clone, Copy, Debug, PartialEq, Eq)]
 struct Span {
     from: u32,
     to: u32,
@@ -99,8 +96,7 @@ fn check_window(
 {
     let from = span.from;
     let to = span.to;
-    let room = carried.len();
-    slices::clear(carried, 0, room);
+    carried.fill(0);
     if !carry_all(carried, from, to, saved, offsets.len() - 1, workers) {
         return false;
     }
@@ -130,9 +126,10 @@ fn check_windows(
 {
     let all = targets.len() as u32;
     let size = bits::WORD * carried.len() as u32;
+    // Stays (3): each window's end is worked out from what is left, and a for over step_by asks for the same end and the same measure.
     let mut from: u32 = 0;
     while from < all {
-        let to = slices::smaller(all, from + size);
+        let to = all.min(from + size);
         if !check_window(
             offsets,
             targets,
@@ -150,6 +147,7 @@ fn check_windows(
 }
 
 // The same with a set of references, which is small where there are few.
+// Stays (2): the arms differ in the size of the set alone, and one function with that size would be called in the same two arms.
 pub fn check_references(
     offsets: &[u32],
     targets: &[u32],

@@ -7,7 +7,8 @@ use native.Mathlib.Omega.{arith}
 use lib.Dec.{eqb}
 use lib.ListN.{length}
 use borrow.Author.Tests.{lt-ltb, le-ltb, lt-leb, le-leb}
-use Rattle.refusal.specs.declared.Verdict.{Verdict}
+use Rattle.std.specs.Prelude.{Result}
+use Rattle.refusal.specs.declared.Refusal.{Refusal}
 use Rattle.refusal.specs.Number.{number_of}
 use Rattle.graph.specs.Graph.{all_below}
 use Rattle.desk.specs.Limits.{most_workers}
@@ -43,11 +44,11 @@ module _ (W : ℕ) (cards : List ℕ) (n : ℕ) where
   finds_none h g k e = rw (h, le-ltb card_workers W g, k, e)
 
 -- beside a refusal the schedule is as it was
-pub refused : (W : ℕ) (cards before : List ℕ) (k : ℕ) {v : Verdict} → number_of v ≡ suc k → fault W cards (length before) ≡ suc k → Deals W cards before v before
+pub refused : (W : ℕ) (cards before : List ℕ) (k : ℕ) {A : Type 0} {v : Result A Refusal} → number_of v ≡ suc k → fault W cards (length before) ≡ suc k → Deals W cards before v before
 refused W cards before k n e =
     record { deck_is = all_orders; number_is = n ∙ sym e; schedule_is = rw e; brings = λ z. absurd (omega arith) }
 
-pub dealt_all : (W : ℕ) (cards before : List ℕ) {v : Verdict} {after : List ℕ} → number_of v ≡ 0 → fault W cards (length before) ≡ 0 → 1 ≤ W
+pub dealt_all : (W : ℕ) (cards before : List ℕ) {A : Type 0} {v : Result A Refusal} {after : List ℕ} → number_of v ≡ 0 → fault W cards (length before) ≡ 0 → 1 ≤ W
     → W ≤ card_workers → all_below deck_size cards ≡ true → after ≡ turns_of W cards → Deals W cards before v after
 dealt_all W cards before n e some few known w =
     record { deck_is = all_orders; number_is = n ∙ sym e; schedule_is = rw e w; brings = λ z. rw w (rounds_of_lem W cards some few known) }

@@ -1,8 +1,8 @@
 -- SPECIFICATION 9: the schedule of a hand of cards, its checks (8, 15, 7), and what such a schedule brings about.
-use Rattle.std.specs.Prelude.{◌≡◌, not, List, [], ◌∷◌, ◌++◌, ℕ, ◌*◌, ◌^◌, length, take, drop, ltb, leb, eqb}
+use Rattle.std.specs.Prelude.{◌≡◌, not, Result, List, [], ◌∷◌, ◌++◌, ℕ, ◌*◌, ◌^◌, length, take, drop, ltb, leb, eqb}
 use Rattle.laws.specs.Blocks.{laid}
 use Rattle.laws.specs.Choice.{pick}
-use Rattle.refusal.specs.declared.Verdict.{Verdict}
+use Rattle.refusal.specs.declared.Refusal.{Refusal}
 use Rattle.refusal.specs.Number.{number_of}
 use Rattle.refusal.specs.Order.{raise, first}
 use Rattle.graph.specs.Graph.{all_below}
@@ -87,9 +87,9 @@ pub record Rounds (W k : ℕ) (schedule : List ℕ) : Type 0 where
 
 -- ---- the promise of the call, for all inputs
 
-pub record Deals (W : ℕ) (cards before : List ℕ) (v : Verdict) (after : List ℕ) : Type 0 where
+pub record Deals {A : Type 0} (W : ℕ) (cards before : List ℕ) (answer : Result A Refusal) (after : List ℕ) : Type 0 where
   -- the deck of which the cards are
   pub deck_is : AllOrders
-  pub number_is : number_of v ≡ fault W cards (length before)
+  pub number_is : number_of answer ≡ fault W cards (length before)
   pub schedule_is : after ≡ unless_refused (fault W cards (length before)) (turns_of W cards) before
   pub brings : fault W cards (length before) ≡ 0 → Rounds W (length cards) after

@@ -1,42 +1,34 @@
--- The tally lines, one worker after the other; by the words of the tallies they are those of the tallies.
-use mathlib.Core.Path.{◌≡◌, refl, sym, ap, subst, ◌∙◌}
-use mathlib.Core.List.{List, [], ◌∷◌, ◌++◌, append_assoc, append-nil}
-use Prim.Native.Nat.{ℕ, zero, suc, ◌+◌, ◌*◌, ◌/◌, ◌≤◌}
-use native.Mathlib.Numerals.{add-one}
-use native.Mathlib.Omega.{arith}
-use lib.ListN.{length, get_or, take, drop}
-use lib.Seq.{take-suc, take_all, get_or-drop, length-take-le}
+-- The tally lines: by the words of the tallies they are those of the tallies, and a chunk of four words is one tally.
+use Rattle.std.proofs.Common.{◌≡◌, refl, sym, ap, ◌∙◌, List, [], ◌∷◌, ◌++◌, append_assoc, append-nil, ℕ, zero, suc, ◌+◌, ◌*◌, ◌/◌, ◌≤◌, ◌<◌, length, get_or, take, drop, take_all, take-suc, get_or-drop, get_or-take, length-take-le, arith}
+use Rattle.std.specs.Simd.{first_chunks}
 use Rattle.laws.specs.Blocks.{laid}
 use Rattle.laws.proofs.Blocks.{length_laid}
-use Rattle.slices.specs.Put.{PutIn}
-use Rattle.slices.proofs.Written.{nothing, exactly, then_in}
 use Rattle.machine.specs.Tally.{Tally, no_tally, tally_words, tallies_words}
-use Rattle.lines.specs.Rooms.{tally_room}
 use Rattle.lines.specs.Lines.{tally_line, tally_lines, tally_at, word_lines}
-
--- Where the loop stands: the lines of the first b workers are written.
-pub record At (words before : List ℕ) (at : ℕ) (out : List ℕ) (end b : ℕ) : Type 0 where
-  pub written : PutIn (tally_room b) before at (word_lines words b) out end
-
-pub at_start : (words : List ℕ) {before : List ℕ} {at : ℕ} → at ≤ length before → At words before at before at 0
-unfolding word_lines
-at_start words h = record { written = exactly (nothing h) }
-
-pub at_next : {words before : List ℕ} {at : ℕ} {out out' : List ℕ} {end end' b : ℕ} → At words before at out end b
-    → PutIn 134 out end (tally_line b (tally_at words b)) out' end' → At words before at out' end' (b + 1)
-unfolding word_lines
-at_next {b = b} a p = rw (add-one b) (record { written = then_in a.written (tally_room (suc b)) (omega arith) p })
-
-pub at_end : {words before : List ℕ} {at : ℕ} {out : List ℕ} {end b k : ℕ} → At words before at out end b → b ≡ k
-    → PutIn (tally_room k) before at (word_lines words k) out end
-at_end {words} {before} {at} {out} {end} a e =
-    subst (λ (k : ℕ). PutIn (tally_room k) before at (word_lines words k) out end) e a.written
 
 -- ---- the words of some tallies
 
 -- a word behind the first four
 shifted : (l : List ℕ) (i j : ℕ) → i ≡ 4 + j → get_or l i 0 ≡ get_or (drop 4 l) j 0
 shifted l i j e = ap (λ (k : ℕ). get_or l k 0) e ∙ sym (get_or-drop 4 l j 0)
+
+-- four words are the tally of their worker
+chunk_of : (words : List ℕ) (k b : ℕ) → b < k → tally_at (get_or (first_chunks 4 k words) b []) 0 ≡ tally_at words b
+chunk_of words zero b h = absurd (omega arith)
+chunk_of words (suc k) zero h =
+    rw (get_or-take 4 words 0 0 (omega arith), get_or-take 4 words 1 0 (omega arith), get_or-take 4 words 2 0 (omega arith), get_or-take 4 words 3 0 (omega arith))
+chunk_of words (suc k) (suc b) h =
+    chunk_of (drop 4 words) k b (omega arith)
+    ∙ rw (
+      shifted words (4 * suc b) (4 * b) (omega arith),
+      shifted words (4 * suc b + 1) (4 * b + 1) (omega arith),
+      shifted words (4 * suc b + 2) (4 * b + 2) (omega arith),
+      shifted words (4 * suc b + 3) (4 * b + 3) (omega arith),
+    )
+
+pub tally_of_chunk : (words : List ℕ) (chunks : List (List ℕ)) (b : ℕ) → chunks ≡ first_chunks 4 (length words / 4) words → b < length words / 4
+    → tally_at (get_or chunks b []) 0 ≡ tally_at words b
+tally_of_chunk words chunks b e h = rw e (chunk_of words (length words / 4) b h)
 
 tally_at_lem : (ts : List Tally) (b : ℕ) → tally_at (tallies_words ts) b ≡ get_or ts b no_tally
 unfolding tallies_words laid

@@ -1,134 +1,123 @@
-// The lines that the program prints. Each function writes behind the first `at` bytes and returns
-// how many bytes there are then.
+// The lines that the program prints, each written to a page behind what it has.
 #![tactic(auto)]
 
-ghost use Rattle.std.specs.Prelude.{◌+◌, ◌*◌, ◌/◌, ◌≤◌, ◌<◌, ◌++◌, length};
-ghost use Rattle.slices.specs.Put.{PutIn};
+ghost use Rattle.std.specs.Prelude.{◌+◌, ◌/◌, ◌++◌, length};
+ghost use Rattle.text.specs.Pages.{Room, Wrote};
 ghost use Rattle.lines.specs.Rooms.{counts_room, tally_room, dead_room};
 ghost use Rattle.lines.specs.Lines.{refusal_line, state_line, found_lines, worker_lines, count_lines};
 ghost use Rattle.lines.specs.Lines.{tally_line, tally_at, word_lines, dead_line, dead_lines, Below, freed_line};
 
 use machine::Counts;
+use text::Page;
 
 // The line of a refusal.
-pub fn put_refusal(out: &mut [u8], at: usize, number: u8) -> usize
-    requires { at + 29 ≤ length out.old }
-    ensures { PutIn 29 out.old at (refusal_line number) out.new result }
+pub fn put_refusal(page: &mut Page, number: u8)
+    requires { Room 29 page.old }
+    ensures { Wrote 29 (refusal_line number) page.old page.new }
 {
-    text::put_line(out, at, b"refusal", number as u64)
+    page.put_line(b"refusal", u64::from(number));
 }
 
 // Whether the collection has finished.
-fn put_state(out: &mut [u8], at: usize, finished: bool) -> usize
-    requires { at + 11 ≤ length out.old }
-    ensures { PutIn 11 out.old at (state_line finished) out.new result }
+fn put_state(page: &mut Page, finished: bool)
+    requires { Room 11 page.old }
+    ensures { Wrote 11 (state_line finished) page.old page.new }
 {
     if finished {
-        return text::put(out, at, b"finished\n");
+        page.put(b"finished\n");
+    } else {
+        page.put(b"unfinished\n");
     }
-    text::put(out, at, b"unfinished\n")
 }
 
 // Whether the collection has finished, what is marked and what was followed.
-fn put_found(out: &mut [u8], at: usize, finished: bool, counts: Counts) -> usize
-    requires { at + 67 ≤ length out.old }
-    ensures { PutIn 67 out.old at (found_lines finished counts) out.new result }
+fn put_found(page: &mut Page, finished: bool, counts: Counts)
+    requires { Room 67 page.old }
+    ensures { Wrote 67 (found_lines finished counts) page.old page.new }
 {
-    let mut end = put_state(out, at, finished);
-    end = text::put_line(out, end, b"live", counts.live);
-    text::put_line(out, end, b"followed", counts.followed)
+    put_state(page, finished);
+    page.put_line(b"live", counts.live);
+    page.put_line(b"followed", counts.followed);
 }
 
 // What the workers did, and how many carry references now.
-fn put_workers(out: &mut [u8], at: usize, counts: Counts) -> usize
-    requires { at + 114 ≤ length out.old }
-    ensures { PutIn 114 out.old at (worker_lines counts) out.new result }
+fn put_workers(page: &mut Page, counts: Counts)
+    requires { Room 114 page.old }
+    ensures { Wrote 114 (worker_lines counts) page.old page.new }
 {
-    let mut end = text::put_line(out, at, b"handed", counts.handed);
-    end = text::put_line(out, end, b"refused", counts.refused);
-    end = text::put_line(out, end, b"moved", counts.moved);
-    text::put_line(out, end, b"carrying", counts.carrying)
+    page.put_line(b"handed", counts.handed);
+    page.put_line(b"refused", counts.refused);
+    page.put_line(b"moved", counts.moved);
+    page.put_line(b"carrying", counts.carrying);
 }
 
 // What is counted of every collection.
-fn put_counts(out: &mut [u8], at: usize, finished: bool, counts: Counts) -> usize
-    requires { at + counts_room ≤ length out.old }
-    ensures { PutIn counts_room out.old at (count_lines finished counts) out.new result }
+fn put_counts(page: &mut Page, finished: bool, counts: Counts)
+    requires { Room counts_room page.old }
+    ensures { Wrote counts_room (count_lines finished counts) page.old page.new }
 {
-    let end = put_found(out, at, finished, counts);
-    put_workers(out, end, counts)
+    put_found(page, finished, counts);
+    put_workers(page, counts);
 }
 
-// The line of one worker, by the words of all tallies.
-fn put_tally(out: &mut [u8], at: usize, tallies: &[u64], worker: usize) -> usize
-    requires at_in_bounds { at + 134 ≤ length out.old }
-    requires worker_in_bounds { 4 * worker + 3 < length tallies.now }
-    ensures { PutIn 134 out.old at (tally_line worker (tally_at tallies.now worker)) out.new result }
+// The line of one worker, by the four words of its tally.
+fn put_tally(page: &mut Page, worker: u64, tally: &[u64; 4])
+    requires { Room 134 page.old }
+    ensures { Wrote 134 (tally_line worker (tally_at tally.now 0)) page.old page.new }
 {
-    let word = 4 * worker;
-    let mut end = text::put_named(out, at, b"box", worker as u64);
-    end = text::put_named(out, end, b" followed", tallies[word]);
-    end = text::put_named(out, end, b" won", tallies[word + 1]);
-    end = text::put_named(out, end, b" lost", tallies[word + 2]);
-    text::put_line(out, end, b" handed", tallies[word + 3])
+    let [followed, won, lost, handed] = *tally;
+    page.put_named(b"box", worker);
+    page.put_named(b" followed", followed);
+    page.put_named(b" won", won);
+    page.put_named(b" lost", lost);
+    page.put_line(b" handed", handed);
 }
 
 // A line for each worker, by the words of all tallies.
-fn put_tallies(out: &mut [u8], at: usize, tallies: &[u64]) -> usize
-    requires { at + tally_room (length tallies.now / 4) ≤ length out.old }
-    ensures { PutIn (tally_room (length tallies.now / 4)) out.old at
-        (word_lines tallies.now (length tallies.now / 4)) out.new result }
+fn put_tallies(page: &mut Page, tallies: &[u64])
+    requires { Room (tally_room (length tallies.now / 4)) page.old }
+    ensures { Wrote (tally_room (length tallies.now / 4)) (word_lines tallies.now (length tallies.now / 4))
+        page.old page.new }
 {
-    let mut end = at;
-    for worker in 0..tallies.len() / 4 {
-        end = put_tally(out, end, tallies, worker);
+    let (each, _) = tallies.as_chunks::<4>();
+    for (worker, tally) in each.iter().enumerate() {
+        put_tally(page, worker as u64, tally);
     }
-    end
 }
 
 // The lines of every collection: the counts, and each worker's tally.
-pub fn put_result(
-    out: &mut [u8],
-    at: usize,
-    finished: bool,
-    counts: Counts,
-    tallies: &[u64],
-) -> usize
-    requires { at + (counts_room + tally_room (length tallies.now / 4)) ≤ length out.old }
-    ensures { PutIn (counts_room + tally_room (length tallies.now / 4)) out.old at
-        (count_lines finished counts ++ word_lines tallies.now (length tallies.now / 4)) out.new result }
+pub fn put_result(page: &mut Page, finished: bool, counts: Counts, tallies: &[u64])
+    requires { Room (counts_room + tally_room (length tallies.now / 4)) page.old }
+    ensures { Wrote (counts_room + tally_room (length tallies.now / 4))
+        (count_lines finished counts ++ word_lines tallies.now (length tallies.now / 4)) page.old page.new }
 {
-    let end = put_counts(out, at, finished, counts);
-    put_tallies(out, end, tallies)
+    put_counts(page, finished, counts);
+    put_tallies(page, tallies);
 }
 
 // One dead line.
-fn put_dead(out: &mut [u8], at: usize, object: u32, size: u64) -> usize
-    requires { at + 47 ≤ length out.old }
-    ensures { PutIn 47 out.old at (dead_line object size) out.new result }
+fn put_dead(page: &mut Page, object: u32, size: u64)
+    requires { Room 47 page.old }
+    ensures { Wrote 47 (dead_line object size) page.old page.new }
 {
-    text::put_line_of_two(out, at, b"dead", object as u64, size)
+    page.put_line_of_two(b"dead", u64::from(object), size);
 }
 
 // A line for each dead object of the list.
-pub fn put_dead_list(out: &mut [u8], at: usize, list: &[u32], sizes: &[u64]) -> usize
-    requires list_in_bounds { at + dead_room (length list.now) ≤ length out.old }
+pub fn put_dead_list(page: &mut Page, list: &[u32], sizes: &[u64])
+    requires room { Room (dead_room (length list.now)) page.old }
     requires below { Below list.now (length sizes.now) }
-    ensures { PutIn (dead_room (length list.now)) out.old at
-        (dead_lines sizes.now list.now) out.new result }
+    ensures { Wrote (dead_room (length list.now)) (dead_lines sizes.now list.now) page.old page.new }
 {
-    let mut end = at;
-    for i in 0..list.len() {
-        let object = list[i];
-        end = put_dead(out, end, object, sizes[object as usize]);
+    for object in list {
+        put_dead(page, *object, sizes[*object as usize]);
     }
-    end
 }
 
 // The last line: the sum of the dead objects' sizes.
-pub fn put_freed(out: &mut [u8], at: usize, freed: u64) -> usize
-    requires { at + 27 ≤ length out.old }
-    ensures { PutIn 27 out.old at (freed_line freed) out.new result }
+pub fn put_freed(page: &mut Page, freed: u64)
+    requires { Room 27 page.old }
+    ensures { Wrote 27 (freed_line freed) page.old page.new }
 {
-    text::put_line(out, at, b"freed", freed)
+    page.put_line(b"freed", freed);
 }

@@ -1,4 +1,3 @@
-pub mod Digits
 pub mod Tails
 pub mod Sliding
 pub mod Searching

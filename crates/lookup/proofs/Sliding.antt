@@ -1,18 +1,15 @@
 -- Places that hold no name: none, runs of them in a row, those of a byte that is no digit, of a tail that is not in the index, of the end.
-use Rattle.std.proofs.Common.{◌≡◌, ℕ, ◌+◌, ◌-◌, ◌*◌, ◌%◌, ◌<◌, ◌≤◌, Bool, true, false, eqb, List, length, get_or, sym, ◌∙◌, arith}
+use Rattle.std.proofs.Common.{◌≡◌, ℕ, ◌+◌, ◌-◌, ◌*◌, ◌%◌, ◌<◌, ◌≤◌, Bool, false, eqb, List, length, get_or, sym, ◌∙◌, arith}
 use mathlib.Core.Logic.{by_cases}
 use native.Mathlib.Decide.{dec_lt}
 use borrow.Author.Tests.{eqb-false}
 use Rattle.slices.specs.Bits.{bit}
 use Rattle.names.specs.Names.{is_digit}
 use Rattle.lookup.specs.Index.{tail_at, tail_bytes, tail_values}
-use Rattle.lookup.specs.Places.{Barren, Stops, LastOther, NextPlace}
+use Rattle.lookup.specs.Places.{Barren, Other, Next, Further}
 use Rattle.lookup.proofs.Tails.{tail_slid}
 
 module _ {w : ℕ} {index text : List ℕ} where
-  pub barren_none : (a : ℕ) → Barren w index text a a
-  barren_none a p h g c = omega arith
-
   pub barren_join : {a b d : ℕ} → Barren w index text a b → Barren w index text b d → Barren w index text a d
   barren_join {a} {b} {d} x y p h g c =
       by_cases (dec_lt p b) (λ (q : p < b). x p h q c) (λ (q : ¬ (p < b)). y p (omega arith) g c)
@@ -41,27 +38,10 @@ pub record Sliding (w : ℕ) (index text : List ℕ) (from end h : ℕ) : Type 0
   pub value : h ≡ tail_at text (end - tail_bytes)
   pub barren : Barren w index text from (end - w)
 
-pub sliding_start : {w : ℕ} {index text : List ℕ} {from end h : ℕ} → tail_bytes ≤ w → end ≡ from + w → end ≤ length text
-    → h ≡ tail_at text (end - tail_bytes) → Sliding w index text from end h
-sliding_start {w} {index} {text} {from} {end} f e l v =
-    let s : end - w ≡ from = omega arith in
-    record { wide = f; low = omega arith; high = l; value = v; barren = rw s (barren_none from) }
-
 module _ {w : ℕ} {index text : List ℕ} {from end h : ℕ} (s : Sliding w index text from end h) where
-  -- the tail is there
-  pub slid_hit : Stops w index text from (end - w) true
-  slid_hit =
-      let l = s.low in
-      record {
-        barren = s.barren;
-        low = omega arith;
-        fits = λ e. omega (arith, s.high);
-        moves = λ (e : true ≡ false). let z : ◌≡◌ {A = ℕ} 0 1 = cc in absurd (omega arith);
-      }
-
   -- or it is not, and so no name is at this place
   module _ {r : Bool} (e : r ≡ eqb (bit index h) 1) (n : r ≡ false) where
-    pub here_barren : Barren w index text from (end + 1 - w)
+    here_barren : Barren w index text from (end + 1 - w)
     here_barren =
         let l = s.low in
         let f = s.wide in
@@ -70,30 +50,6 @@ module _ {w : ℕ} {index text : List ℕ} {from end h : ℕ} (s : Sliding w ind
         rw a
         (barren_join s.barren
         (barren_tail (end - w) f (rw (b, ← s.value) (eqb-false (bit index h) 1 (sym e ∙ n)))))
-
-    -- the next byte is no digit
-    pub slid_other : end < length text → is_digit (get_or text end 0) ≡ false → Stops w index text from (end + 1) false
-    slid_other g d =
-        let l = s.low in
-        let f = s.wide in
-        record {
-          barren = barren_join here_barren (barren_byte (end + 1 - w) end d (omega arith));
-          low = omega arith;
-          fits = λ (x : false ≡ true). let z : ◌≡◌ {A = ℕ} 0 1 = cc in absurd (omega arith);
-          moves = λ x. (omega arith, omega arith);
-        }
-
-    -- there is none
-    pub slid_end : length text ≤ end → Stops w index text from end false
-    slid_end g =
-        let l = s.low in
-        let f = s.wide in
-        record {
-          barren = barren_join here_barren (barren_end (end + 1 - w) end (omega arith));
-          low = omega arith;
-          fits = λ (x : false ≡ true). let z : ◌≡◌ {A = ℕ} 0 1 = cc in absurd (omega arith);
-          moves = λ x. (omega arith, omega (arith, s.high));
-        }
 
     -- it is one
     pub slid_on : end < length text → Sliding w index text from (end + 1) ((8 * h + get_or text end 0) % tail_values)
@@ -108,16 +64,6 @@ module _ {w : ℕ} {index text : List ℕ} {from end h : ℕ} (s : Sliding w ind
           barren = here_barren;
         }
 
--- a name of fewer bytes than a tail: every place may hold one
-pub slid_short : {w : ℕ} {index text : List ℕ} {from : ℕ} → from + w ≤ length text → Stops w index text from from true
-slid_short {from = from} l =
-    record {
-      barren = barren_none from;
-      low = omega arith;
-      fits = λ e. l;
-      moves = λ (e : true ≡ false). let z : ◌≡◌ {A = ℕ} 0 1 = cc in absurd (omega arith);
-    }
-
 -- ---- from window to window
 
 pub record Skipping (w : ℕ) (index text : List ℕ) (from at known : ℕ) : Type 0 where
@@ -126,43 +72,28 @@ pub record Skipping (w : ℕ) (index text : List ℕ) (from at known : ℕ) : Ty
   pub sure : at ≤ known
   pub barren : Barren w index text from at
 
-pub skipping_start : {w : ℕ} {index text : List ℕ} {from known : ℕ} → from ≤ length text → from ≤ known → Skipping w index text from from known
-skipping_start {from = from} h k = record { low = omega arith; high = h; sure = k; barren = barren_none from }
-
 module _ {w : ℕ} {index text : List ℕ} {from at known : ℕ} (s : Skipping w index text from at known) where
   -- behind a byte that is no digit
-  pub skip_other : (end r : ℕ) → end ≡ at + w → end ≤ length text → LastOther text known end r → known < r → Skipping w index text from r end
-  skip_other end r e l o h =
-      let i = o.within in
+  pub skip_other : at + w ≤ length text → {i : ℕ} → Other text known (at + w) i → Skipping w index text from (i + 1) (at + w)
+  skip_other e {i} o =
+      let a = o.above in
+      let b = o.below in
       let k = s.sure in
       let j = s.low in
-      let q : r - 1 + 1 ≡ r = omega arith in
-      let b : Barren w index text at (r - 1 + 1) = barren_byte at (r - 1) (o.other h) (omega arith) in
       record {
         low = omega arith;
         high = omega arith;
-        sure = i;
-        barren = barren_join s.barren (rw q at b);
+        sure = omega arith;
+        barren = barren_join s.barren (barren_byte at i o.other b);
       }
 
   -- where sliding ended
-  pub skip_slid : {r : ℕ} {hit : Bool} → Stops w index text at r hit → hit ≡ false → Skipping w index text from r r
-  skip_slid {r} t e =
-      let m = t.moves e in
-      record { low = omega (arith, s.low, t.low); high = m.1; sure = omega arith; barren = barren_join s.barren t.barren }
+  pub skip_slid : {r : ℕ} → Further w index text at r → Skipping w index text from r r
+  skip_slid t = record { low = omega (arith, s.low, t.moves); high = t.inside; sure = omega arith; barren = barren_join s.barren t.barren }
 
-  pub skip_hit : 0 < w → {r : ℕ} {hit : Bool} → Stops w index text at r hit → hit ≡ true → NextPlace w index text from r
-  skip_hit p {r} t e =
-      let f = t.fits e in
-      record { barren = barren_join s.barren t.barren; low = omega (arith, s.low, t.low); high = omega arith; fits = λ g. f }
+  pub skip_hit : {r : ℕ} → Next w index text at r → Next w index text from r
+  skip_hit t = record { barren = barren_join s.barren t.barren; low = omega (arith, s.low, t.low); fits = t.fits }
 
   -- no window is left
-  pub skip_end : length text - at < w → NextPlace w index text from (length text)
-  skip_end h =
-      let g = s.high in
-      record {
-        barren = barren_join s.barren (barren_end at (length text) (omega arith));
-        low = omega (arith, s.low);
-        high = omega arith;
-        fits = λ (x : length text < length text). absurd (omega arith);
-      }
+  pub skip_end : length text - at < w → Barren w index text from (length text)
+  skip_end g = barren_join s.barren (barren_end at (length text) (omega (arith, s.high)))

@@ -1,8 +1,10 @@
 -- The index of names: a set of the values that the last eight bytes of names have, and behind it hints for the search, of which nothing is
 -- asked. And the number that the first eight bytes of a name are.
-use Rattle.std.specs.Prelude.{◌≡◌, ℕ, ◌+◌, ◌-◌, ◌*◌, ◌/◌, ◌%◌, ◌<◌, ◌≤◌, List, length, nat_lt, slice_index}
+use Rattle.std.specs.Prelude.{◌≡◌, ℕ, ◌+◌, ◌-◌, ◌*◌, ◌/◌, ◌%◌, ◌<◌, ◌≤◌, List, length, take, nat_lt, slice_index}
+use Rattle.std.specs.Int.{from_be_bytes, w64}
 use Rattle.laws.specs.Choice.{pick}
 use Rattle.slices.specs.Bits.{bit}
+use Rattle.names.specs.Names.{Names, count}
 use Rattle.names.specs.Call.{work_word_count}
 
 -- how many bytes
@@ -22,10 +24,10 @@ tail_at bytes p =
     + slice_index bytes (p + 7))
     % tail_values
 
--- the tail of each of so many names is in the set, where names have so many bytes
-pub record Indexed (names : List ℕ) (w count : ℕ) (index : List ℕ) : Type 0 where
+-- the tail of each name is in the set, where names have so many bytes
+pub record Indexed (N : Names) (index : List ℕ) : Type 0 where
   pub long : length index ≡ work_word_count
-  pub kept : tail_bytes ≤ w → (k : ℕ) → k < count → bit index (tail_at names (k * w + w - tail_bytes)) ≡ 1
+  pub kept : tail_bytes ≤ N.width → (k : ℕ) → k < count N → bit index (tail_at N.bytes (k * N.width + N.width - tail_bytes)) ≡ 1
 
 -- what is written behind the set changes nothing in it
 pub record KeepsSet (index index' : List ℕ) : Type 0 where
@@ -36,12 +38,6 @@ pub record KeepsSet (index index' : List ℕ) : Type 0 where
 abbrev pub nibble : ℕ → ℕ
 nibble b = (b % 16 + 9 * (b / 64)) % 16
 
--- the four bytes from place p on as one number, the first of them the highest
-unfoldable pub four_at : List ℕ → ℕ → ℕ
-four_at bytes p =
-    65536 * (256 * slice_index bytes p + slice_index bytes (p + 1)) + 256 * slice_index bytes (p + 2) + slice_index bytes (p + 3)
-
--- eight of them, and 0 where names have fewer
-unfoldable pub lead_in : ℕ → List ℕ → ℕ → ℕ
-unfolding four_at
-lead_in w bytes p = pick (nat_lt w 8) 0 (4294967296 * four_at bytes p + four_at bytes (p + 4))
+-- the first eight bytes of a name as one number, and 0 where names have fewer
+unfoldable pub lead_of : List ℕ → ℕ
+lead_of name = pick (nat_lt (length name) 8) 0 (from_be_bytes w64 (take 8 name))

@@ -1,5 +1,5 @@
 -- The places of a text that may hold a name: w digits, of which the last eight are in the index.
-use Rattle.std.specs.Prelude.{◌≡◌, ℕ, ◌+◌, ◌-◌, ◌<◌, ◌≤◌, Bool, true, false, List, length, slice_index}
+use Rattle.std.specs.Prelude.{◌≡◌, ℕ, ◌+◌, ◌-◌, ◌<◌, ◌≤◌, true, false, List, length, slice_index, Option, MatchOption, Result, MatchResult, ⊤}
 use Rattle.slices.specs.Bits.{bit}
 use Rattle.names.specs.Names.{is_digit}
 use Rattle.lookup.specs.Index.{tail_bytes, tail_at}
@@ -13,21 +13,31 @@ pub record Candidate (w : ℕ) (index text : List ℕ) (p : ℕ) : Type 0 where
 abbrev pub Barren : ℕ → List ℕ → List ℕ → ℕ → ℕ → Type 0
 Barren w index text a b = (p : ℕ) → a ≤ p → p < b → Candidate w index text p → ⊥
 
--- behind a byte that is no digit, or not above the first place
-pub record LastOther (text : List ℕ) (low high r : ℕ) : Type 0 where
-  pub within : r ≤ high
-  pub other : low < r → is_digit (slice_index text (r - 1)) ≡ false
+-- a byte that is no digit, between two places
+pub record Other (text : List ℕ) (low high i : ℕ) : Type 0 where
+  pub above : low ≤ i
+  pub below : i < high
+  pub other : is_digit (slice_index text i) ≡ false
 
--- sliding along a text from a place: nothing before the place where it ended, which is a window's or further on
-pub record Stops (w : ℕ) (index text : List ℕ) (from at : ℕ) (hit : Bool) : Type 0 where
+abbrev pub LastOther : List ℕ → ℕ → ℕ → Option ℕ → Type 0
+LastOther text low high r = MatchOption r ⊤ (Other text low high)
+
+-- the first place from one on that may hold a name: a window's
+pub record Next (w : ℕ) (index text : List ℕ) (from at : ℕ) : Type 0 where
   pub barren : Barren w index text from at
   pub low : from ≤ at
-  pub fits : hit ≡ true → at + w ≤ length text
-  pub moves : hit ≡ false → (from < at) × (at ≤ length text)
+  pub fits : at + w ≤ length text
 
--- the next place: nothing before it, and it is a window's or the end
-pub record NextPlace (w : ℕ) (index text : List ℕ) (from r : ℕ) : Type 0 where
-  pub barren : Barren w index text from r
-  pub low : from ≤ r
-  pub high : r ≤ length text
-  pub fits : r < length text → r + w ≤ length text
+-- none before a place further on
+pub record Further (w : ℕ) (index text : List ℕ) (from at : ℕ) : Type 0 where
+  pub barren : Barren w index text from at
+  pub moves : from < at
+  pub inside : at ≤ length text
+
+-- sliding along a text from a place: the next, or where to go on
+abbrev pub Slides : ℕ → List ℕ → List ℕ → ℕ → Result ℕ ℕ → Type 0
+Slides w index text from r = MatchResult r (Next w index text from) (Further w index text from)
+
+-- the next place, or none up to the end
+abbrev pub NextPlace : ℕ → List ℕ → List ℕ → ℕ → Option ℕ → Type 0
+NextPlace w index text from r = MatchOption r (Barren w index text from (length text)) (Next w index text from)

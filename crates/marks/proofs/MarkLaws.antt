@@ -8,8 +8,11 @@ use native.Mathlib.Decide.{ℕ_discrete, dec_lt}
 use native.Mathlib.Nat.{add-zero}
 use native.Mathlib.Numerals.{add-one}
 use native.Mathlib.Omega.{arith}
+use lib.Dec.{eqb}
+use mir.Val.{bool_byte}
+use borrow.Author.Tests.{eqb-true}
 use lib.ListN.{length, get_or, take, drop, replicate, drop_of_length-le, length-replicate}
-use lib.Seq.{drop-cons, take-suc, take-length}
+use lib.Seq.{drop-cons, take-suc}
 use borrow.Author.Count.{below_more}
 use Rattle.laws.specs.Span.{span}
 use Rattle.laws.specs.Sum.{sum, hit}
@@ -27,17 +30,17 @@ use Rattle.graph.proofs.Formed.{below_at}
 use Rattle.graph.proofs.Scan.{below_all}
 use Rattle.machine.specs.Machine.{live}
 use Rattle.machine.specs.Sound.{Marked}
-use Rattle.marks.specs.declared.Counted.{Counted}
 use Rattle.marks.specs.declared.Window.{Window}
-use Rattle.marks.specs.Marks.{Unset, MarksCounted, MarksFound, StartsBelow, StartsThere, StartsMarked, distinct, StartsFound, TargetsInside, TargetsThere, PartMarked, AllMarked, RowEnd, GapEnd, PartsThere}
+use Rattle.marks.specs.Marks.{MarksCounted, MarksLow, StartsBelow, StartsThere, distinct, PartMarked, AllMarked, RowEnd, GapEnd, PartsThere}
 
 -- ---- `count_marks`: what is left makes up the whole
 
--- a product by 0 or 1
-pub at_most_once : (a k : ℕ) → k ≤ 1 → a * k ≤ a
-at_most_once a zero h = omega arith
-at_most_once a (suc zero) h = omega arith
-at_most_once a (suc (suc k)) h = absurd (omega arith)
+-- 0 for an object that is marked
+unset_none : {k : ℕ} → k ≢ 0 → bool_byte (eqb k 0) ≡ 0
+unset_none {k} n =
+    let cases : (b : Bool) → eqb k 0 ≡ b → bool_byte b ≡ 0 =
+    λ b. elim b as (λ b. eqb k 0 ≡ b → bool_byte b ≡ 0) [ true ↦ λ p. absurd (n (eqb-true k 0 p)) | false ↦ λ p. refl ] in
+    cases (eqb k 0) refl
 
 pub record MarksAt (os ms : List ℕ) (live⁺ leaving v : ℕ) : Type 0 where
   pub high : v ≤ length ms
@@ -91,15 +94,15 @@ module _ {os ms : List ℕ} where
             }
 
     -- one or the other, as it is worked out
-    pub mark_next : {k : ℕ} → Unset (get_or ms v 0) k → live' ≡ live⁺ + (1 - k) → leaving' ≡ leaving + (get_or os (v + 1) 0 - get_or os v 0) * k
+    pub mark_next : {k : ℕ} → k ≡ bool_byte (eqb (get_or ms v 0) 0) → live' ≡ live⁺ + (1 - k) → leaving' ≡ leaving + (get_or os (v + 1) 0 - get_or os v 0) * k
         → MarksAt os ms live' leaving' (v + 1)
     mark_next {k} u a b =
         by_cases (ℕ_discrete (get_or ms v 0) 0)
         (λ (p : get_or ms v 0 ≡ 0).
-        let one = u.none p in
+        let one : k ≡ 1 = u ∙ rw p refl in
         unmarked_next p (omega (arith, a, one)) (b ∙ rw one (omega arith)))
         (λ (p : get_or ms v 0 ≢ 0).
-        let none = u.some p in
+        let none : k ≡ 0 = u ∙ unset_none p in
         marked_next p (omega (arith, a, none)) (b ∙ rw none (omega arith)))
 
   pub marks_end : {live⁺ leaving v : ℕ} → MarksAt os ms live⁺ leaving v → length ms ≤ v → MarksCounted os ms (record { live = live⁺; leaving = leaving })
@@ -110,25 +113,11 @@ module _ {os ms : List ℕ} where
 
 -- ---- `check_marks`
 
-module _ {W : ℕ} {os ms : List ℕ} where
-  pub marks_right : {r : Counted} → all_below (W + 1) ms ≡ true → MarksCounted os ms r
-      → MarksFound W os ms (record { sound = true; live = r.live; leaving = r.leaving })
-  marks_right t x =
-      record {
-        right = λ z v. omega (arith, below_at (W + 1) ms t (omega arith) v);
-        known = λ h. refl;
-        live = λ z. x.live;
-        leaving = λ z. x.leaving;
-      }
+pub marks_low : (W : ℕ) (ms : List ℕ) → all_below (W + 1) ms ≡ true → MarksLow W ms
+marks_low W ms t v = omega (arith, below_at (W + 1) ms t (omega arith) v)
 
-  pub marks_wrong : all_below (W + 1) ms ≡ false → MarksFound W os ms (record { sound = false; live = 0; leaving = 0 })
-  marks_wrong f =
-      record {
-        right = λ z. never z refl;
-        known = λ h. never (below_all (W + 1) ms (λ v. omega (arith, h v))) f;
-        live = λ z. never z refl;
-        leaving = λ z. never z refl;
-      }
+pub marks_high : (W : ℕ) (ms : List ℕ) → all_below (W + 1) ms ≡ false → MarksLow W ms → ⊥
+marks_high W ms f h = never (below_all (W + 1) ms (λ v. omega (arith, h v))) f
 
 -- ---- `check_starts`: the set holds the starts passed
 
@@ -242,36 +231,18 @@ module _ {starts ms seen₀ : List ℕ} where
             span_agree (λ (v : ℕ). set? (sum (hit v) (take (i + 1) starts))) (λ (v : ℕ). set? (times v)) (length ms)
             (λ v q. ap set? (times_more v) ∙ stays v)
 
-  pub starts_end : {seen : List ℕ} {distinct⁺ i : ℕ} → StartsAt starts ms seen₀ seen distinct⁺ i → length starts ≤ i
-      → StartsFound starts ms (record { sound = true; distinct = distinct⁺ })
-  starts_end {i = i} x h =
-      let all : i ≡ length starts = omega (arith, x.high) in
-      record {
-        right = λ z k q. x.each k (omega arith);
-        known = λ q. refl;
-        distinct = λ z. x.number ∙ ap (distinct (length ms)) (ap (λ (k : ℕ). take k starts) all ∙ take-length starts);
-      }
-
-pub starts_wrong : {starts ms : List ℕ} → (StartsMarked starts ms → ⊥) → StartsFound starts ms (record { sound = false; distinct = 0 })
-starts_wrong n = record { right = λ z. never z refl; known = λ h. absurd (n h); distinct = λ z. never z refl }
+    -- one or the other
+    pub start_next : {k : ℕ} → k ≡ bool_byte r → StartsAt starts ms seen₀ seen' (distinct⁺ + k) (i + 1)
+    start_next {k} e = cases r refl
+      where
+        cases : (b : Bool) → r ≡ b → StartsAt starts ms seen₀ seen' (distinct⁺ + k) (i + 1)
+        cases true t = new_next t (ap (λ (n : ℕ). distinct⁺ + n) (e ∙ ap bool_byte t))
+        cases false t = again_next t (omega (arith, e ∙ ap bool_byte t))
 
 -- a set of zeros is empty
 pub zeros_for : {starts ms : List ℕ} (k : ℕ) → length ms ≤ word_bits * k → StartsBelow starts (length ms)
     → StartsThere starts ms (replicate k 0)
 zeros_for k h b = record { below = b; room = rw length-replicate (omega arith); none = bit_none k }
-
--- ---- the targets
-
--- the references up to one of those that are there
-pub row_there : {ts ms : List ℕ} {end to : ℕ} → TargetsInside ts ms end → to ≤ end → TargetsInside ts ms to
-row_there x h = record { inside = x.inside; within = omega (arith, x.within) }
-
-pub part_there : {ts ms bs : List ℕ} {base end to : ℕ} → TargetsThere ts ms bs base end → to ≤ end → TargetsThere ts ms bs base to
-part_there x h = record { targets = row_there x.targets h; room = omega (arith, x.room) }
-
--- two parts, one behind the other
-pub parts_join : (ts ms bs : List ℕ) (base from e to : ℕ) → PartMarked ts ms bs base from e → PartMarked ts ms bs base e to → PartMarked ts ms bs base from to
-parts_join ts ms bs base from e to x y k h q z = by_cases (dec_lt k e) (λ (p : k < e). x k h p z) (λ (p : ¬ (k < e)). y k (omega arith) q z)
 
 -- ---- `targets_marked`: rows of marked objects
 
@@ -386,12 +357,3 @@ module _ {os ts ms bs : List ℕ} {w : Window} (there : PartsThere os ts ms bs w
       (λ (p : e < from). x.done u o.0 o.1 m e (omega arith) (omega arith) (omega arith) (omega arith) p z)
       (λ (p : ¬ (e < from)). part e (omega arith) (omega arith) z))
       (row_known x there.objects (omega arith) there.ends)
-
--- a row and the gap behind it are some objects
-pub gap_further : {ms : List ℕ} {last v u t : ℕ} → RowEnd ms v last u → GapEnd ms u last t → v < last → v < t
-gap_further {last = last} {v} {u} {t} r g h =
-    by_cases (dec_lt v t)
-    (λ (p : v < t). p)
-    (λ (p : ¬ (v < t)).
-    let same : t ≡ u = omega (arith, r.from, g.from) in
-    absurd (g.stops (omega (arith, r.from, g.from)) (rw same (r.stops (omega (arith, r.from, g.from))))))

@@ -1,5 +1,5 @@
 -- The marks, and what the functions on them say.
-use Rattle.std.specs.Prelude.{◌≡◌, true, List, ℕ, suc, ◌+◌, ◌-◌, ◌*◌, ◌≤◌, ◌<◌, min, max, length, get_or}
+use Rattle.std.specs.Prelude.{◌≡◌, Option, MatchOption, List, ℕ, suc, ◌+◌, ◌-◌, ◌*◌, ◌≤◌, ◌<◌, min, max, length, get_or}
 use Rattle.laws.specs.Span.{span}
 use Rattle.laws.specs.Sum.{sum, hit}
 use Rattle.slices.specs.Bits.{bit, word_bits}
@@ -10,8 +10,6 @@ use Rattle.graph.specs.Limits.{most_objects}
 use Rattle.machine.specs.Machine.{live}
 use Rattle.machine.specs.Sound.{Marked}
 use Rattle.marks.specs.declared.Counted.{Counted}
-use Rattle.marks.specs.declared.Marks.{Marks}
-use Rattle.marks.specs.declared.Starts.{Starts}
 use Rattle.marks.specs.declared.Window.{Window}
 
 -- a mark for each object, whose references begin at offsets that do not fall
@@ -19,12 +17,6 @@ pub record MarksThere (os ms : List ℕ) : Type 0 where
   pub few : length ms ≤ most_objects
   pub long : length os ≡ suc (length ms)
   pub rises : (v : ℕ) → v < length ms → get_or os v 0 ≤ get_or os (suc v) 0
-
--- what `unset` says of a mark
-pub record Unset (mark r : ℕ) : Type 0 where
-  pub low : r ≤ 1
-  pub none : mark ≡ 0 → r ≡ 1
-  pub some : (mark ≡ 0 → ⊥) → r ≡ 0
 
 -- what `count_marks` says
 pub record MarksCounted (os ms : List ℕ) (r : Counted) : Type 0 where
@@ -35,12 +27,14 @@ pub record MarksCounted (os ms : List ℕ) (r : Counted) : Type 0 where
 abbrev pub MarksLow : ℕ → List ℕ → Type 0
 MarksLow W ms = (v : ℕ) → get_or ms v 0 ≤ W
 
--- what `check_marks` says
-pub record MarksFound (W : ℕ) (os ms : List ℕ) (r : Marks) : Type 0 where
-  pub right : r.sound ≡ true → MarksLow W ms
-  pub known : MarksLow W ms → r.sound ≡ true
-  pub live : r.sound ≡ true → r.live ≡ live ms
-  pub leaving : r.sound ≡ true → (ts : List ℕ) → r.leaving ≡ leaving_unmarked (graph os ts) ms
+-- what marks come to of which none is above W
+pub record MarksSound (W : ℕ) (os ms : List ℕ) (r : Counted) : Type 0 where
+  pub right : MarksLow W ms
+  pub counted : MarksCounted os ms r
+
+-- what `check_marks` says: nothing exactly where one is
+abbrev pub MarksFound : ℕ → List ℕ → List ℕ → Option Counted → Type 0
+MarksFound W os ms r = MatchOption r (¬ MarksLow W ms) (MarksSound W os ms)
 
 -- the starts are objects
 abbrev pub StartsBelow : List ℕ → ℕ → Type 0
@@ -63,11 +57,14 @@ StartsMarked starts ms = (i : ℕ) → i < length starts → Marked ms (get_or s
 abbrev pub distinct : ℕ → List ℕ → ℕ
 distinct n vs = span (λ (v : ℕ). set? (sum (hit v) vs)) 0 n
 
--- what `check_starts` and `count_starts` say
-pub record StartsFound (starts ms : List ℕ) (r : Starts) : Type 0 where
-  pub right : r.sound ≡ true → StartsMarked starts ms
-  pub known : StartsMarked starts ms → r.sound ≡ true
-  pub distinct : r.sound ≡ true → r.distinct ≡ distinct (length ms) starts
+-- that many objects the starts are, all of which are marked
+pub record StartsCounted (starts ms : List ℕ) (k : ℕ) : Type 0 where
+  pub right : StartsMarked starts ms
+  pub distinct : k ≡ distinct (length ms) starts
+
+-- what `check_starts` and `count_starts` say: nothing exactly where one is not marked
+abbrev pub StartsFound : List ℕ → List ℕ → Option ℕ → Type 0
+StartsFound starts ms r = MatchOption r (¬ StartsMarked starts ms) (StartsCounted starts ms)
 
 -- ---- the targets, of the references in a window; the bits are those of the references from base on
 

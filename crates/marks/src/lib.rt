@@ -3,10 +3,10 @@
 // bit each in local words. The references are looked at in windows.
 #![tactic(auto)]
 
-ghost use Rattle.std.specs.Prelude.{true, ◌≡◌, ◌≤◌, length};
+ghost use Rattle.std.specs.Prelude.{true, ◌≡◌, ◌≤◌, MatchBool, length};
 ghost use Rattle.laws.specs.Decides.{Decides};
 ghost use Rattle.graph.specs.Limits.{most_objects};
-ghost use Rattle.marks.specs.Marks.{MarksThere, Unset, MarksCounted, MarksFound, StartsBelow, StartsThere, StartsFound, TargetsInside, TargetsThere, RowMarked, PartMarked, RowEnd, GapEnd, PartsThere, AllMarked};
+ghost use Rattle.marks.specs.Marks.{MarksThere, MarksCounted, MarksFound, StartsBelow, StartsThere, StartsFound, TargetsInside, TargetsThere, RowMarked, PartMarked, RowEnd, GapEnd, PartsThere, AllMarked};
 
 use slices::bits;
 
@@ -14,20 +14,10 @@ use slices::bits;
 const OBJECT_WORDS: usize = graph::MOST_OBJECTS / bits::WORD as usize;
 
 // What marks come to: how many are set, and how many references leave unmarked objects.
-#[derive(Clone, Copy)]
+#[derive(Clone, Copy, Debug, PartialEq, Eq)]
 pub struct Counted {
     pub live: u64,
     pub leaving: u64,
-}
-
-// 1 for an object that is not marked.
-fn unset(mark: u32) -> u32
-    ensures { Unset mark result }
-{
-    if mark == 0 {
-        return 1;
-    }
-    0
 }
 
 // What counts is worked out and no jump depends on a mark, and the sums are words, so that the processor takes several objects at
@@ -38,80 +28,46 @@ fn count_marks(offsets: &[u32], marks: &[u32]) -> Counted
 {
     let mut live: u32 = 0;
     let mut leaving: u32 = 0;
-    for v in 0..marks.len() {
-        let from = offsets[v];
-        let to = offsets[v + 1];
-        let none = unset(marks[v]);
-        leaving += (to - from) * none;
+    for (v, mark) in marks.iter().enumerate() {
+        let none = u32::from(*mark == 0);
+        leaving += (offsets[v + 1] - offsets[v]) * none;
         live += 1 - none;
     }
     Counted {
-        live: live as u64,
-        leaving: leaving as u64,
+        live: u64::from(live),
+        leaving: u64::from(leaving),
     }
 }
 
-// The same, where they are sound.
-#[derive(Clone, Copy)]
-pub struct Marks {
-    pub sound: bool,
-    pub live: u64,
-    pub leaving: u64,
-}
-
-// Whether no mark is above the number of workers.
-pub fn check_marks(offsets: &[u32], marks: &[u32], workers: u32) -> Marks
+// The same, where no mark is above the number of workers; else nothing.
+pub fn check_marks(offsets: &[u32], marks: &[u32], workers: u32) -> Option<Counted>
     requires { MarksThere offsets.now marks.now }
     ensures { MarksFound workers offsets.now marks.now result }
 {
     if !graph::is_below(workers as usize + 1, marks) {
-        return Marks {
-            sound: false,
-            live: 0,
-            leaving: 0,
-        };
+        return None;
     }
-    let counted = count_marks(offsets, marks);
-    Marks {
-        sound: true,
-        live: counted.live,
-        leaving: counted.leaving,
-    }
+    Some(count_marks(offsets, marks))
 }
 
-// What the starts come to: how many objects they are.
-#[derive(Clone, Copy)]
-pub struct Starts {
-    pub sound: bool,
-    pub distinct: u64,
-}
-
-// Whether all starts are marked; they are counted by a set of objects that is empty at first.
-fn count_starts(starts: &[u32], marks: &[u32], seen: &mut [u32]) -> Starts
+// How many objects the starts are, where all of them are marked; they are counted by a set of objects that is empty at first.
+fn count_starts(starts: &[u32], marks: &[u32], seen: &mut [u32]) -> Option<u64>
     requires { StartsThere starts.now marks.now seen.old }
     ensures { StartsFound starts.now marks.now result }
 {
-    let mut distinct: u64 = 0;
-    for i in 0..starts.len() {
-        let v = starts[i];
-        if marks[v as usize] == 0 {
-            return Starts {
-                sound: false,
-                distinct: 0,
-            };
+    let mut distinct = 0;
+    for start in starts {
+        if marks[*start as usize] == 0 {
+            return None;
         }
-        if bits::insert(seen, v) {
-            distinct += 1;
-        }
+        distinct += u64::from(bits::insert(seen, *start));
     }
-    Starts {
-        sound: true,
-        distinct,
-    }
+    Some(distinct)
 }
 
 // The same, with such a set; it is small where there are few objects.
-pub fn check_starts(starts: &[u32], marks: &[u32]) -> Starts
+// Stays (2): the arms differ in the size of the set alone, and one function with that size would be called in the same two arms.
+pub fn check_starts(starts: &[u32], marks: &[u32]) -> Option<u64>
     requires { StartsBelow starts.now (length marks.now) × (length marks.now ≤ most_objects) }
     ensures { StartsFound starts.now marks.now result }
 {
@@ -124,7 +80,7 @@ pub fn check_starts(starts: &[u32], marks: &[u32]) -> Starts
 }
 
 // A window: the references from one up to another, and the objects that they leave, from one up to another.
-#[derive(Clone, Copy)]
+#[derive(Clone, Copy, Debug, PartialEq, Eq)]
 pub struct Window {
     pub from: u32,
     pub to: u32,
@@ -137,17 +93,14 @@ const ROW: u32 = 128;
 
 // Whether each of the references from one to another has a marked target. Looks at all of them, so that no jump depends on a mark.
 fn row_marked(targets: &[u32], marks: &[u32], from: u32, to: u32) -> bool
-    requires { TargetsInside targets.now marks.now to }
+    requires { TargetsInside targets.now marks.now to × (from ≤ to) }
     ensures { result ≡ true → RowMarked targets.now marks.now from to }
 {
-    let mut wrong: u32 = 0;
-    for e in from..to {
-        let object = targets[e as usize];
-        if marks[object as usize] == 0 {
-            wrong = 1;
-        }
+    let mut all = true;
+    for target in &targets[from as usize..to as usize] {
+        all &= marks[*target as usize] != 0;
     }
-    wrong == 0
+    all
 }
 
 // Whether each of the references from one to another that nobody carries has a marked target. The set has
@@ -165,10 +118,8 @@ fn part_marked(
 {
     for e in from..to {
         let target = targets[e as usize];
-        if marks[target as usize] == 0 {
-            if !bits::contains(carried, e - base) {
-                return false;
-            }
+        if marks[target as usize] == 0 && !bits::contains(carried, e - base) {
+            return false;
         }
     }
     true
@@ -186,47 +137,31 @@ fn rows_marked(
     requires { TargetsThere targets.now marks.now carried.now base to × (base ≤ from) }
     ensures { Decides result (PartMarked targets.now marks.now carried.now base from to) }
 {
+    // Stays (3): each row's end is worked out from what is left, and a for over step_by asks for the same end and the same measure.
     let mut e = from;
     while e < to {
-        let next = e + slices::smaller(ROW, to - e);
-        if !row_marked(targets, marks, e, next) {
-            if !part_marked(targets, marks, carried, base, e, next) {
-                return false;
-            }
+        let next = e + ROW.min(to - e);
+        if !row_marked(targets, marks, e, next)
+            && !part_marked(targets, marks, carried, base, e, next)
+        {
+            return false;
         }
         e = next;
     }
     true
 }
 
-// The first object from v on that is not marked, or the last one's end.
-fn row_end(marks: &[u32], v: usize, last: usize) -> usize
+// The first object from v on that is not marked, or that is, as is asked; or the last one's end.
+fn alike_end(marks: &[u32], v: usize, last: usize, marked: bool) -> usize
     requires { (v ≤ last) × (last ≤ length marks.now) }
-    ensures { RowEnd marks.now v last result }
+    ensures { MatchBool marked (RowEnd marks.now v last result) (GapEnd marks.now v last result) }
 {
-    let mut u = v;
-    while u < last {
-        if marks[u] == 0 {
+    for u in v..last {
+        if (marks[u] != 0) != marked {
             return u;
         }
-        u += 1;
     }
-    u
-}
-
-// The first object from v on that is marked, or the last one's end.
-fn gap_end(marks: &[u32], v: usize, last: usize) -> usize
-    requires { (v ≤ last) × (last ≤ length marks.now) }
-    ensures { GapEnd marks.now v last result }
-{
-    let mut u = v;
-    while u < last {
-        if marks[u] != 0 {
-            return u;
-        }
-        u += 1;
-    }
-    u
+    last
 }
 
 // The same for the references of all marked objects that lie in a window. Marked objects in a row are looked at together.
@@ -242,18 +177,18 @@ pub fn targets_marked(
 {
     let base = window.from;
     let end = window.to;
-    let first = window.first;
     let last = window.last;
     let mut from = base;
-    let mut v = first;
+    let mut v = window.first;
+    // Stays (3): each round passes as many objects as are alike, and no iterator of std lends both what it passed and where it is.
     while v < last {
-        let next = row_end(marks, v, last);
-        let to = slices::smaller(end, offsets[next]);
+        let next = alike_end(marks, v, last, true);
+        let to = end.min(offsets[next]);
         if !rows_marked(targets, marks, carried, base, from, to) {
             return false;
         }
-        v = gap_end(marks, next, last);
-        from = slices::larger(from, offsets[v]);
+        v = alike_end(marks, next, last, false);
+        from = from.max(offsets[v]);
     }
     rows_marked(targets, marks, carried, base, from, end)
 }

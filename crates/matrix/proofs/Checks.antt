@@ -1,17 +1,17 @@
 -- The checks of a text in their order, and what import and the call for the counts answer at each exit.
 use mathlib.Core.Path.{◌≡◌, refl, ap, sym, ◌∙◌}
-use mathlib.Core.Bool.{Bool, true, false, not, ◌||◌}
+use mathlib.Core.Bool.{Bool, true, false, not}
 use mathlib.Core.List.{List, [], ◌∷◌, map}
 use Prim.Native.Nat.{ℕ, suc, ◌+◌}
-use lib.Dec.{leb, ltb, eqb}
+use lib.Dec.{leb, ltb}
 use lib.ListN.{length, drop, replicate, length-replicate, length-map}
 use native.Mathlib.Omega.{arith}
-use borrow.Author.Tests.{eqb-true, leb-true, ltb-true, not-false}
+use borrow.Author.Tests.{eq-eqb, ne_eqb, leb-true, ltb-true, not-false}
 use Rattle.laws.specs.Every.{Every}
 use Rattle.laws.specs.Grouping.{grouped, starts}
 use Rattle.laws.specs.Test.{all}
 use Rattle.laws.proofs.Test.{both_true}
-use Rattle.refusal.proofs.None.{or_none, raise_none}
+use Rattle.refusal.proofs.None.{raise_none}
 use Rattle.graph.proofs.Formed.{well_formed_lem}
 use Rattle.graph.proofs.Grouped.{grouped_graph, Inside, grouped_formed}
 use Rattle.records.specs.Store.{Pair, refers, stored, objects, references, pairs as store_pairs}
@@ -19,82 +19,67 @@ use Rattle.records.specs.Reading.{Reading, judged}
 use Rattle.catalogue.specs.Answer.{refusal_row, offsets_after, targets_after, sizes_after}
 use Rattle.records.specs.Fill.{from_of, to_of}
 use Rattle.desk.specs.Checks.{counts_outside}
-use Rattle.desk.proofs.Checks.{counts_low}
 use Rattle.matrix.specs.Reading.{is_head, is_text, are_lines, pairs_in, rows, entries, lines_in, pairs}
 use Rattle.matrix.specs.Import.{from_zero, store_of, within, is_inside, inside, fault, head_fault, head_row, misfits, lent_to, lent, taken, answer_of, Imports}
-use Rattle.matrix.specs.Steps.{HeadOf, BodyAt, Fillable}
+use Rattle.matrix.specs.Steps.{HeadOf, BodyAt}
 use Rattle.matrix.proofs.Filling.{length_pairs}
 
 -- ---- the call for the counts
 
-module _ {text : List ℕ} {good : Bool} {n m next : ℕ} (a : HeadOf text good n m next) where
-  pub header_text : good ≡ false → refusal_row 18 ≡ head_row text
+pub header_text : (text : List ℕ) → is_head text ≡ false → refusal_row 18 ≡ head_row text
+unfolding head_fault
+header_text text e = rw e
+
+module _ {text : List ℕ} {n m next : ℕ} (a : HeadOf text n m next) where
+  counts_are : {t : Bool} → counts_outside n m ≡ t → counts_outside (rows text) (entries text) ≡ t
+  counts_are o = rw (← a.rows_is, ← a.entries_is) o
+
+  pub header_counts : counts_outside n m ≡ true → refusal_row 4 ≡ head_row text
   unfolding head_fault
-  header_text e = rw (sym a.good_is ∙ e)
+  header_counts o = rw (a.good, counts_are o)
 
-  module _ (e : good ≡ true) where
-    its_head : is_head text ≡ true
-    its_head = sym a.good_is ∙ e
-
-    its_counts : {t : Bool} → counts_outside n m ≡ t → counts_outside (rows text) (entries text) ≡ t
-    its_counts o = rw (← a.rows_is e, ← a.entries_is e) o
-
-    pub header_counts : counts_outside n m ≡ true → refusal_row 4 ≡ head_row text
-    unfolding head_fault
-    header_counts o = rw (its_head, its_counts o)
-
-    pub header_read : counts_outside n m ≡ false → record { refusal = 0; n = n; m = m; index = 0 } ≡ head_row text
-    unfolding head_fault
-    header_read o = rw (its_head, its_counts o, ← a.rows_is e, ← a.entries_is e)
+  pub header_read : counts_outside n m ≡ false → record { refusal = 0; n = n; m = m; index = 0 } ≡ head_row text
+  unfolding head_fault
+  header_read o = rw (a.good, counts_are o, ← a.rows_is, ← a.entries_is)
 
 -- ---- import
 
-module _ {text : List ℕ} {good : Bool} {n m next : ℕ} (a : HeadOf text good n m next) where
-  pub fault_head : good ≡ false → fault text ≡ 18
+pub fault_head : (text : List ℕ) → is_head text ≡ false → fault text ≡ 18
+unfolding fault is_text
+fault_head text e = rw e
+
+module _ {text : List ℕ} {n m next : ℕ} (a : HeadOf text n m next) where
+  lines_are : are_lines (entries text) (lines_in text) ≡ are_lines m (drop next text)
+  lines_are = ap (λ (k : ℕ). are_lines k (lines_in text)) (sym a.entries_is) ∙ ap (are_lines m) (sym a.next_is)
+
+  pub fault_lines : are_lines m (drop next text) ≡ false → fault text ≡ 18
   unfolding fault is_text
-  fault_head e = rw (sym a.good_is ∙ e)
+  fault_lines r = rw (a.good, lines_are ∙ r)
 
-  module _ (e : good ≡ true) {right fits : Bool} (b : BodyAt text next n m right fits) where
-    its_lines : are_lines (entries text) (lines_in text) ≡ right
-    its_lines = ap (λ (k : ℕ). are_lines k (lines_in text)) (sym (a.entries_is e)) ∙ ap (are_lines m) (sym (a.next_is e)) ∙ sym b.good_is
+  module _ {fits : Bool} (b : BodyAt text next n m fits) where
+    its_text : is_text text ≡ true
+    unfolding is_text
+    its_text = rw a.good (lines_are ∙ b.good)
 
-    pub fault_lines : right ≡ false → fault text ≡ 18
-    unfolding fault is_text
-    fault_lines r = rw (sym a.good_is ∙ e, its_lines ∙ r)
+    pub fault_counts : counts_outside n m ≡ true → fault text ≡ 4
+    unfolding fault
+    fault_counts o = rw (its_text, counts_are a o)
 
-    module _ (r : right ≡ true) where
-      its_text : is_text text ≡ true
-      unfolding is_text
-      its_text = rw (sym a.good_is ∙ e) (its_lines ∙ r)
+    pub pairs_are : pairs text ≡ pairs_in m (drop next text)
+    unfolding pairs
+    pairs_are = ap (λ (k : ℕ). pairs_in k (lines_in text)) (sym a.entries_is) ∙ ap (pairs_in m) (sym a.next_is)
 
-      counts_are : {t : Bool} → counts_outside n m ≡ t → counts_outside (rows text) (entries text) ≡ t
-      counts_are o = rw (← a.rows_is e, ← a.entries_is e) o
+    its_objects : inside (rows text) (pairs text) ≡ fits
+    its_objects = ap (λ (k : ℕ). inside k (pairs text)) (sym a.rows_is) ∙ ap (inside n) pairs_are ∙ sym b.fits_is
 
-      pub fault_counts : counts_outside n m ≡ true → fault text ≡ 4
+    module _ (o : counts_outside n m ≡ false) where
+      pub fault_objects : fits ≡ false → fault text ≡ 5
       unfolding fault
-      fault_counts o = rw (its_text, counts_are o)
+      fault_objects f = rw (its_text, counts_are a o, its_objects ∙ f)
 
-      pub pairs_are : pairs text ≡ pairs_in m (drop next text)
-      unfolding pairs
-      pairs_are = ap (λ (k : ℕ). pairs_in k (lines_in text)) (sym (a.entries_is e)) ∙ ap (pairs_in m) (sym (a.next_is e))
-
-      its_objects : inside (rows text) (pairs text) ≡ fits
-      its_objects = ap (λ (k : ℕ). inside k (pairs text)) (sym (a.rows_is e)) ∙ ap (inside n) pairs_are ∙ sym (b.fits_is r)
-
-      module _ (o : counts_outside n m ≡ false) where
-        pub fault_objects : fits ≡ false → fault text ≡ 5
-        unfolding fault
-        fault_objects f = rw (its_text, counts_are o, its_objects ∙ f)
-
-        module _ (f : fits ≡ true) where
-          pub fault_none : fault text ≡ 0
-          unfolding fault
-          fault_none = rw (its_text, counts_are o, its_objects ∙ f)
-
-          pub fillable : Fillable text next n m
-          fillable =
-              let k = counts_low n m o in
-              record { there = a.there; lines = sym b.good_is ∙ r; fits = sym (b.fits_is r) ∙ f; few = k.1; few_lines = k.2 }
+      pub fault_none : fits ≡ true → fault text ≡ 0
+      unfolding fault
+      fault_none f = rw (its_text, counts_are a o, its_objects ∙ f)
 
 -- ---- the store of a text
 
@@ -187,8 +172,14 @@ module _ (text os ts ss : List ℕ) where
         }
 
 -- the lent lengths
-pub lengths_are : (n m o t s : ℕ) → misfits n m o t s ≡ false → (o ≡ n + 1) × ((t ≡ m) × (s ≡ n))
-lengths_are n m o t s h =
-    let a = or_none (not (eqb o (n + 1)) || not (eqb t m)) (not (eqb s n)) h in
-    let b = or_none (not (eqb o (n + 1))) (not (eqb t m)) a.0 in
-    (eqb-true o (n + 1) (not-false _ b.0), (eqb-true t m (not-false _ b.1), eqb-true s n (not-false _ a.1)))
+pub lengths_fit : (n m o t s : ℕ) → o ≡ n + 1 → t ≡ m → s ≡ n → misfits n m o t s ≡ false
+lengths_fit n m o t s e f g = rw (eq-eqb o (n + 1) e, eq-eqb t m f, eq-eqb s n g)
+
+pub offsets_unfit : (n m o t s : ℕ) → (o ≡ n + 1 → ⊥) → misfits n m o t s ≡ true
+offsets_unfit n m o t s e = rw (ne_eqb o (n + 1) e)
+
+pub targets_unfit : (n m o t s : ℕ) → o ≡ n + 1 → (t ≡ m → ⊥) → misfits n m o t s ≡ true
+targets_unfit n m o t s e f = rw (eq-eqb o (n + 1) e, ne_eqb t m f)
+
+pub sizes_unfit : (n m o t s : ℕ) → o ≡ n + 1 → t ≡ m → (s ≡ n → ⊥) → misfits n m o t s ≡ true
+sizes_unfit n m o t s e f g = rw (eq-eqb o (n + 1) e, eq-eqb t m f, ne_eqb s n g)

@@ -18,7 +18,6 @@ use Rattle.laws.proofs.Every.{every_append}
 use Rattle.laws.proofs.Test.{both_is}
 use Rattle.laws.proofs.Grouping.{map_append, length_starts, get_or_starts}
 use Rattle.laws.proofs.Ordered.{grouped_is, below_is}
-use Rattle.refusal.proofs.None.{first_none}
 use Rattle.graph.specs.Graph.{Graph, graph, objects, references, first, after, references_of}
 use Rattle.graph.specs.Formed.{Formed}
 use Rattle.graph.specs.Limits.{most_objects, most_references}
@@ -31,7 +30,7 @@ use Rattle.desk.specs.Checks.{graph_faults}
 use Rattle.matrix.specs.Layout.{banner, space, feed, stopped, Digit, Numeral, value_from, value, Written, pair_line, Numerals, File, text_of, Proper}
 use Rattle.matrix.specs.Reading.{is_text, rows, entries, pairs}
 use Rattle.matrix.specs.Import.{from_zero, store_of, is_inside, inside, fault}
-use Rattle.matrix.specs.Export.{pairs_from, pairs_below, line_of, exported, export_fault}
+use Rattle.matrix.specs.Export.{pairs_from, pairs_below, line_of, exported}
 use Rattle.matrix.specs.Promise.{values_of, Says, Returns}
 use Rattle.matrix.specs.Steps.{pair_at, Exportable}
 use Rattle.matrix.proofs.Decimals.{one_digit, more_digits, one_more}
@@ -307,7 +306,7 @@ module _ (G : Graph) (X : Exportable G) where
       ∙ ap (λ (l : List Pair). map to_of (grouped from_of (objects G) l)) store_pairs_lem ∙ targets_are
 
 -- importing an export gives the same offsets and targets
-returns : (os ts : List ℕ) → graph_faults os ts ≡ 0 → Returns os ts
+pub returns : (os ts : List ℕ) → graph_faults os ts ≡ 0 → Returns os ts
 returns os ts z =
     let X = exportable os ts z in
     record {
@@ -315,9 +314,3 @@ returns os ts z =
       offsets_are = offsets_again (graph os ts) X;
       targets_are = targets_again (graph os ts) X;
     }
-
--- the same of a call that found no fault
-pub promised : (os ts : List ℕ) (bytes : ℕ) {k : ℕ} {P : Type 0} → (k ≡ export_fault os ts bytes) × P
-    → (k ≡ export_fault os ts bytes) × (P × (k ≡ 0 → Returns os ts))
-unfolding export_fault
-promised os ts bytes a = (a.0, (a.1, λ z. returns os ts (first_none (graph_faults os ts) _ (sym a.0 ∙ z)).0))

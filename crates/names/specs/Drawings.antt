@@ -3,7 +3,7 @@ use Rattle.std.specs.Prelude.{◌≡◌, refl, Bool, true, false, List, [], ◌�
 use Rattle.laws.specs.Blocks.{laid}
 use Rattle.laws.specs.Test.{all, all_up_to, same}
 use Rattle.graph.specs.Graph.{all_below}
-use Rattle.names.specs.Names.{Names, names_of, is_digit, order, ascends}
+use Rattle.names.specs.Names.{Names, names_of, is_digit, ascends}
 use Rattle.names.specs.Mentions.{named_from, mentions, texts_from, targets, sources}
 use Rattle.names.specs.Call.{Texts, texts_of, from, to, work_word_count, blank, ends_right, fault, scan_fault}
 
@@ -91,12 +91,12 @@ givens =
     ∷ []
 
 pub givens_hold : map (λ (g : Given). fault g.n g.names g.texts g.ready) givens ≡ map (λ (g : Given). g.number) givens
-unfolding fault ends_right all_below ascends order all_up_to all
+unfolding fault ends_right all_below ascends all_up_to all
 givens_hold = refl
 
 -- lists of the right length, one too short, one too long; and behind another fault
 pub lists_drawn : scan_fault 3 N T true 3 3 ∷ scan_fault 3 N T true 2 3 ∷ scan_fault 3 N T true 3 4 ∷ scan_fault 3 (nameless 0) T true 9 9 ∷ [] ≡ 0 ∷ 7 ∷ 7 ∷ 19 ∷ []
-unfolding scan_fault fault ends_right all_below ascends order all_up_to all targets laid mentions named_from same texts_from
+unfolding scan_fault fault ends_right all_below ascends all_up_to all targets laid mentions named_from same texts_from
 lists_drawn = refl
 
 -- work of another length, a word of it that is not 0, and work that is blank

@@ -1,5 +1,6 @@
 pub mod Names
 pub mod Mentions
 pub mod Call
+pub mod Lent
 pub mod Occurs
 pub mod Drawings

@@ -1,9 +1,10 @@
 -- SPECIFICATION 14.1: names, each w bytes long, laid end to end; each names one object.
-use Rattle.std.specs.Prelude.{Bool, true, false, List, [], ◌∷◌, ℕ, suc, ◌*◌, ◌-◌, length, take, drop, leb, ltb}
+use Rattle.std.specs.Prelude.{Bool, List, ℕ, suc, ◌*◌, ◌-◌, length, take, drop, leb}
+use Rattle.std.specs.declared.cmp.Ordering.{Ordering}
+use Rattle.std.specs.Ordering.{nat_cmp, is_lt}
+use Rattle.std.specs.Cmp.Lexicographic.{slice_cmp}
 use Rattle.laws.specs.Choice.{both, either}
 use Rattle.laws.specs.Test.{all, all_up_to}
-use Rattle.names.specs.declared.Order.{Order}
-use Rattle.names.specs.declared.Order.TheVariants.{Below, Same, Above}
 
 -- what is lent as names: their width, their bytes, and the object that each of them names
 pub record Names : Type 0 where
@@ -31,26 +32,13 @@ abbrev pub is_digit : ℕ → Bool
 is_digit b = either (both (leb 48 b) (leb b 57)) (both (leb 97 b) (leb b 102))
 
 -- the first byte in which two names differ decides
-abbrev pub order_by : Bool → Bool → Order → Order
-order_by true q later = Below
-order_by false true later = Above
-order_by false false later = later
-
-unfoldable pub order : List ℕ → List ℕ → Order
-order [] [] = Same
-order [] (b ∷ m) = Below
-order (a ∷ l) [] = Above
-order (a ∷ l) (b ∷ m) = order_by (ltb a b) (ltb b a) (order l m)
-
-abbrev pub is_below : Order → Bool
-is_below Below = true
-is_below Same = false
-is_below Above = false
+abbrev pub order : List ℕ → List ℕ → Ordering
+order = slice_cmp nat_cmp
 
 -- each of so many names is below the one after it, so they ascend and are distinct
 unfoldable pub ascends : List ℕ → ℕ → ℕ → Bool
-unfolding all_up_to order
-ascends bytes w k = all_up_to (k - 1) (λ (i : ℕ). is_below (order (window w bytes (i * w)) (window w bytes (suc i * w))))
+unfolding all_up_to
+ascends bytes w k = all_up_to (k - 1) (λ (i : ℕ). is_lt (order (window w bytes (i * w)) (window w bytes (suc i * w))))
 
 abbrev pub ascending : Names → Bool
 ascending N = ascends N.bytes N.width (count N)

@@ -1,12 +1,12 @@
 // The text of a Matrix Market file (SPECIFICATION 13) read from the front: its first line, the counts, the
 // lines of pairs. Nothing is written.
+// Stays (5): a text and a place in it; a struct of both is no plainer, since what is said of a place names the two (`matrix` `Steps`).
 #![tactic(auto)]
 
-ghost use Rattle.std.specs.Prelude.{◌≡◌, true, false, ◌+◌, ◌≤◌, ◌<◌, length, drop};
-ghost use Rattle.matrix.specs.Layout.{banner};
-ghost use Rattle.matrix.specs.Reading.{begins, skip};
-ghost use Rattle.matrix.specs.Import.{within, is_inside};
-ghost use Rattle.matrix.specs.Steps.{pair_at, LineEnd, Digit, Digits, four_value, FieldAt, LineAt, HeadOf, BodyAt};
+ghost use Rattle.std.specs.Prelude.{◌≡◌, true, false, ◌+◌, ◌≤◌, ◌<◌, length, drop, MatchOption, IfSome};
+ghost use Rattle.matrix.specs.Reading.{skip, stops, is_line, is_head, are_lines};
+ghost use Rattle.matrix.specs.Import.{is_inside};
+ghost use Rattle.matrix.specs.Steps.{pair_at, LineEnd, Digits, four_value, FieldAt, LineAt, HeadOf, BodyAt};
 
 use matrix::BANNER;
 
@@ -17,86 +17,32 @@ const FEED: u8 = 10;
 
 const PERCENT: u8 = 37;
 
-// The digits 0 and 9, and the most digits of a number.
+// The digit 0, and the most digits of a number.
 const ZERO: u8 = 48;
-
-const NINE: u8 = 57;
 
 const MOST_DIGITS: usize = 10;
 
-// A number with the wanted byte behind it, and the place behind that byte; or not good.
+// A number, and the place behind the byte that ends it.
 #[derive(Clone, Copy)]
 pub struct Field {
-    pub good: bool,
     pub value: u64,
     pub next: usize,
 }
 
-const NO_FIELD: Field = Field {
-    good: false,
-    value: 0,
-    next: 0,
-};
-
-// A line of a pair, as it is written, and the place behind it; or not good.
+// A line of a pair, as it is written, and the place behind it.
 #[derive(Clone, Copy)]
 pub struct Line {
-    pub good: bool,
     pub from: u64,
     pub to: u64,
     pub next: usize,
 }
 
-const NO_LINE: Line = Line {
-    good: false,
-    from: 0,
-    to: 0,
-    next: 0,
-};
-
-// The counts, and the place of the first pair; or not good.
+// The counts, and the place of the first pair.
 #[derive(Clone, Copy)]
 pub struct Head {
-    pub good: bool,
     pub rows: u64,
     pub entries: u64,
     pub next: usize,
-}
-
-const NO_HEAD: Head = Head {
-    good: false,
-    rows: 0,
-    entries: 0,
-    next: 0,
-};
-
-// Whether all lines are lines of pairs, and whether each number is 1 to n.
-#[derive(Clone, Copy)]
-pub struct Body {
-    pub good: bool,
-    pub fits: bool,
-}
-
-// A byte's number.
-fn wide(b: u8) -> u64
-    ensures { result ≡ b }
-{
-    b as u64
-}
-
-// Whether a text begins with the first line.
-fn begins_right(text: &[u8]) -> bool
-    ensures { result ≡ begins banner text.now }
-{
-    if text.len() < BANNER.len() {
-        return false;
-    }
-    for i in 0..BANNER.len() {
-        if text[i] != BANNER[i] {
-            return false;
-        }
-    }
-    true
 }
 
 // The place behind the next line feed, or the end of the text.
@@ -104,14 +50,10 @@ fn behind_line(text: &[u8], from: usize) -> usize
     requires { from ≤ length text.now }
     ensures { LineEnd text.now from result }
 {
-    let mut at = from;
-    while at < text.len() {
-        if text[at] == FEED {
-            return at + 1;
-        }
-        at += 1;
+    match text[from..].iter().position(|b| *b == FEED) {
+        Some(k) => from + k + 1,
+        None => text.len(),
     }
-    at
 }
 
 // The place behind all lines from a place on that begin with %.
@@ -120,39 +62,19 @@ fn skip_lines(text: &[u8], from: usize) -> usize
     ensures text_value { drop result text.now ≡ skip false (drop from text.now) }
     ensures upper_bound { result ≤ length text.now }
 {
+    // Stays (3): the loop goes from line to line, and how far a step goes the line says.
     let mut at = from;
-    while at < text.len() {
-        if text[at] != PERCENT {
-            return at;
-        }
+    while at < text.len() && text[at] == PERCENT {
         at = behind_line(text, at + 1);
     }
     at
 }
 
-// Whether a byte is a digit, and whether four are.
-fn is_digit(b: u8) -> bool
-    ensures { result ≡ true → Digit b }
-{
-    if b < ZERO {
-        return false;
-    }
-    b <= NINE
-}
-
+// Whether four bytes are digits.
 fn are_digits(a: u8, b: u8, c: u8, d: u8) -> bool
     ensures { result ≡ true → Digits a b c d }
 {
-    if !is_digit(a) {
-        return false;
-    }
-    if !is_digit(b) {
-        return false;
-    }
-    if !is_digit(c) {
-        return false;
-    }
-    is_digit(d)
+    a.is_ascii_digit() && b.is_ascii_digit() && c.is_ascii_digit() && d.is_ascii_digit()
 }
 
 // The number of four digits.
@@ -160,15 +82,15 @@ fn four_value(a: u8, b: u8, c: u8, d: u8) -> u64
     requires { Digits a b c d }
     ensures { (result ≡ four_value a b c d) × (result < 10000) }
 {
-    let high = wide(a - ZERO) * 10 + wide(b - ZERO);
-    (high * 10 + wide(c - ZERO)) * 10 + wide(d - ZERO)
+    let high = u64::from(a - ZERO) * 10 + u64::from(b - ZERO);
+    (high * 10 + u64::from(c - ZERO)) * 10 + u64::from(d - ZERO)
 }
 
-// A number of four or five digits with the wanted byte behind it, as most are: their bytes are looked at all at once. Anything else is not
-// good here.
-fn short_field(text: &[u8], at: usize, stop: u8) -> Field
+// A number of four or five digits with the wanted byte behind it, as most are: their bytes are looked at all at once. Of anything else
+// nothing is said.
+fn short_field(text: &[u8], at: usize, stop: u8) -> Option<Field>
     requires { (at + 6 ≤ length text.now) × (stop < 48) }
-    ensures { result.good ≡ true → FieldAt text.now at stop true result.value result.next × (result.next ≤ at + 6) }
+    ensures { IfSome result (λ f. FieldAt text.now at stop f.value f.next × (f.next ≤ at + 6)) }
 {
     let a = text[at];
     let b = text[at + 1];
@@ -176,109 +98,85 @@ fn short_field(text: &[u8], at: usize, stop: u8) -> Field
     let d = text[at + 3];
     let e = text[at + 4];
     if !are_digits(a, b, c, d) {
-        return NO_FIELD;
+        return None;
     }
     let four = four_value(a, b, c, d);
     if e == stop {
-        return Field {
-            good: true,
+        return Some(Field {
             value: four,
             next: at + 5,
-        };
+        });
     }
-    if !is_digit(e) {
-        return NO_FIELD;
+    if !e.is_ascii_digit() || text[at + 5] != stop {
+        return None;
     }
-    if text[at + 5] != stop {
-        return NO_FIELD;
-    }
-    Field {
-        good: true,
-        value: four * 10 + wide(e - ZERO),
+    Some(Field {
+        value: four * 10 + u64::from(e - ZERO),
         next: at + 6,
-    }
+    })
 }
 
-// The number at a place, and whether the byte behind its digits is the wanted one.
-fn field_at(text: &[u8], at: usize, stop: u8) -> Field
+// The number at a place, if the byte behind its digits is the wanted one.
+fn field_at(text: &[u8], at: usize, stop: u8) -> Option<Field>
     requires { (at ≤ length text.now) × ((0 < stop) × (stop < 48)) }
-    ensures { FieldAt text.now at stop result.good result.value result.next }
+    ensures { MatchOption result (stops stop (drop at text.now) ≡ false) (λ f. FieldAt text.now at stop f.value f.next) }
 {
     let mut value: u64 = 0;
-    let mut i = at;
-    while i < text.len() {
-        let b = text[i];
-        if b < ZERO {
-            if b != stop {
-                return NO_FIELD;
+    for (k, b) in text[at..].iter().enumerate() {
+        if !b.is_ascii_digit() {
+            if *b != stop || k == 0 {
+                return None;
             }
-            if i == at {
-                return NO_FIELD;
-            }
-            return Field {
-                good: true,
+            return Some(Field {
                 value,
-                next: i + 1,
-            };
+                next: at + k + 1,
+            });
         }
-        if NINE < b {
-            return NO_FIELD;
+        if k == MOST_DIGITS {
+            return None;
         }
-        if i - at == MOST_DIGITS {
-            return NO_FIELD;
-        }
-        value = value * 10 + wide(b - ZERO);
-        i += 1;
+        value = value * 10 + u64::from(*b - ZERO);
     }
-    NO_FIELD
+    None
 }
 
 // The line of a pair at a place, number by number.
-fn any_line(text: &[u8], at: usize) -> Line
+fn any_line(text: &[u8], at: usize) -> Option<Line>
     requires { at ≤ length text.now }
-    ensures { LineAt text.now at result.good result.from result.to result.next }
+    ensures { MatchOption result (is_line (drop at text.now) ≡ false) (λ l. LineAt text.now at l.from l.to l.next) }
 {
-    let from = field_at(text, at, SPACE);
-    if !from.good {
-        return NO_LINE;
-    }
-    let middle = from.next;
-    let to = field_at(text, middle, FEED);
-    Line {
-        good: to.good,
+    let from = field_at(text, at, SPACE)?;
+    let to = field_at(text, from.next, FEED)?;
+    Some(Line {
         from: from.value,
         to: to.value,
         next: to.next,
-    }
+    })
 }
 
-// The line of a pair whose numbers have four or five digits. Anything else is not good here.
-fn short_line(text: &[u8], at: usize) -> Line
+// The line of a pair whose numbers have four or five digits. Of anything else nothing is said.
+// Stays (2): tried, with one function for a number of either kind in place of this one and `any_line`, and import took a tenth longer.
+fn short_line(text: &[u8], at: usize) -> Option<Line>
     requires { at + 12 ≤ length text.now }
-    ensures { result.good ≡ true → LineAt text.now at true result.from result.to result.next }
+    ensures { IfSome result (λ l. LineAt text.now at l.from l.to l.next) }
 {
-    let from = short_field(text, at, SPACE);
-    if !from.good {
-        return NO_LINE;
-    }
-    let middle = from.next;
-    let to = short_field(text, middle, FEED);
-    Line {
-        good: to.good,
+    let from = short_field(text, at, SPACE)?;
+    let to = short_field(text, from.next, FEED)?;
+    Some(Line {
         from: from.value,
         to: to.value,
         next: to.next,
-    }
+    })
 }
 
 // The line of a pair at a place.
-pub fn line_at(text: &[u8], at: usize) -> Line
+pub fn line_at(text: &[u8], at: usize) -> Option<Line>
     requires { at ≤ length text.now }
-    ensures { LineAt text.now at result.good result.from result.to result.next }
+    ensures { MatchOption result (is_line (drop at text.now) ≡ false) (λ l. LineAt text.now at l.from l.to l.next) }
 {
     if 12 <= text.len() - at {
         let line = short_line(text, at);
-        if line.good {
+        if line.is_some() {
             return line;
         }
     }
@@ -286,77 +184,45 @@ pub fn line_at(text: &[u8], at: usize) -> Line
 }
 
 // What stands before the pairs.
-pub fn head_of(text: &[u8]) -> Head
-    ensures { HeadOf text.now result.good result.rows result.entries result.next }
+pub fn head_of(text: &[u8]) -> Option<Head>
+    ensures { MatchOption result (is_head text.now ≡ false) (λ h. HeadOf text.now h.rows h.entries h.next) }
 {
-    if !begins_right(text) {
-        return NO_HEAD;
+    if !text.starts_with(&BANNER) {
+        return None;
     }
     let counts = skip_lines(text, BANNER.len());
-    let rows = field_at(text, counts, SPACE);
-    if !rows.good {
-        return NO_HEAD;
+    let rows = field_at(text, counts, SPACE)?;
+    let columns = field_at(text, rows.next, SPACE)?;
+    let entries = field_at(text, columns.next, FEED)?;
+    if rows.value != columns.value {
+        return None;
     }
-    let second = rows.next;
-    let columns = field_at(text, second, SPACE);
-    if !columns.good {
-        return NO_HEAD;
-    }
-    let third = columns.next;
-    let entries = field_at(text, third, FEED);
-    if !entries.good {
-        return NO_HEAD;
-    }
-    Head {
-        good: rows.value == columns.value,
+    Some(Head {
         rows: rows.value,
         entries: entries.value,
         next: entries.next,
-    }
-}
-
-// Whether a number is 1 to n.
-fn is_within(n: u64, x: u64) -> bool
-    ensures { result ≡ within n x }
-{
-    if x < 1 {
-        return false;
-    }
-    x <= n
+    })
 }
 
 // Whether both numbers of a pair are 1 to n.
 fn is_inside(n: u64, from: u64, to: u64) -> bool
     ensures { result ≡ is_inside n (pair_at from to) }
 {
-    if !is_within(n, from) {
-        return false;
-    }
-    is_within(n, to)
+    (1..=n).contains(&from) && (1..=n).contains(&to)
 }
 
-// The pairs from a place on, which should be m.
-pub fn body_at(text: &[u8], at: usize, n: u64, m: u64) -> Body
+// The pairs from a place on, which should be m: whether each number is 1 to n, if all lines are lines of pairs.
+pub fn body_at(text: &[u8], at: usize, n: u64, m: u64) -> Option<bool>
     requires { at ≤ length text.now }
-    ensures { BodyAt text.now at n m result.good result.fits }
+    ensures { MatchOption result (are_lines m (drop at text.now) ≡ false) (λ fits. BodyAt text.now at n m fits) }
 {
-    let mut wrong: u32 = 0;
+    let mut fits = true;
+    // Stays (3): where the next line begins, the line before says; an iterator of lines would need a promise of its own for that.
     let mut i = at;
     for _e in 0..m {
-        let line = line_at(text, i);
-        if !line.good {
-            return Body {
-                good: false,
-                fits: false,
-            };
-        }
-        if !is_inside(n, line.from, line.to) {
-            wrong = 1;
-        }
+        let line = line_at(text, i)?;
+        fits &= is_inside(n, line.from, line.to);
         i = line.next;
     }
-    Body {
-        good: i == text.len(),
-        fits: wrong == 0,
-    }
+    if i == text.len() { Some(fits) } else { None }
 }

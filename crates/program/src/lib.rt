@@ -5,7 +5,7 @@
 pub mod limits;
 
 // A file as the program got it: whole, with more bytes than its limit, or not at all.
-#[derive(Clone, Copy)]
+#[derive(Clone, Copy, Debug, PartialEq, Eq)]
 pub enum Loaded {
     Whole,
     TooLong,

@@ -1,14 +1,9 @@
 -- The black workers as bits of one word.
 use mathlib.Core.Path.{◌≡◌}
-use mathlib.Core.Bool.{Bool, false}
 use mathlib.Core.Logic.{by_cases}
 use Prim.Native.Nat.{ℕ, ◌+◌, ◌/◌, ◌%◌, ◌^◌, ◌<◌}
 use native.Mathlib.Decide.{dec_lt}
-use native.Mathlib.Nat.{div-lt_iff_lt-mul}
 use native.Mathlib.Omega.{arith}
-use lib.Pow.{pow_pos}
-use Rattle.laws.specs.Decides.{Decides}
-use Rattle.laws.proofs.Decides.{refuted}
 use Rattle.laws.proofs.Passing.{span_next}
 use Rattle.laws.proofs.Span.{span_at}
 use Rattle.protocol.specs.Ring.{black_bits}
@@ -22,15 +17,3 @@ bits_next x b z h =
     by_cases (dec_lt 0 (x / 2 ^ b % 2))
     (λ (p : 0 < x / 2 ^ b % 2). absurd (h (omega arith)))
     (λ (p : ¬ (0 < x / 2 ^ b % 2)). omega (arith, z, span_next (λ (i : ℕ). x / 2 ^ i % 2) b))
-
--- none is, where the answer is no
-pub none_black : {r : Bool} {k : ℕ} → Decides r (0 < k) → r ≡ false → k ≡ 0
-none_black {r} {k} d e =
-    by_cases (dec_lt 0 k) (λ (p : 0 < k). absurd (refuted d e p)) (λ (p : ¬ (0 < k)). omega arith)
-
--- no bit is set from W on
-pub low_black : (x W : ℕ) → x / 2 ^ W ≡ 0 → x < 2 ^ W
-low_black x W e = omega (arith, (div-lt_iff_lt-mul {k = 2 ^ W} {x = x} {y = 1} (pow_pos W)).0 (omega arith))
-
-pub black_low : (x W : ℕ) → x < 2 ^ W → x / 2 ^ W ≡ 0
-black_low x W h = omega (arith, (div-lt_iff_lt-mul {k = 2 ^ W} {x = x} {y = 1} (pow_pos W)).1 (omega arith))

@@ -1,5 +1,5 @@
 -- The workers' own words, and what the functions on them say.
-use Rattle.std.specs.Prelude.{◌≡◌, true, List, ℕ, suc, ◌≤◌, ◌<◌, length}
+use Rattle.std.specs.Prelude.{◌≡◌, Option, MatchOption, List, ℕ, suc, ◌≤◌, ◌<◌, length}
 use Rattle.laws.specs.Span.{span}
 use Rattle.laws.specs.Sum.{hit}
 use Rattle.desk.specs.Limits.{most_workers}
@@ -35,12 +35,15 @@ ended_words w k = span (λ (b : ℕ). hit status_ended (worker_word w b 0)) 0 k
 abbrev pub since_words : List ℕ → ℕ → ℕ
 since_words w k = span (λ (b : ℕ). worker_word w b 2) 0 k
 
--- what `check_heads` says
-pub record HeadsFound (W D : ℕ) (w : List ℕ) (r : Heads) : Type 0 where
-  pub right : r.sound ≡ true → HeadsSound W D w
-  pub known : HeadsSound W D w → r.sound ≡ true
-  pub ended : r.sound ≡ true → r.ended ≡ ended_words w W
-  pub since : r.sound ≡ true → r.since ≡ since_words w W
+-- what sound words of W workers come to
+pub record HeadsCounted (W D : ℕ) (w : List ℕ) (r : Heads) : Type 0 where
+  pub right : HeadsSound W D w
+  pub ended : r.ended ≡ ended_words w W
+  pub since : r.since ≡ since_words w W
+
+-- what `check_heads` says: nothing exactly where they are not sound
+abbrev pub HeadsFound : ℕ → ℕ → List ℕ → Option Heads → Type 0
+HeadsFound W D w r = MatchOption r (¬ HeadsSound W D w) (HeadsCounted W D w)
 
 -- in how many of the first k cells asker a is
 abbrev pub holders : List ℕ → ℕ → ℕ → ℕ

@@ -1,89 +1,47 @@
 // The workers' own words: status, cell, since and batch.
 ghost use Rattle.std.specs.Prelude.{◌≡◌, ◌<◌};
 ghost use Rattle.laws.specs.Decides.{Decides};
-ghost use Rattle.laws.specs.Sum.{hit};
 ghost use Rattle.desk.specs.Limits.{most_workers};
-ghost use Rattle.worker.specs.Registers.{status_asking};
 ghost use Rattle.protocol.specs.Heads.{Head, HeadsFound, WorkersThere, holders, CellsSound};
 
-use crate::fields;
-use desk::places;
+use saved::WorkerWords;
 use worker::registers;
 
-// What the workers' words come to: how many have ended, and the sum of their sinces.
-#[derive(Clone, Copy)]
+// What the words of all workers come to: how many have ended, and the sum of their sinces.
+#[derive(Clone, Copy, Debug, PartialEq, Eq)]
 pub struct Heads {
-    pub sound: bool,
     pub ended: u64,
     pub since: u64,
 }
 
-// Whether the four words are those of a worker, with so many workers and the largest batch.
-fn head_sound(workers: u32, most: u32, status: u32, cell: u32, since: u32, batch: u32) -> bool
-    ensures { Decides result (Head workers most status cell since batch) }
+// Whether the words are those of a worker, with so many workers and the largest batch.
+fn head_sound(head: WorkerWords, workers: u32, most: u32) -> bool
+    ensures { Decides result (Head workers most head.status head.cell head.since head.batch) }
 {
-    if registers::CLAIM < status {
-        return false;
-    }
-    if workers < cell {
-        return false;
-    }
-    if most < batch {
-        return false;
-    }
-    if registers::POLL < status {
-        return 0 < batch;
-    }
-    if batch != 0 {
-        return false;
-    }
-    if status == registers::POLL {
-        return true;
-    }
-    if cell != 0 {
-        return false;
-    }
-    if status == registers::GIVEN {
-        return since == 0;
-    }
-    true
+    head.status <= registers::CLAIM
+        && head.cell <= workers
+        && head.batch <= most
+        && (head.batch == 0) == (head.status <= registers::POLL)
+        && (head.cell == 0 || registers::POLL <= head.status)
+        && (head.since == 0 || head.status != registers::GIVEN)
 }
 
-// All workers' words.
-pub fn check_heads(saved: &[u32], workers: u32, most: u32) -> Heads
+// All workers' words; nothing where those of one are not sound.
+pub fn check_heads(saved: &[u32], workers: u32, most: u32) -> Option<Heads>
     requires { WorkersThere workers saved.now }
     ensures { HeadsFound workers most saved.now result }
 {
-    let mut ended: u64 = 0;
-    let mut since: u64 = 0;
+    let mut ended = 0;
+    let mut since = 0;
     for b in 0..workers {
-        let at = places::WORKERS + places::WORKER * b as usize;
-        let status = saved[at + fields::STATUS];
-        let own = saved[at + fields::SINCE];
-        if !head_sound(
-            workers,
-            most,
-            status,
-            saved[at + fields::CELL],
-            own,
-            saved[at + fields::BATCH],
-        ) {
-            return Heads {
-                sound: false,
-                ended: 0,
-                since: 0,
-            };
+        let head = WorkerWords::of(saved, b);
+        if !head_sound(head, workers, most) {
+            return None;
         }
-        if status == registers::ENDED {
-            ended += 1;
-        }
-        since += own as u64;
+        ended += u64::from(head.status == registers::ENDED);
+        since += u64::from(head.since);
     }
-    Heads {
-        sound: true,
-        ended,
-        since,
-    }
+    Some(Heads { ended, since })
 }
 
 // How many cells hold asker a.
@@ -91,23 +49,11 @@ fn holders_of(saved: &[u32], workers: u32, a: u32) -> u32
     requires { WorkersThere workers saved.now × (a < most_workers) }
     ensures { result ≡ holders saved.now a workers }
 {
-    let mut found: u32 = 0;
+    let mut found = 0;
     for b in 0..workers {
-        if saved[places::WORKERS + places::WORKER * b as usize + fields::CELL] == a + 1 {
-            found += 1;
-        }
+        found += u32::from(WorkerWords::of(saved, b).cell == a + 1);
     }
     found
-}
-
-// How many cells a worker has to be in.
-fn wanted(status: u32) -> u32
-    ensures { result ≡ hit status_asking status }
-{
-    if status == registers::ASKING {
-        return 1;
-    }
-    0
 }
 
 // Whether each worker that is asking without a reply is in one cell, and no other is in any.
@@ -116,8 +62,9 @@ pub fn cells_sound(saved: &[u32], workers: u32) -> bool
     ensures { Decides result (CellsSound workers saved.now) }
 {
     for a in 0..workers {
-        let status = saved[places::WORKERS + places::WORKER * a as usize + fields::STATUS];
-        if holders_of(saved, workers, a) != wanted(status) {
+        let status = WorkerWords::of(saved, a).status;
+        let wanted = u32::from(status == registers::ASKING);
+        if holders_of(saved, workers, a) != wanted {
             return false;
         }
     }

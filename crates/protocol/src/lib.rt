@@ -2,6 +2,5 @@
 // workers ask each other for references and find that all have ended (SPECIFICATION 8.1, 8.2).
 #![tactic(auto)]
 
-pub mod fields;
 pub mod heads;
 pub mod ring;

@@ -5,8 +5,9 @@ ghost use Rattle.desk.specs.Limits.{most_workers};
 ghost use Rattle.protocol.specs.Heads.{WorkersThere, ended_words};
 ghost use Rattle.protocol.specs.Ring.{black_bits, ClearAbove, FirstEnded, RingSound, LinksSound};
 
-use crate::{fields, heads};
+use crate::heads;
 use desk::places;
+use saved::WorkerWords;
 use worker::registers;
 
 // Whether one of the lowest so many bits is set.
@@ -28,11 +29,9 @@ fn clear_above(saved: &[u32], workers: u32, holder: u32) -> bool
     ensures { Decides result (ClearAbove workers saved.now holder) }
 {
     for b in 0..workers {
-        let status = saved[places::WORKERS + places::WORKER * b as usize + fields::STATUS];
-        if holder < b {
-            if registers::GIVEN <= status {
-                return false;
-            }
+        let status = WorkerWords::of(saved, b).status;
+        if holder < b && registers::GIVEN <= status {
+            return false;
         }
     }
     true
@@ -42,13 +41,7 @@ fn clear_above(saved: &[u32], workers: u32, holder: u32) -> bool
 fn first_ended(status: u32, holder: u32, ended: u64) -> bool
     ensures { Decides result (FirstEnded status holder ended) }
 {
-    if ended == 0 {
-        return true;
-    }
-    if holder != 0 {
-        return false;
-    }
-    status == registers::ENDED
+    ended == 0 || (status == registers::ENDED && holder == 0)
 }
 
 // Whether the ring's words are those of a ring, and fit the workers.
@@ -59,25 +52,14 @@ fn ring_sound(saved: &[u32], workers: u32, ended: u64) -> bool
     let holder = saved[places::RING];
     let token = saved[places::RING + 1];
     let black = saved[places::RING + 2];
-    if workers <= holder {
+    if workers <= holder || 1 < token || black >> workers != 0 {
         return false;
     }
-    if 1 < token {
+    let first = WorkerWords::of(saved, 0).status;
+    if !first_ended(first, holder, ended) {
         return false;
     }
-    if black >> workers != 0 {
-        return false;
-    }
-    if !first_ended(saved[places::WORKERS + fields::STATUS], holder, ended) {
-        return false;
-    }
-    if token == 1 {
-        return true;
-    }
-    if some_black(black, holder + 1) {
-        return true;
-    }
-    clear_above(saved, workers, holder)
+    token == 1 || some_black(black, holder + 1) || clear_above(saved, workers, holder)
 }
 
 // Whether cells and ring are sound, where so many have ended.
@@ -85,8 +67,5 @@ pub fn links_sound(saved: &[u32], workers: u32, ended: u64) -> bool
     requires { WorkersThere workers saved.now × (1 ≤ workers) × (ended ≡ ended_words saved.now workers) }
     ensures { Decides result (LinksSound workers saved.now) }
 {
-    if !heads::cells_sound(saved, workers) {
-        return false;
-    }
-    ring_sound(saved, workers, ended)
+    heads::cells_sound(saved, workers) && ring_sound(saved, workers, ended)
 }

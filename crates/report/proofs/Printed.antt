@@ -1,12 +1,11 @@
 -- What is printed for each answer of a call in which the marker can find no fault but in its schedule.
 use mathlib.Core.Path.{◌≡◌, refl, sym, ap, ◌∙◌}
 use mathlib.Core.Bool.{false}
-use mathlib.Core.List.{List, [], ◌∷◌, ◌++◌, append-nil}
+use mathlib.Core.List.{List, ◌++◌, append-nil}
 use Prim.Native.Nat.{ℕ, zero, suc, ◌*◌, ◌/◌, ◌<◌}
 use native.Mathlib.Omega.{arith}
 use lib.ListN.{length}
-use denote.Enum.Declared
-use types.Run.{OneOf, miss}
+use Rattle.std.specs.Prelude.{Result, Ok, Err}
 use Rattle.refusal.specs.declared.Refusal.{Refusal}
 use Rattle.refusal.specs.Number.{number}
 use Rattle.refusal.proofs.Numbers.{numbered}
@@ -18,12 +17,11 @@ use Rattle.machine.specs.Row.{Row, refused_row}
 use Rattle.machine.specs.Tally.{tallies_words}
 use Rattle.machine.specs.Machine.{result}
 use Rattle.machine.specs.Call.{Call, fault, answer_for, final}
-use Rattle.marker.specs.contracts.Marked as TheMarked
 use Rattle.marker.specs.declared.Marked.{Marked}
-use Rattle.marker.specs.declared.Marked.TheVariants.{Finished, Unfinished, Refused}
+use Rattle.marker.specs.declared.Marked.TheVariants.{Finished, Unfinished}
 use Rattle.marker.specs.Answer.{row, Answered}
 use Rattle.sweep.specs.Sweep.{dead}
-use Rattle.lines.specs.Lines.{refusal_line, count_lines, word_lines}
+use Rattle.lines.specs.Lines.{count_lines, word_lines}
 use Rattle.program.specs.Program.{Contents, call_of, dead_text, printed}
 use Rattle.program.specs.Passing.{Passing}
 use Rattle.program.proofs.Printed.{beside}
@@ -38,17 +36,6 @@ module _ (s : Contents) (o : Settings) (schedule : List ℕ) where
       → count_lines r.finished r.counts ++ word_lines words (length words / 4) ++ dead_text r.finished s.sizes (dead marks)
       ≡ printed f s o schedule
   printed_result r words marks z e t m = rw (z, e, m, lines_are (final (call_of s o schedule)).tallies words t)
-
--- an answer that is neither finished nor unfinished is refused
-pub refused_one : (m : Marked) → OneOf (1 ∷ 2 ∷ []) (Declared.tag_of TheMarked.the_type m) → OneOf (0 ∷ 2 ∷ []) (Declared.tag_of TheMarked.the_type m)
-    → (k : Refusal) × (m ≡ Refused k)
-refused_one (Finished t) a b = absurd (miss (1 ∷ 2 ∷ []) 0 tt a)
-refused_one (Unfinished t) a b = absurd (miss (0 ∷ 2 ∷ []) 1 tt b)
-refused_one (Refused k) a b = (k, refl)
-
-pub refused_text : (sizes marks tallies : List ℕ) {v : ℕ} {m : Marked} {k : Refusal} → m ≡ Refused k → v ≡ (row m).number
-    → refusal_line v ≡ answer_text m sizes marks tallies
-refused_text sizes marks tallies e h = rw (h, e) refl
 
 -- a refusal's row: its number is the fault's
 refused_row_lem : (k f : ℕ) (c : Call) → 0 < k → refused_row k ≡ answer_for f c → k ≡ f
@@ -75,7 +62,7 @@ module _ {s : Contents} {o : Settings} {marks work tallies : List ℕ} (ready : 
   only_schedule : fault (call_of s o schedule) (length marks) (length work) (length tallies) ≡ schedule_fault o.workers schedule
   only_schedule = passing_fault o ready.passing ready.settings ready.all_marks ready.all_work ready.all_tallies schedule
 
-  module _ {m : Marked} {marks' work' tallies' : List ℕ} (done : Answered (call_of s o schedule) marks work tallies m marks' work' tallies') where
+  module _ {m : Result Marked Refusal} {marks' work' tallies' : List ℕ} (done : Answered (call_of s o schedule) marks work tallies m marks' work' tallies') where
     answered : row m ≡ answer_for (schedule_fault o.workers schedule) (call_of s o schedule)
     answered = done.row_is ∙ ap (λ (f : ℕ). answer_for f call) only_schedule
 
@@ -87,16 +74,16 @@ module _ {s : Contents} {o : Settings} {marks work tallies : List ℕ} (ready : 
         (q.0, q.1, done.tallies_are ∙ ap (λ (f : ℕ). unless_refused f (tallies_words (final call).tallies) tallies) (only_schedule ∙ q.0))
 
   -- what an answer's lines say
-  pub answer_text_lem : (m : Marked) {marks' work' tallies' : List ℕ} → Answered (call_of s o schedule) marks work tallies m marks' work' tallies'
+  pub answer_text_lem : (m : Result Marked Refusal) {marks' work' tallies' : List ℕ} → Answered (call_of s o schedule) marks work tallies m marks' work' tallies'
       → answer_text m s.sizes marks' tallies' ≡ collection_text s o schedule
-  answer_text_lem (Refused k) done =
+  answer_text_lem (Err k) done =
       beside s o schedule (number k) (schedule_fault o.workers schedule) (numbered k)
       (refused_row_lem (number k) (schedule_fault o.workers schedule) call (numbered k) (answered done))
-  answer_text_lem (Unfinished t) {tallies' = tallies'} done =
+  answer_text_lem (Ok (Unfinished t)) {tallies' = tallies'} done =
       let q = found done refl in
       sym (append-nil (count_lines false t ++ word_lines tallies' (length tallies' / 4)))
-      ∙ printed_result s o schedule (row (Unfinished t)) tallies' (final call).marks q.0 q.1 q.2 refl
-  answer_text_lem (Finished t) {marks'} {tallies' = tallies'} done =
+      ∙ printed_result s o schedule (row (Ok (Unfinished t))) tallies' (final call).marks q.0 q.1 q.2 refl
+  answer_text_lem (Ok (Finished t)) {marks'} {tallies' = tallies'} done =
       let q = found done refl in
-      printed_result s o schedule (row (Finished t)) tallies' marks' q.0 q.1 q.2
+      printed_result s o schedule (row (Ok (Finished t))) tallies' marks' q.0 q.1 q.2
       (done.marks_are ∙ ap (λ (f : ℕ). unless_refused f (final call).marks marks) (only_schedule ∙ q.0))

@@ -13,12 +13,14 @@ use Rattle.refusal.proofs.Numbers.{numbered}
 use Rattle.graph.specs.Limits.{most_objects}
 use Rattle.desk.specs.Checks.{outside}
 use Rattle.sweep.specs.declared.Swept.{Swept}
-use Rattle.sweep.specs.declared.Swept.TheVariants.{Dead, Refused}
+use Rattle.std.specs.Prelude.{Ok, Err}
 use Rattle.sweep.specs.Sweep.{Row, dead_from, dead, sizes_of, row, sweeping, list_after, fault}
 use Rattle.sweep.proofs.Fault.{fault_free}
 use Rattle.lines.specs.Rooms.{dead_room}
 use Rattle.lines.specs.Lines.{dead_lines, Below, freed_line}
 use Rattle.program.specs.Program.{dead_text}
+use Rattle.text.specs.declared.Page.{Page}
+use Rattle.text.specs.Pages.{Room}
 use Rattle.report.specs.Ready.{Sweepable}
 
 dead_few : (b : ℕ) (ms : List ℕ) → length (dead_from b ms) ≤ length ms
@@ -34,28 +36,28 @@ dead_below b (zero ∷ ms) zero h = omega arith
 dead_below b (zero ∷ ms) (suc i) h = omega (arith, dead_below (suc b) ms i (omega arith))
 dead_below b (suc k ∷ ms) i h = omega (arith, dead_below (suc b) ms i h)
 
-pub record SweptTo (sizes marks list out : List ℕ) (at count freed : ℕ) : Type 0 where
+pub record SweptTo (sizes marks list : List ℕ) (page : Page) (count freed : ℕ) : Type 0 where
   pub summed : freed ≡ sizes_of sizes (dead marks)
   pub front : take count list ≡ dead marks
   pub inside : count ≤ length list
   pub objects : Below (take count list) (length sizes)
-  pub room : at + (dead_room (length (take count list)) + 27) ≤ length out
+  pub room : Room (dead_room (length (take count list)) + 27) page
 
-module _ {sizes marks out : List ℕ} {at : ℕ} (s : Sweepable sizes marks out at) (list : List ℕ) (all_list : length list ≡ length sizes) where
+module _ {sizes marks : List ℕ} {page : Page} (s : Sweepable sizes marks page) (list : List ℕ) (all_list : length list ≡ length sizes) where
   free : fault marks sizes list ≡ 0
   free =
       let few : length sizes ≤ most_objects = omega (arith, s.few) in
       let inside : outside most_objects (length sizes) ≡ false = rw (le-ltb (length sizes) 1 s.some, le-ltb most_objects (length sizes) few) refl in
       fault_free marks sizes list inside s.all_marks all_list s.sizes_fit
 
-  pub swept_to : {w : Swept} {count freed : ℕ} {list' : List ℕ} → w ≡ Dead count freed → row w ≡ sweeping marks sizes list
-      → list' ≡ list_after marks sizes list → SweptTo sizes marks list' out at count freed
-  swept_to {w} {count} {freed} {list'} e r l =
-      let q : row (Dead count freed) ≡ _ = rw free at (rw e at r) in
+  pub swept_to : {w : Swept} {list' : List ℕ} → row (Ok w) ≡ sweeping marks sizes list → list' ≡ list_after marks sizes list
+      → SweptTo sizes marks list' page w.count w.freed
+  swept_to {w} {list'} r l =
+      let q : row (Ok w) ≡ _ = rw free at r in
       let z = rw free at l in
-      let c : count ≡ length (dead marks) = ap (λ (x : Row). x.count) q in
+      let c : w.count ≡ length (dead marks) = ap (λ (x : Row). x.count) q in
       let few = dead_few 0 marks in
-      let front : take count list' ≡ dead marks = rw (z, c) (take_at (dead marks) _ (length (dead marks)) refl) in
+      let front : take w.count list' ≡ dead marks = rw (z, c) (take_at (dead marks) _ (length (dead marks)) refl) in
       record {
         summed = ap (λ (x : Row). x.freed) q;
         front = front;
@@ -65,13 +67,13 @@ module _ {sizes marks out : List ℕ} {at : ℕ} (s : Sweepable sizes marks out 
       }
 
   -- it is never refused
-  pub not_refused : {w : Swept} {k : Refusal} → w ≡ Refused k → row w ≡ sweeping marks sizes list → ⊥
-  not_refused {k = k} e r =
-      let q = rw free at (rw e at r) in
-      let z : number k ≡ 0 = ap (λ (x : Row). x.number) q in
-      omega (arith, numbered k)
+  pub not_refused : (r : Refusal) → row (Err r) ≡ sweeping marks sizes list → ⊥
+  not_refused r e =
+      let q = rw free at e in
+      let z : number r ≡ 0 = ap (λ (x : Row). x.number) q in
+      omega (arith, numbered r)
 
 -- the lines of the list and of the sum are those that are due
-pub swept_text : {sizes marks list out : List ℕ} {at count freed : ℕ} → SweptTo sizes marks list out at count freed
+pub swept_text : {sizes marks list : List ℕ} {page : Page} {count freed : ℕ} → SweptTo sizes marks list page count freed
     → dead_lines sizes (take count list) ++ freed_line freed ≡ dead_text true sizes (dead marks)
 swept_text s = rw (s.front, s.summed)

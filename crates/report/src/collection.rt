@@ -1,28 +1,29 @@
 // One collection of a store that was read: the settings, the marker, and the lines of its answer.
-ghost use Rattle.slices.specs.Put.{Put};
+ghost use Rattle.std.specs.Prelude.{Ok, length};
+ghost use Rattle.text.specs.Pages.{Wrote};
 ghost use Rattle.program.specs.Program.{contents, order_text};
-ghost use Rattle.report.specs.Ready.{answer_text, collection_text, Printable, Collectable, Orderly};
+ghost use Rattle.report.specs.Ready.{answer_text, collection_text, Printable, Collectable, Orderly, Told};
 
 use crate::{dead, order};
 use desk::{Settings, places};
 use marker::Marked;
 use program::limits;
 use program::limits::ORDER_LENGTH;
-use refusal::Verdict;
+use refusal::Checked;
+use text::Page;
 
-// Writes the lines of the marker's answer.
-fn put_marked(marked: Marked, sizes: &[u64], marks: &[u8], tallies: &[u64], out: &mut [u8]) -> usize
-    requires { Printable sizes.now marks.now tallies.now out.old }
-    ensures { Put out.old 0 (answer_text marked sizes.now marks.now tallies.now) out.new result }
+// Writes the lines of what the marker's turns came to.
+fn put_marked(marked: Marked, sizes: &[u64], marks: &[u8], tallies: &[u64], page: &mut Page)
+    requires { Printable sizes.now marks.now tallies.now page.old }
+    ensures { let text = answer_text (Ok marked) sizes.now marks.now tallies.now in Wrote (length text) text page.old page.new }
 {
-    let Marked::Finished(counts) = marked else {
-        let Marked::Unfinished(so_far) = marked else {
-            return lines::put_refusal(out, 0, marker::refusal_of(marked));
-        };
-        return lines::put_result(out, 0, false, so_far, tallies);
-    };
-    let end = lines::put_result(out, 0, true, counts, tallies);
-    dead::put_dead(sizes, marks, out, end)
+    match marked {
+        Marked::Finished(counts) => {
+            lines::put_result(page, true, counts, tallies);
+            dead::put_dead(sizes, marks, page);
+        }
+        Marked::Unfinished(counts) => lines::put_result(page, false, counts, tallies),
+    }
 }
 
 // Collects by settings in their ranges, in words of exactly the lengths that they ask for.
@@ -33,12 +34,11 @@ fn put_collection(
     starts: &[u32],
     settings: Settings,
     schedule: &[u8],
-    out: &mut [u8],
-) -> usize
-    requires { Collectable (contents offsets.now targets.now sizes.now starts.now) settings out.old }
-    ensures { Put out.old 0
-        (collection_text (contents offsets.now targets.now sizes.now starts.now) settings
-        schedule.now) out.new result }
+    page: &mut Page,
+) -> Checked
+    requires { Collectable (contents offsets.now targets.now sizes.now starts.now) settings page.old }
+    ensures { Told (collection_text (contents offsets.now targets.now sizes.now starts.now) settings schedule.now) result
+        page.old page.new }
 {
     let mut marks = [0u8; limits::MOST_OBJECTS];
     let mut work = [0u32; limits::WORK_ROOM];
@@ -58,8 +58,9 @@ fn put_collection(
         marking,
         &mut work[..words],
         counted,
-    );
-    put_marked(marked, sizes, marking, counted, out)
+    )?;
+    put_marked(marked, sizes, marking, counted, page);
+    Ok(())
 }
 
 // Checks the settings, and collects by them.
@@ -69,18 +70,13 @@ pub fn put_ordered(
     sizes: &[u64],
     starts: &[u32],
     order: &[u8],
-    out: &mut [u8],
-) -> usize
-    requires { Orderly (contents offsets.now targets.now sizes.now starts.now) order.now out.old }
-    ensures { Put out.old 0
-        (order_text (contents offsets.now targets.now sizes.now starts.now) order.now)
-        out.new result }
+    page: &mut Page,
+) -> Checked
+    requires { Orderly (contents offsets.now targets.now sizes.now starts.now) order.now page.old }
+    ensures { Told (order_text (contents offsets.now targets.now sizes.now starts.now) order.now) result page.old page.new }
 {
     let settings = order::order_of(order);
-    let found = order::check(settings);
-    let Verdict::Fine = found else {
-        return lines::put_refusal(out, 0, refusal::verdict_number(found));
-    };
+    order::check(settings)?;
     put_collection(
         offsets,
         targets,
@@ -88,6 +84,6 @@ pub fn put_ordered(
         starts,
         settings,
         &order[ORDER_LENGTH..],
-        out,
+        page,
     )
 }

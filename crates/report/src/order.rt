@@ -6,7 +6,7 @@ ghost use Rattle.program.specs.Program.{order_of, order_fault};
 
 use desk::Settings;
 use program::limits::MOST_WORKERS;
-use refusal::{Refusal, Verdict};
+use refusal::{Checked, Refusal};
 
 // One byte, then two words of two bytes.
 pub fn order_of(order: &[u8]) -> Settings
@@ -14,21 +14,21 @@ pub fn order_of(order: &[u8]) -> Settings
     ensures { result ≡ order_of order.now }
 {
     Settings {
-        workers: order[0] as u32,
-        batch: slices::word2(order, 1) as u32,
-        cutoff: slices::word2(order, 3) as u32,
+        workers: u32::from(order[0]),
+        batch: u32::from(slices::word2(order, 1)),
+        cutoff: u32::from(slices::word2(order, 3)),
     }
 }
 
 // Whether the settings are in their ranges, and W is one that the program takes.
-pub fn check(settings: Settings) -> Verdict
+pub fn check(settings: Settings) -> Checked
     ensures { number_of result ≡ order_fault settings }
 {
     if checks::settings_outside(settings) {
-        return Verdict::Faulty(Refusal::Setting);
+        return Err(Refusal::Setting);
     }
     if MOST_WORKERS < settings.workers {
-        return Verdict::Faulty(Refusal::Large);
+        return Err(Refusal::Large);
     }
-    Verdict::Fine
+    Ok(())
 }

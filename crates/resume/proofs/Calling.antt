@@ -10,10 +10,9 @@ use borrow.Author.Tests.{not-false}
 use Rattle.laws.specs.Decides.{Decides}
 use Rattle.laws.proofs.Test.{tested}
 use Rattle.refusal.specs.declared.Refusal.{Refusal}
-use Rattle.refusal.specs.declared.Verdict.{Verdict}
-use Rattle.refusal.specs.declared.Verdict.TheVariants.{Fine, Faulty}
+use Rattle.std.specs.Prelude.{Result, Ok, Err}
 use Rattle.refusal.proofs.None.{raise_none}
-use Rattle.refusal.proofs.Numbers.{numbered, when_fine, when_faulty, first_found}
+use Rattle.refusal.proofs.Numbers.{numbered, first_found}
 use Rattle.graph.specs.Graph.{objects, references}
 use Rattle.machine.specs.declared.Counts.{Counts}
 use Rattle.machine.specs.Row.{Row}
@@ -28,7 +27,6 @@ use Rattle.worker.specs.Registers.{block_words, register_words}
 use Rattle.step.specs.declared.Setup.{Setup}
 use Rattle.step.specs.Held.{Memory}
 use Rattle.marker.specs.declared.Marked.{Marked}
-use Rattle.marker.specs.declared.Marked.TheVariants.{Refused}
 use Rattle.marker.specs.Answer.{Finds, row}
 use Rattle.marker.specs.Stages.{scheduled, setup_of, Leaves}
 use Rattle.marker.proofs.Stages.{registers_long, passed}
@@ -102,7 +100,7 @@ module _ {c : Call} {marks work tallies : ℕ} {w : List ℕ} (x : Checked c (sa
 -- words that pass it can be taken up, with the call's setup
 module _ {c : Call} {marks work tallies w : List ℕ} (x : Checked c (saving_lengths (length marks) (length work) (length tallies) (length w)))
     (X : SavedRun (graph_of c) c.starts c.workers (setting_of c) w (state_of (objects (graph_of c)) c.workers w)) {g : Setup} (is : g ≡ setup_of c) where
-  unfoldable pub resumable : Resumable c.targets g w marks work tallies (take (block_words * c.workers) (replicate register_words 0))
+  unfoldable pub resumable : Resumable c.targets g w marks work tallies (take (block_words * g.workers) (replicate register_words 0))
   resumable =
       record {
         graph = graph_of c;
@@ -117,15 +115,15 @@ module _ {c : Call} {marks work tallies w : List ℕ} (x : Checked c (saving_len
         marks_long = x.marks_exact;
         work_long = rw is x.work_exact;
         tallies_long = rw is x.tallies_exact;
-        regs_long = rw is (registers_long x);
+        regs_long = sym (registers_long is x);
       }
 
-module _ {c : Call} {marks work tallies w : List ℕ} {v : Verdict}
-    (found : Finds v c (saving_lengths (length marks) (length work) (length tallies) (length w))) where
-  pub continued_refused : {cause : Refusal} → v ≡ Faulty cause → Continued c marks work tallies w (Refused cause) false marks work tallies w
+module _ {A : Type 0} {c : Call} {marks work tallies w : List ℕ} where
+  pub continued_refused : {cause : Refusal} → Finds {A = A} (Err cause) c (saving_lengths (length marks) (length work) (length tallies) (length w))
+      → Continued c marks work tallies w (Err cause) false marks work tallies w
   unfolding resume_fault
-  continued_refused {cause} e =
-      let k = when_faulty found.number_is e in
+  continued_refused {cause} found =
+      let k = found.number_is in
       let i = first_found cause _ (saved_fault c w) k in
       record {
         answers = answers_refused cause _ i;
@@ -137,24 +135,25 @@ module _ {c : Call} {marks work tallies w : List ℕ} {v : Verdict}
         afresh = λ xs q z. absurd (omega (arith, numbered cause, k, z));
       }
 
-  module _ (e : v ≡ Fine) {r : Marked} {marks' work' tallies' w' : List ℕ}
+  module _ {a : A} (found : Finds (Ok a) c (saving_lengths (length marks) (length work) (length tallies) (length w)))
+      {r : Result Marked Refusal} {marks' work' tallies' w' : List ℕ}
       (d : Answers c (saved_fault c w) (resumed c w) marks work tallies w r marks' work' tallies' w') {sound : Bool}
       (low : saved_fault c w ≡ 0 → Decides sound (Low (references (graph_of c)) c.workers c.cutoff (row r).counts)) where
-    abbrev A : Accepted (graph_of c) c.starts c.workers (setting_of c)
-    A = (passed found e).accepted
+    abbrev N : Accepted (graph_of c) c.starts c.workers (setting_of c)
+    N = (passed found).accepted
 
     same_fault : resume_fault c (length marks) (length work) (length tallies) w ≡ saved_fault c w
     unfolding resume_fault
-    same_fault = rw (when_fine found.number_is e) refl
+    same_fault = rw (sym found.number_is) refl
 
     passes : saved_fault c w ≡ 0 → saved? (graph_of c) c.starts c.workers (setting_of c) w ≡ true
     passes z = not-false (saved? (graph_of c) c.starts c.workers (setting_of c) w) (raise_none _ 13 0 z).0
 
     run_of : saved_fault c w ≡ 0 → SavedRun (graph_of c) c.starts c.workers (setting_of c) w (state_of (objects (graph_of c)) c.workers w)
-    run_of z = from_saved A w (long (passed found e)) (passes z)
+    run_of z = from_saved N w (long (passed found)) (passes z)
 
     no_fault : (s : State) → SavedRun (graph_of c) c.starts c.workers (setting_of c) w s → saved_fault c w ≡ 0
-    no_fault s X = rw (to_saved A X) refl
+    no_fault s X = rw (to_saved N X) refl
 
     -- without a fault the state is reached
     reached : saved_fault c w ≡ 0 → Answers c 0 (resumed c w) marks work tallies w r marks' work' tallies' w'
@@ -167,16 +166,16 @@ module _ {c : Call} {marks work tallies w : List ℕ} {v : Verdict}
     sound_tells : saved_fault c w ≡ 0 → sound ≡ saved? (graph_of c) c.starts c.workers (setting_of c) w'
     sound_tells f =
         let a = reached f in
-        let S = sound_turns A (run_of f).saved.sound (entries c.schedule) in
+        let S = sound_turns N (run_of f).saved.sound (entries c.schedule) in
         let counts : (row r).counts ≡ (resumed c w).counts = ap (λ (t : Row). t.counts) a.row_is in
         let limits = subst (λ (t : Counts). Decides sound (Low (references (graph_of c)) c.workers c.cutoff t)) counts (low f) in
         rw a.saved_is
         (decided_as sound _ limits
         (λ (x : Low (references (graph_of c)) c.workers c.cutoff (resumed c w).counts).
-        to_saved A (record { words_are = refl; saved = record { sound = S; moved_limit = x.moved_limit; handed_limit = x.handed_limit } }))
+        to_saved N (record { words_are = refl; saved = record { sound = S; moved_limit = x.moved_limit; handed_limit = x.handed_limit } }))
         (λ (t : saved? (graph_of c) c.starts c.workers (setting_of c) (saved_words (objects (graph_of c)) (resumed c w)) ≡ true).
-        let X = from_saved A (saved_words (objects (graph_of c)) (resumed c w)) (saved_length_lem (shaped A S)) t in
-        let Y = subst (λ (s : State). SavedSound (graph_of c) c.starts c.workers (setting_of c) s) (told_back A S) X.saved in
+        let X = from_saved N (saved_words (objects (graph_of c)) (resumed c w)) (saved_length_lem (shaped N S)) t in
+        let Y = subst (λ (s : State). SavedSound (graph_of c) c.starts c.workers (setting_of c) s) (told_back N S) X.saved in
         record { moved_limit = Y.moved_limit; handed_limit = Y.handed_limit }))
 
     pub continued_fine : Continued c marks work tallies w r sound marks' work' tallies' w'
@@ -189,13 +188,13 @@ module _ {c : Call} {marks work tallies w : List ℕ} {v : Verdict}
               let f = sym same_fault ∙ z in
               let a = reached f in
               let ended = sym (ap (λ (t : Row). t.finished) a.row_is) ∙ done in
-              rw a.marks_are (sound_finished c A (run_of f) (entries c.schedule) ended reach);
+              rw a.marks_are (sound_finished c N (run_of f) (entries c.schedule) ended reach);
           waits = λ z k.
-              saved_waits A (run_of (sym same_fault ∙ z)) (take k (entries c.schedule));
-          joined = λ z. joined c A (run_of (sym same_fault ∙ z)).saved.sound (passed found e).schedule_fitting;
+              saved_waits N (run_of (sym same_fault ∙ z)) (take k (entries c.schedule));
+          joined = λ z. joined c N (run_of (sym same_fault ∙ z)).saved.sound (passed found).schedule_fitting;
           afresh = λ xs q z.
-              let X = subst (λ (l : List ℕ). SavedRun (graph_of c) c.starts c.workers (setting_of c) l (so_far xs)) (sym q) (fresh_run A xs) in
+              let X = subst (λ (l : List ℕ). SavedRun (graph_of c) c.starts c.workers (setting_of c) l (so_far xs)) (sym q) (fresh_run N xs) in
               let a = reached (no_fault (so_far xs) X) in
-              let e = ap (resumed c) q ∙ resumed_afresh c A xs in
-              rw (a.row_is, a.marks_are, a.work_is, a.tallies_are, a.saved_is, e) (afresh c (xs ++ entries c.schedule) A);
+              let e = ap (resumed c) q ∙ resumed_afresh c N xs in
+              rw (a.row_is, a.marks_are, a.work_is, a.tallies_are, a.saved_is, e) (afresh c (xs ++ entries c.schedule) N);
         }

@@ -1,5 +1,5 @@
 -- SPECIFICATION 8.3: what the call that goes on promises.
-use Rattle.std.specs.Prelude.{ℕ, ◌*◌, ◌≤◌, ◌<◌, ◌≡◌, Bool, true, List, ◌++◌, ◌↔◌, length, take}
+use Rattle.std.specs.Prelude.{ℕ, ◌*◌, ◌≤◌, ◌<◌, ◌≡◌, Bool, true, false, Result, Ok, Err, List, ◌++◌, ◌↔◌, length, take}
 use Rattle.graph.specs.Graph.{objects}
 use Rattle.graph.specs.Chain.{Reach}
 use Rattle.desk.specs.declared.Settings.{Settings}
@@ -11,7 +11,9 @@ use Rattle.machine.specs.Sound as state
 use Rattle.machine.specs.Demand2.{outcome}
 use Rattle.machine.specs.Call.{Call, scheduled_by, graph_of, setting_of}
 use Rattle.theorems.specs.Waiting.{Waits}
+use Rattle.refusal.specs.declared.Refusal.{Refusal}
 use Rattle.marker.specs.declared.Marked.{Marked}
+use Rattle.resume.specs.declared.Resumed.{Resumed}
 use Rattle.marker.specs.Answer.{row}
 use Rattle.saved.specs.Layout.{saved_words}
 use Rattle.saved.specs.Sound.{SavedRun}
@@ -30,8 +32,17 @@ pub record LowSettings (g : Settings) : Type 0 where
   pub some_cutoff : 0 < g.cutoff
   pub cutoff_limit : g.cutoff ≤ most_setting
 
+-- what a call that goes on answers, and whether it tells that what it saves is sound; a refusal does not
+abbrev pub marked_of : Result Resumed Refusal → Result Marked Refusal
+marked_of (Ok r) = Ok r.marked
+marked_of (Err cause) = Err cause
+
+abbrev pub sound_of : Result Resumed Refusal → Bool
+sound_of (Ok r) = r.sound
+sound_of (Err cause) = false
+
 -- the promise of the call that goes on
-pub record Continued (c : Call) (marks work tallies w : List ℕ) (r : Marked) (sound : Bool) (marks' work' tallies' w' : List ℕ) : Type 0 where
+pub record Continued (c : Call) (marks work tallies w : List ℕ) (r : Result Marked Refusal) (sound : Bool) (marks' work' tallies' w' : List ℕ) : Type 0 where
   pub answers : Answers c (resume_fault c (length marks) (length work) (length tallies) w) (resumed c w) marks work tallies w r marks' work' tallies' w'
   -- 14 exactly where the words hold no sound collection
   pub exactly : begin_fault c (length marks) (length work) (length tallies) (length w) ≡ 0

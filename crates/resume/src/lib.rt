@@ -5,13 +5,13 @@ ghost use Rattle.std.specs.Prelude.{◌≤◌};
 ghost use Rattle.laws.specs.Decides.{Decides};
 ghost use Rattle.graph.specs.Limits.{most_references};
 ghost use Rattle.marker.specs.Answer.{call_of, row};
-ghost use Rattle.resume.specs.Answer.{Continued, Low, LowSettings};
+ghost use Rattle.resume.specs.Answer.{marked_of, sound_of, Continued, Low, LowSettings};
 
 use checkpoint::{restore, save};
 use desk::Settings;
 use machine::Counts;
 use marker::Marked;
-use refusal::{Refusal, Verdict};
+use refusal::Refusal;
 use worker::registers;
 
 // What a collection that was taken up comes to, and whether the words that are saved are sound.
@@ -27,22 +27,18 @@ fn counts_low(references: u64, settings: Settings, counts: Counts) -> bool
     ensures { Decides result (Low references settings.workers settings.cutoff counts) }
 {
     let most = 7 * references + settings.workers as u64;
-    if most < counts.moved {
-        return false;
-    }
-    let cutoff = settings.cutoff as u64;
-    counts.handed <= 3 * references / cutoff
+    counts.moved <= most && counts.handed <= 3 * references / settings.cutoff as u64
 }
 
-// The same of an answer; a refusal counts nothing.
+// The same of an answer.
 fn answer_low(references: u64, settings: Settings, answer: Marked) -> bool
     requires { (references ≤ most_references) × LowSettings settings }
-    ensures { Decides result (Low references settings.workers settings.cutoff (row answer).counts) }
+    ensures { Decides result (Low references settings.workers settings.cutoff (row (Ok answer)).counts) }
 {
     match answer {
-        Marked::Finished(counts) => counts_low(references, settings, counts),
-        Marked::Unfinished(counts) => counts_low(references, settings, counts),
-        Marked::Refused(_) => true,
+        Marked::Finished(counts) | Marked::Unfinished(counts) => {
+            counts_low(references, settings, counts)
+        }
     }
 }
 
@@ -57,36 +53,24 @@ pub fn resume(
     work: &mut [u32],
     tallies: &mut [u64],
     saved: &mut [u32],
-) -> Resumed
+) -> Result<Resumed, Refusal>
     ensures { Continued (call_of offsets.now targets.now starts.now settings schedule.now)
-        marks.old work.old tallies.old saved.old result.marked result.sound marks.new work.new tallies.new saved.new }
+        marks.old work.old tallies.old saved.old (marked_of result) (sound_of result) marks.new work.new tallies.new saved.new }
 {
     let lengths = begin::lent(marks.len(), work.len(), tallies.len(), saved.len());
-    let verdict = marker::check(offsets, targets, starts, settings, schedule, lengths);
-    if let Verdict::Faulty(cause) = verdict {
-        return Resumed {
-            marked: Marked::Refused(cause),
-            sound: false,
-        };
-    }
+    let setup = marker::accept(offsets, targets, starts, settings, schedule, lengths)?;
     if !validate::is_sound(offsets, targets, starts, settings, saved) {
-        return Resumed {
-            marked: Marked::Refused(Refusal::Saved),
-            sound: false,
-        };
+        return Err(Refusal::Saved);
     }
-    let setup = marker::setup_of(settings, offsets.len() - 1);
-    let workers = settings.workers;
     let mut registers = [0u32; registers::ALL];
-    let size = registers::BLOCK * workers as usize;
-    let regs = &mut registers[..size];
+    let regs = &mut registers[..registers::BLOCK * setup.workers as usize];
     let begun = restore::restore(targets, setup, saved, marks, work, tallies, regs);
     let p = marker::take_turns(
         offsets, targets, setup, schedule, marks, work, tallies, regs, begun,
     );
     marker::settle(setup, work, regs);
-    save::save(workers, marks, work, tallies, regs, p, saved);
-    let marked = marker::answer(tallies, workers, p);
+    save::save(setup.workers, marks, work, tallies, regs, p, saved);
+    let marked = marker::answer(tallies, setup.workers, p);
     let sound = answer_low(targets.len() as u64, settings, marked);
-    Resumed { marked, sound }
+    Ok(Resumed { marked, sound })
 }

@@ -4,3 +4,4 @@ pub mod Layout
 pub mod Sound
 pub mod Test
 pub mod Unsound
+pub mod Words

@@ -1,55 +1,46 @@
 -- What the two calls answer at each exit, and what is known once no check fails.
-use mathlib.Core.Path.{◌≡◌, refl, ap, sym, ◌∙◌}
-use mathlib.Core.Bool.{Bool, true}
-use mathlib.Core.List.{List, [], ◌∷◌}
-use Prim.Native.Nat.{ℕ, zero, suc, ◌+◌, ◌*◌, ◌-◌, ◌<◌}
-use native.Mathlib.Omega.{arith}
-use lib.Dec.{ltb, eqb}
-use lib.ListN.{length, get_or, replicate}
-use borrow.Author.Tests.{ltb-true, eqb-true, eq-eqb, ne_eqb}
+use Rattle.std.proofs.Common.{◌≡◌, ℕ, zero, suc, ◌+◌, ◌-◌, ◌<◌, Bool, true, ltb, eqb, List, [], ◌∷◌, length, get_or, replicate, refl, ap, sym, ◌∙◌, arith, ltb-true, eqb-true, Result, Ok, Err}
+use Rattle.std.specs.declared.cmp.Ordering.{Ordering}
+use Rattle.std.specs.declared.cmp.Ordering.TheVariants.{Less, Equal, Greater}
+use Rattle.std.specs.Ordering.{is_lt}
+use Rattle.std.proofs.lemmas.Cmp.{nat_list_cmp_total}
 use Rattle.laws.specs.Test.{all}
 use Rattle.laws.proofs.Test.{both_true, up_to_each}
 use Rattle.graph.specs.Graph.{all_below}
 use Rattle.refusal.specs.declared.Refusal.{Refusal}
-use Rattle.refusal.specs.Number.{number}
-use Rattle.refusal.proofs.Numbers.{numbered, first_found}
-use Rattle.desk.specs.declared.Length.TheVariants.{Is, Refused}
+use Rattle.refusal.specs.Number.{number, number_of}
+use Rattle.refusal.proofs.Numbers.{first_found}
 use Rattle.desk.specs.Kept.{unless_refused}
-use Rattle.desk.specs.Length.{length_row, length_with, length_by}
 use Rattle.desk.proofs.Kept.{kept}
-use Rattle.names.specs.declared.Order.{Order}
-use Rattle.names.specs.declared.Order.TheVariants.{Below, Same, Above}
-use Rattle.names.specs.Names.{Names, count, window, is_digit, order, is_below, ascends}
-use Rattle.names.specs.Call.{Texts, from, to, work_word_count, blank, fault, scan_fault, length_for, from_after, to_after}
-use Rattle.names.proofs.Orders.{order_trans}
+use Rattle.names.specs.Names.{Names, count, name_at, is_digit, order, ascends, ascending}
+use Rattle.names.specs.Call.{Texts, from, to, work_word_count, blank, fault, scan_fault, from_after, to_after}
 use Rattle.names.proofs.Checks.{Sound}
 use Rattle.lookup.specs.Index.{Indexed}
 use Rattle.lookup.specs.Search.{Ascends}
-use Rattle.scan.specs.Passing.{Ready, CountedAll}
-use Rattle.scan.proofs.Putting.{PutAll}
+use Rattle.scan.specs.Passing.{Ready, Filled}
 
 -- ---- names that pass check 19
 
-below_is : (o : Order) → is_below o ≡ true → o ≡ Below
-below_is Below e = refl
-below_is Same e = let z : ◌≡◌ {A = ℕ} 0 1 = cc in absurd (omega arith)
-below_is Above e = let z : ◌≡◌ {A = ℕ} 0 1 = cc in absurd (omega arith)
+below_is : (o : Ordering) → is_lt o ≡ true → o ≡ Less
+below_is Less e = refl
+below_is Equal e = cc
+below_is Greater e = cc
 
-module _ (names : List ℕ) (w k : ℕ) (h : ascends names w k ≡ true) where
-  next_below : (i : ℕ) → suc i < k → order (window w names (i * w)) (window w names (suc i * w)) ≡ Below
+module _ (N : Names) (h : ascending N ≡ true) where
+  next_below : (i : ℕ) → suc i < count N → order (name_at N i) (name_at N (suc i)) ≡ Less
   unfolding ascends
-  next_below i l = below_is _ (up_to_each (λ (i : ℕ). is_below (order (window w names (i * w)) (window w names (suc i * w)))) (k - 1) h i (omega arith))
+  next_below i l = below_is _ (up_to_each (λ (i : ℕ). is_lt (order (name_at N i) (name_at N (suc i)))) (count N - 1) h i (omega arith))
 
-  later_below : (i d : ℕ) → i + suc d < k → order (window w names (i * w)) (window w names ((i + suc d) * w)) ≡ Below
+  later_below : (i d : ℕ) → i + suc d < count N → order (name_at N i) (name_at N (i + suc d)) ≡ Less
   later_below i zero l = let e : i + 1 ≡ suc i = omega arith in rw e (next_below i (omega arith))
   later_below i (suc d) l =
       let e : i + suc (suc d) ≡ suc (i + suc d) = omega arith in
       rw e
-      (order_trans (window w names (i * w)) (window w names ((i + suc d) * w)) (window w names (suc (i + suc d) * w))
+      (nat_list_cmp_total.trans (name_at N i) (name_at N (i + suc d)) (name_at N (suc (i + suc d)))
       (later_below i d (omega arith)) (next_below (i + suc d) (omega arith)))
 
   -- each name is below every later one
-  ascending_all : Ascends names w k
+  ascending_all : Ascends N
   ascending_all i j l g = let e : i + suc (j - suc i) ≡ j = omega arith in rw e at (later_below i (j - suc i) (omega arith))
 
 digits_at_lem : (l : List ℕ) → all is_digit l ≡ true → (i : ℕ) → i < length l → is_digit (get_or l i 0) ≡ true
@@ -60,12 +51,12 @@ digits_at_lem (b ∷ l) h (suc i) g = digits_at_lem l (both_true (is_digit b) (a
 
 -- ---- no check fails
 
-pub ready : {N : Names} {T : Texts} → Sound N T → {index : List ℕ} → Indexed N.bytes N.width (count N) index → Ready N index
+pub ready : {N : Names} {T : Texts} → Sound N T → {index : List ℕ} → Indexed N index → Ready N index
 ready {N} s x =
     record {
       some = s.some;
       long = s.long;
-      ascends = ascending_all N.bytes N.width (count N) s.ascends;
+      ascends = ascending_all N s.ascends;
       digits = digits_at_lem N.bytes s.digits;
       indexed = x;
     }
@@ -89,63 +80,27 @@ module _ (work : List ℕ) (b : blank work ≡ true) where
   work_again h e =
       e ∙ ap (λ (k : ℕ). replicate k 0) (h ∙ sym work_long) ∙ sym (none_below work (both_true (eqb (length work) work_word_count) (all_below 1 work) b).1)
 
--- ---- the length
+-- ---- the lists
 
-module _ (n : ℕ) (N : Names) (T : Texts) (ready : Bool) where
-  length_none : (k b : ℕ) → 0 < k → length_with k 0 ≡ length_by k b
-  length_none zero b h = absurd (omega arith)
-  length_none (suc k) b h = refl
+module _ (n : ℕ) (N : Names) (T : Texts) (ready : Bool) (fs ts : List ℕ) where
+  -- what is answered, and the lists afterwards
+  abbrev pub Answers : Result (Unit {0}) Refusal → List ℕ → List ℕ → Type 0
+  Answers r fs' ts' =
+      (number_of r ≡ scan_fault n N T ready (length fs) (length ts)) × (fs' ≡ from_after n N T ready fs ts) × (ts' ≡ to_after n N T ready fs ts)
 
-  pub length_refused : (r : Refusal) → number r ≡ fault n N T ready → length_row (Refused r) ≡ length_for n N T ready
-  length_refused r e = length_none (number r) (length (to N T)) (numbered r) ∙ ap (λ (k : ℕ). length_by k (length (to N T))) e
+  -- by the number of the fault
+  by_number : (r : Result (Unit {0}) Refusal) {k : ℕ} {fs' ts' : List ℕ} → number_of r ≡ k → k ≡ scan_fault n N T ready (length fs) (length ts)
+      → fs' ≡ unless_refused k (from N T) fs → ts' ≡ unless_refused k (to N T) ts → Answers r fs' ts'
+  by_number r h e f t =
+      (h ∙ e, f ∙ ap (λ (k : ℕ). unless_refused k (from N T) fs) e, t ∙ ap (λ (k : ℕ). unless_refused k (to N T) ts) e)
 
-  pub length_told : fault n N T ready ≡ 0 → {k : ℕ} → CountedAll N T.bytes T.ends k → length_row (Is k) ≡ length_for n N T ready
-  length_told z c = ap (length_with 0) c.is ∙ sym (ap (λ (k : ℕ). length_by k (length (to N T))) z)
+  -- a check fails
+  pub refused : (r : Refusal) → number r ≡ fault n N T ready → Answers (Err r) fs ts
+  unfolding scan_fault
+  refused r e = by_number (Err r) refl (first_found r (fault n N T ready) _ e) (kept r (from N T) fs) (kept r (to N T) ts)
 
-  -- ---- the lists
-
-  module _ (fs ts : List ℕ) where
-    -- a number answered, and the lists afterwards; the work in between is as it was
-    abbrev pub Answers : ℕ → List ℕ → List ℕ → List ℕ → List ℕ → Type 0
-    Answers k work work' fs' ts' =
-        (k ≡ scan_fault n N T ready (length fs) (length ts)) × ((work' ≡ work) × ((fs' ≡ from_after n N T ready fs ts) × (ts' ≡ to_after n N T ready fs ts)))
-
-    -- by the number of the fault
-    unwritten : {k : ℕ} → suc k ≡ scan_fault n N T ready (length fs) (length ts) → {work work' : List ℕ} → work' ≡ work → Answers (suc k) work work' fs ts
-    unwritten e w = (e, (w, (ap (λ (k : ℕ). unless_refused k (from N T) fs) e, ap (λ (k : ℕ). unless_refused k (to N T) ts) e)))
-
-    pub scan_refused : (r : Refusal) → number r ≡ fault n N T ready → (work : List ℕ) → Answers (number r) work work fs ts
-    unfolding scan_fault
-    scan_refused r e work =
-        let f : number r ≡ scan_fault n N T ready (length fs) (length ts) = first_found r (fault n N T ready) _ e in (
-          f,
-          (
-            refl,
-            (
-              kept r (from N T) fs ∙ ap (λ (k : ℕ). unless_refused k (from N T) fs) f,
-              kept r (to N T) ts ∙ ap (λ (k : ℕ). unless_refused k (to N T) ts) f,
-            ),
-          ),
-        )
-
-    module _ (z : fault n N T ready ≡ 0) {k : ℕ} (c : CountedAll N T.bytes T.ends k) {work work' : List ℕ} (w : work' ≡ work) where
-      pub scan_short : (length fs ≡ k → ⊥) → Answers 7 work work' fs ts
-      unfolding scan_fault
-      scan_short h = unwritten (rw (z, ne_eqb (length fs) (length (to N T)) (λ e. h (e ∙ sym c.is)))) w
-
-      pub scan_long : length fs ≡ k → (length ts ≡ k → ⊥) → Answers 7 work work' fs ts
-      unfolding scan_fault
-      scan_long f h =
-          unwritten (rw (z, eq-eqb (length fs) (length (to N T)) (f ∙ c.is), ne_eqb (length ts) (length (to N T)) (λ e. h (e ∙ sym c.is)))) w
-
-      pub scan_written : length fs ≡ k → length ts ≡ k → {fs' ts' : List ℕ} → PutAll N T fs' ts' → Answers 0 work work' fs' ts'
-      unfolding scan_fault
-      scan_written f t p =
-          let e : 0 ≡ scan_fault n N T ready (length fs) (length ts) =
-          rw (z, eq-eqb (length fs) (length (to N T)) (f ∙ c.is), eq-eqb (length ts) (length (to N T)) (t ∙ c.is))
-          in
-          (e, (w, (p.sources ∙ ap (λ (k : ℕ). unless_refused k (from N T) fs) e, p.targets ∙ ap (λ (k : ℕ). unless_refused k (to N T) ts) e)))
-
--- lists as long as the mentions
-pub counted_as : {N : Names} {bytes ends : List ℕ} {k : ℕ} → CountedAll N bytes ends k → {l : ℕ} → l ≡ k → CountedAll N bytes ends l
-counted_as c e = record { is = e ∙ c.is; few = omega (arith, c.few) }
+  -- none does
+  pub filled : (r : Result (Unit {0}) Refusal) {fs' ts' : List ℕ} → fault n N T ready ≡ 0 → Filled N T fs ts fs' ts' r → Answers r fs' ts'
+  unfolding scan_fault
+  filled (Ok x) z f = by_number (Ok x) refl (rw (z, f.0)) f.1.sources f.1.targets
+  filled (Err r) z f = by_number (Err r) (ap number f.1) (rw (z, f.0)) f.2 f.3

@@ -2,76 +2,40 @@
 // texts and lists may come in.
 #![tactic(auto)]
 
-ghost use Rattle.std.specs.Prelude.{◌≡◌, true, ◌+◌, ◌*◌, ◌-◌, ◌≤◌, length};
+mod passes;
+
+ghost use Rattle.std.specs.Prelude.{◌≡◌, true, ◌*◌, length};
 ghost use Rattle.refusal.specs.Number.{number_of};
 ghost use Rattle.desk.specs.Length.{length_row};
-ghost use Rattle.names.specs.Names.{names_of, window, order, is_below, ascends};
-ghost use Rattle.names.specs.Call.{texts_of, names_misfit, blank, ends_right, fault, length_for, scan_fault, from_after, to_after};
-ghost use Rattle.scan.specs.Passing.{Ready, NextIs, Counted, CountedAll, Puttable, PutText};
+ghost use Rattle.names.specs.Names.{ascending};
+ghost use Rattle.names.specs.Call.{names_misfit, blank, ends_right, fault, length_for, scan_fault, from_after, to_after};
+ghost use Rattle.names.specs.Lent.{names_in, texts_in};
+ghost use Rattle.scan.specs.Passing.{CountedAll, Puttable, PutAll, Filled};
 
-use desk::Length;
-use names::{Order, WORK};
-use refusal::{Refusal, Verdict};
-
-// How many objects there are, and how wide a name is.
-#[derive(Clone, Copy)]
-pub struct Shape {
-    pub objects: u32,
-    pub width: u32,
-}
-
-// What the mentions of a text are written with: its owner, behind how many others, and the width.
-#[derive(Clone, Copy)]
-struct Put {
-    owner: u32,
-    top: usize,
-    width: usize,
-}
-
-// Where a text is read on: the place, and up to where its bytes were looked at.
-#[derive(Clone, Copy)]
-struct Cursor {
-    at: usize,
-    sure: usize,
-}
-
-// The place of a mention and the object mentioned; the text's end for none.
-#[derive(Clone, Copy)]
-struct Mention {
-    place: usize,
-    object: u32,
-}
+use crate::passes::Finder;
+use names::{LentNames, LentTexts, WORK};
+use refusal::{Checked, Refusal};
 
 // Check 7 of names: not as many bytes as so many names have. The product might wrap.
-fn names_misfit(bytes: usize, width: usize, count: usize) -> bool
-    ensures { result ≡ names_misfit bytes width count }
+fn names_misfit(names: &LentNames) -> bool
+    ensures { result ≡ names_misfit (length names.now.bytes.now) names.now.width (length names.now.objects.now) }
 {
-    if width == 0 {
-        return bytes != 0;
-    }
-    if bytes / width != count {
-        return true;
-    }
-    bytes % width != 0
+    names.width.checked_mul(names.objects.len()) != Some(names.bytes.len())
 }
 
 // Whether there are as many work words as the index takes, and all of them 0.
 fn is_blank(work: &[u32]) -> bool
     ensures { result ≡ blank work.now }
 {
-    if work.len() != WORK {
-        return false;
-    }
-    graph::is_below(1, work)
+    work.len() == WORK && graph::is_below(1, work)
 }
 
 // Check 10 of the ends of texts.
 fn ends_right(ends: &[u64], long: usize) -> bool
     ensures { result ≡ ends_right 0 ends.now long }
 {
-    let mut start: u64 = 0;
-    for i in 0..ends.len() {
-        let end = ends[i];
+    let mut start = 0;
+    for &end in ends {
         if end < start {
             return false;
         }
@@ -80,271 +44,124 @@ fn ends_right(ends: &[u64], long: usize) -> bool
     start == long as u64
 }
 
-// Whether the name before a place is below the one there.
-fn stands_below(names: &[u8], width: usize, at: usize) -> bool
-    requires { (width ≤ at) × (at + width ≤ length names.now) }
-    ensures { result ≡ is_below (order (window width names.now (at - width)) (window width names.now at)) }
+// Whether each name is below the one after it.
+fn is_ascending(names: &LentNames) -> bool
+    requires { length names.now.bytes.now ≡ names.now.width * length names.now.objects.now }
+    ensures { result ≡ ascending (names_in names.now) }
 {
-    let before = at - width;
-    let end = at + width;
-    match lookup::compare(&names[before..at], &names[at..end]) {
-        Order::Below => true,
-        Order::Same => false,
-        Order::Above => false,
-    }
-}
-
-// Whether each name is below the one after it. Their leads tell it, but for a few.
-fn is_ascending(names: &[u8], width: usize, count: usize) -> bool
-    requires { length names.now ≡ width * count }
-    ensures { result ≡ ascends names.now width count }
-{
-    if count == 0 {
-        return true;
-    }
-    let mut lead = lookup::lead(names, 0, width);
-    for k in 1..count {
-        let at = k * width;
-        let next = lookup::lead(names, at, width);
-        if next <= lead {
-            if !stands_below(names, width, at) {
-                return false;
-            }
-        }
-        lead = next;
-    }
-    true
+    (1..names.objects.len()).all(|k| lookup::compare(names.name(k - 1), names.name(k)).is_lt())
 }
 
 // The checks of both calls, in their order.
-fn check(
-    shape: Shape,
-    names: &[u8],
-    named: &[u32],
-    texts: &[u8],
-    ends: &[u64],
-    owners: &[u32],
-    work: &[u32],
-) -> Verdict
-    ensures { number_of result ≡ fault shape.objects (names_of shape.width names.now named.now) (texts_of texts.now ends.now owners.now) (blank work.now) }
+fn check(objects: u32, names: &LentNames, texts: &LentTexts, work: &[u32]) -> Checked
+    ensures { number_of result ≡ fault objects (names_in names.now) (texts_in texts.now) (blank work.now) }
 {
-    let objects = shape.objects as usize;
-    let width = shape.width as usize;
-    if checks::objects_outside(shape.objects) {
-        return Verdict::Faulty(Refusal::Count);
+    let below = objects as usize;
+    if checks::objects_outside(objects) {
+        return Err(Refusal::Count);
     }
-    if names_misfit(names.len(), width, named.len()) {
-        return Verdict::Faulty(Refusal::Buffer);
+    if names_misfit(names) || texts.owners.len() != texts.ends.len() || !is_blank(work) {
+        return Err(Refusal::Buffer);
     }
-    if owners.len() != ends.len() {
-        return Verdict::Faulty(Refusal::Buffer);
+    if !ends_right(texts.ends, texts.bytes.len()) {
+        return Err(Refusal::Graph);
     }
-    if !is_blank(work) {
-        return Verdict::Faulty(Refusal::Buffer);
+    if !graph::is_below(below, names.objects) || !graph::is_below(below, texts.owners) {
+        return Err(Refusal::Object);
     }
-    if !ends_right(ends, texts.len()) {
-        return Verdict::Faulty(Refusal::Graph);
+    if names.width == 0 || !lookup::all_digits(names.bytes) || !is_ascending(names) {
+        return Err(Refusal::Names);
     }
-    if !graph::is_below(objects, named) {
-        return Verdict::Faulty(Refusal::Object);
-    }
-    if !graph::is_below(objects, owners) {
-        return Verdict::Faulty(Refusal::Object);
-    }
-    if width == 0 {
-        return Verdict::Faulty(Refusal::Names);
-    }
-    if !lookup::all_digits(names) {
-        return Verdict::Faulty(Refusal::Names);
-    }
-    if !is_ascending(names, width, named.len()) {
-        return Verdict::Faulty(Refusal::Names);
-    }
-    Verdict::Fine
-}
-
-// The next mention of a text.
-fn next_mention(
-    names: &[u8],
-    named: &[u32],
-    index: &[u32],
-    width: usize,
-    text: &[u8],
-    cursor: Cursor,
-) -> Mention
-    requires { Ready (names_of width names.now named.now) index.now × (cursor.at ≤ length text.now) × (cursor.at ≤ cursor.sure) }
-    ensures { NextIs (names_of width names.now named.now) text.now cursor.at result.place result.object }
-{
-    let mut at = cursor.at;
-    let mut sure = cursor.sure;
-    while at < text.len() {
-        let place = lookup::next_place(text, at, sure, width, index);
-        if text.len() <= place {
-            return Mention { place, object: 0 };
-        }
-        let end = place + width;
-        let k = lookup::find(names, width, named.len(), index, &text[place..end]);
-        if k < named.len() {
-            return Mention {
-                place,
-                object: named[k],
-            };
-        }
-        at = place + 1;
-        sure = end;
-    }
-    Mention {
-        place: text.len(),
-        object: 0,
-    }
-}
-
-// How many mentions a text has.
-fn count_text(names: &[u8], named: &[u32], index: &[u32], width: usize, text: &[u8]) -> usize
-    requires { Ready (names_of width names.now named.now) index.now }
-    ensures { Counted (names_of width names.now named.now) text.now result }
-{
-    let mut count: usize = 0;
-    let mut at: usize = 0;
-    let mut sure: usize = 0;
-    while at < text.len() {
-        let found = next_mention(names, named, index, width, text, Cursor { at, sure });
-        let place = found.place;
-        if text.len() <= place {
-            return count;
-        }
-        count += 1;
-        at = place + 1;
-        sure = place + width;
-    }
-    count
+    Ok(())
 }
 
 // How many mentions all texts have.
-fn count_all(
-    names: &[u8],
-    named: &[u32],
-    index: &[u32],
-    width: usize,
-    texts: &[u8],
-    ends: &[u64],
-) -> usize
-    requires { Ready (names_of width names.now named.now) index.now × (ends_right 0 ends.now (length texts.now) ≡ true) }
-    ensures { CountedAll (names_of width names.now named.now) texts.now ends.now result }
+fn count_all<'a>(finder: &'a Finder<'a>, texts: &LentTexts<'a>) -> usize
+    requires { ends_right 0 texts.now.ends.now (length texts.now.bytes.now) ≡ true }
+    ensures { CountedAll finder.now (texts_in texts.now) result }
 {
     let mut count: usize = 0;
     let mut start: usize = 0;
-    for i in 0..ends.len() {
-        let end = ends[i] as usize;
-        count += count_text(names, named, index, width, &texts[start..end]);
+    for &end in texts.ends {
+        let end = end as usize;
+        count += finder.mentions(&texts.bytes[start..end]).count();
         start = end;
     }
     count
 }
 
-// Writes the mentions of a text to both lists, behind those that are there.
-fn put_text(
-    names: &[u8],
-    named: &[u32],
-    index: &[u32],
-    text: &[u8],
-    put: Put,
+// Writes all mentions to both lists, which are as long as they are many.
+// Stays (3): the place in the lists goes on from one text to the next, so no `enumerate` counts it.
+fn put_all<'a>(finder: &'a Finder<'a>, texts: &LentTexts<'a>, from: &mut [u32], to: &mut [u32])
+    requires { Puttable finder.now (texts_in texts.now) from.old to.old }
+    ensures { PutAll finder.now (texts_in texts.now) from.new to.new }
+{
+    let mut top: usize = 0;
+    let mut start: usize = 0;
+    for (&end, &owner) in texts.ends.iter().zip(texts.owners) {
+        let end = end as usize;
+        for object in finder.mentions(&texts.bytes[start..end]) {
+            from[top] = owner;
+            to[top] = object;
+            top += 1;
+        }
+        start = end;
+    }
+}
+
+// The mentions in both lists, unless these are of another length.
+fn fill<'a>(
+    finder: &'a Finder<'a>,
+    texts: &LentTexts<'a>,
     from: &mut [u32],
     to: &mut [u32],
-) -> usize
-    requires { Ready (names_of put.width names.now named.now) index.now × Puttable (names_of put.width names.now named.now) text.now put.top from.old to.old }
-    ensures { PutText (names_of put.width names.now named.now) text.now put.owner put.top from.old to.old from.new to.new result }
+) -> Checked
+    requires right { ends_right 0 texts.now.ends.now (length texts.now.bytes.now) ≡ true }
+    requires owned { length texts.now.owners.now ≡ length texts.now.ends.now }
+    ensures { Filled finder.now (texts_in texts.now) from.old to.old from.new to.new result }
 {
-    let owner = put.owner;
-    let width = put.width;
-    let mut next = put.top;
-    let mut at: usize = 0;
-    let mut sure: usize = 0;
-    while at < text.len() {
-        let found = next_mention(names, named, index, width, text, Cursor { at, sure });
-        let place = found.place;
-        if text.len() <= place {
-            return next;
-        }
-        from[next] = owner;
-        to[next] = found.object;
-        next += 1;
-        at = place + 1;
-        sure = place + width;
+    let count = count_all(finder, texts);
+    if from.len() != count || to.len() != count {
+        return Err(Refusal::Buffer);
     }
-    next
+    put_all(finder, texts, from, to);
+    Ok(())
 }
 
 // How many mentions there are. The work words are 0 again.
 pub fn scan_length(
-    shape: Shape,
-    names: &[u8],
-    named: &[u32],
-    texts: &[u8],
-    ends: &[u64],
-    owners: &[u32],
+    objects: u32,
+    names: LentNames,
+    texts: LentTexts,
     work: &mut [u32],
-) -> Length
-    ensures result_value { length_row result ≡ length_for shape.objects (names_of shape.width names.now named.now) (texts_of texts.now ends.now owners.now) (blank work.old) }
+) -> Result<u64, Refusal>
+    ensures result_value { length_row result ≡ length_for objects (names_in names.entry) (texts_in texts.entry) (blank work.old) }
     ensures work_unchanged { work.new ≡ work.old }
 {
-    let width = shape.width as usize;
-    if let Verdict::Faulty(refusal) = check(shape, names, named, texts, ends, owners, work) {
-        return Length::Refused(refusal);
-    }
-    lookup::put_index(names, width, named.len(), work);
-    let count = count_all(names, named, work, width, texts, ends);
+    check(objects, &names, &texts, work)?;
+    lookup::put_index(&names, work);
+    let count = count_all(&Finder::new(names, work), &texts);
     lookup::clear_index(work);
-    Length::Is(count as u64)
+    Ok(count as u64)
 }
 
 // The mentions, as two lists of exactly that length. The work words are 0 again.
 pub fn scan(
-    shape: Shape,
-    names: &[u8],
-    named: &[u32],
-    texts: &[u8],
-    ends: &[u64],
-    owners: &[u32],
+    objects: u32,
+    names: LentNames,
+    texts: LentTexts,
     work: &mut [u32],
     from: &mut [u32],
     to: &mut [u32],
-) -> Verdict
-    ensures result_value { number_of result ≡ scan_fault shape.objects (names_of shape.width names.now named.now) (texts_of texts.now ends.now owners.now) (blank work.old) (length from.old) (length to.old) }
+) -> Checked
+    ensures result_value { number_of result ≡ scan_fault objects (names_in names.entry) (texts_in texts.entry) (blank work.old) (length from.old) (length to.old) }
     ensures work_unchanged { work.new ≡ work.old }
-    ensures from_after { from.new ≡ from_after shape.objects (names_of shape.width names.now named.now) (texts_of texts.now ends.now owners.now) (blank work.old) from.old to.old }
-    ensures to_after { to.new ≡ to_after shape.objects (names_of shape.width names.now named.now) (texts_of texts.now ends.now owners.now) (blank work.old) from.old to.old }
+    ensures from_after { from.new ≡ from_after objects (names_in names.entry) (texts_in texts.entry) (blank work.old) from.old to.old }
+    ensures to_after { to.new ≡ to_after objects (names_in names.entry) (texts_in texts.entry) (blank work.old) from.old to.old }
 {
-    let width = shape.width as usize;
-    if let Verdict::Faulty(refusal) = check(shape, names, named, texts, ends, owners, work) {
-        return Verdict::Faulty(refusal);
-    }
-    lookup::put_index(names, width, named.len(), work);
-    let count = count_all(names, named, work, width, texts, ends);
-    if from.len() != count {
-        lookup::clear_index(work);
-        return Verdict::Faulty(Refusal::Buffer);
-    }
-    if to.len() != count {
-        lookup::clear_index(work);
-        return Verdict::Faulty(Refusal::Buffer);
-    }
-    let mut top: usize = 0;
-    let mut start: usize = 0;
-    for i in 0..ends.len() {
-        let end = ends[i] as usize;
-        let owner = owners[i];
-        top = put_text(
-            names,
-            named,
-            work,
-            &texts[start..end],
-            Put { owner, top, width },
-            from,
-            to,
-        );
-        start = end;
-    }
+    check(objects, &names, &texts, work)?;
+    lookup::put_index(&names, work);
+    let filled = fill(&Finder::new(names, work), &texts, from, to);
     lookup::clear_index(work);
-    Verdict::Fine
+    filled
 }

@@ -1,7 +1,7 @@
 -- How one card's turns are written: worker by worker, the round closed after each.
 use Rattle.std.specs.Prelude.{◌≡◌, true, List, [], ◌∷◌, ◌++◌, ℕ, ◌+◌, ◌*◌, ◌≤◌, ◌<◌, length}
 use Rattle.slices.specs.Put.{Put}
-use Rattle.hands.specs.Deck.{card_workers, deck_size}
+use Rattle.hands.specs.Deck.{card_workers, deck_size, Order}
 use Rattle.graph.specs.Graph.{all_below}
 use Rattle.hands.specs.Hand.{dealt, circle, round_of, bytes_of}
 
@@ -16,6 +16,17 @@ pub record Seats (long at next W b : ℕ) : Type 0 where
 pub record Seated (W b at : ℕ) (mid : List ℕ) (next : ℕ) (after : List ℕ) (end : ℕ) : Type 0 where
   pub more : (before xs : List ℕ) → Put before at (circle (dealt W xs)) mid next
       → Put before at (circle (dealt W (xs ++ (b ∷ [])))) after end
+
+-- an order of the workers, and room for its round at `at`
+pub record Seatable (W : ℕ) (order : List ℕ) (at long : ℕ) : Type 0 where
+  pub few : W ≤ card_workers
+  pub order_is : Order order
+  pub room : at + 2 * W ≤ long
+
+-- the round of this order stands at `at`
+pub record Closed (W : ℕ) (order : List ℕ) (at : ℕ) (before after : List ℕ) (end : ℕ) : Type 0 where
+  pub put : Put before at (circle (dealt W order)) after end
+  pub ends : end ≡ at + 2 * W
 
 -- card c is in the deck, and its round has room at `at`
 pub record Roomy (W c at long : ℕ) : Type 0 where

@@ -1,5 +1,5 @@
 -- The checks of the call in their order, and what it promises at each exit.
-use Rattle.std.proofs.Common.{◌≡◌, ℕ, suc, ◌<◌, ◌≤◌, true, false, eqb, ◌≢◌, List, length, sym, ◌∙◌, arith, le-ltb, lt-ltb, eq-eqb, ne_eqb}
+use Rattle.std.proofs.Common.{◌≡◌, Ok, Err, ℕ, suc, ◌<◌, ◌≤◌, true, false, eqb, ◌≢◌, List, length, sym, ◌∙◌, arith, le-ltb, lt-ltb, eq-eqb, ne_eqb}
 use Rattle.refusal.specs.declared.Refusal.{Refusal}
 use Rattle.refusal.specs.Number.{number}
 use Rattle.desk.specs.Limits.{most_workers}
@@ -8,7 +8,6 @@ use Rattle.hands.specs.Deck.{card_workers}
 use Rattle.hands.specs.Hand.{turns_of, bytes_of}
 use Rattle.hands.proofs.Stretches.{rounds_of_lem}
 use Rattle.seed.specs.declared.Seed.{Seed}
-use Rattle.seed.specs.declared.Dealt.TheVariants.{Moved, Refused}
 use Rattle.seed.specs.Deal.{after_draws, hand_of, fault, Deals}
 use Rattle.seed.proofs.Draws.{hand_long, hand_known, Drawable, draws_answer}
 
@@ -35,7 +34,7 @@ module _ (s : Seed) (k W n : ℕ) where
 
 module _ (s : Seed) (k W : ℕ) (before : List ℕ) where
   -- beside a refusal the schedule and the seed are as they were
-  pub refused : (r : Refusal) (j : ℕ) → number r ≡ suc j → fault s k W (length before) ≡ suc j → Deals s k W before (Refused r) before
+  pub refused : (r : Refusal) (j : ℕ) → number r ≡ suc j → fault s k W (length before) ≡ suc j → Deals s k W before (Err r) before
   refused r j n e =
       record {
         number_is = n ∙ sym e;
@@ -46,7 +45,7 @@ module _ (s : Seed) (k W : ℕ) (before : List ℕ) where
       }
 
   pub dealt_all : fault s k W (length before) ≡ 0 → Drawable s → 1 ≤ W → W ≤ card_workers → {t : Seed} {after : List ℕ} → t ≡ after_draws k s
-      → after ≡ turns_of W (hand_of k s) → Deals s k W before (Moved t) after
+      → after ≡ turns_of W (hand_of k s) → Deals s k W before (Ok t) after
   dealt_all e d some few m w =
       record {
         number_is = sym e;

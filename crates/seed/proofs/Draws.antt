@@ -1,9 +1,8 @@
 -- Draws one after another: the hand and the seed grow at the end, every card is in the deck, and no draw is refused.
-use Rattle.std.proofs.Common.{◌≡◌, ℕ, zero, suc, ◌+◌, ◌^◌, ◌<◌, true, ◌≢◌, List, [], ◌∷◌, ◌++◌, length, get_or, refl, ap, mod-lt, arith, lt-ltb}
+use Rattle.std.proofs.Common.{◌≡◌, Ok, ℕ, zero, suc, ◌+◌, ◌^◌, ◌<◌, true, ◌≢◌, List, [], ◌∷◌, ◌++◌, length, get_or, refl, ap, mod-lt, arith, lt-ltb}
 use Rattle.graph.specs.Graph.{all_below}
 use Rattle.hands.specs.Deck.{deck_size}
 use Rattle.seed.specs.declared.Seed.{Seed}
-use Rattle.seed.specs.declared.Drawn.TheVariants.{Card}
 use Rattle.seed.specs.Draw.{next, card_of, wrap, drawn}
 use Rattle.seed.specs.Deal.{after_draws, hand_of}
 use Rattle.seed.proofs.Words.{next_moves, drawn_card, xorshift_low, xorshift_zero}
@@ -45,7 +44,7 @@ drawable_next s d =
     rw (next_moves s.first s d.some)
     (record { some = λ e. d.some (xorshift_zero s.first d.low e); low = xorshift_low s.first d.low })
 
-pub draws_answer : (k : ℕ) (s : Seed) → Drawable s → (i : ℕ) → i < k → drawn (after_draws i s) ≡ Card (get_or (hand_of k s) i 0)
+pub draws_answer : (k : ℕ) (s : Seed) → Drawable s → (i : ℕ) → i < k → drawn (after_draws i s) ≡ Ok (get_or (hand_of k s) i 0)
 unfolding after_draws hand_of
 draws_answer zero s d i h = absurd (omega arith)
 draws_answer (suc k) s d zero h = drawn_card s.first (next s) d.some

@@ -1,11 +1,8 @@
 -- A word that a draw moves: by what its first word is, and that a first word other than 0 never becomes 0.
-use Rattle.std.proofs.Common.{◌≡◌, ℕ, zero, suc, ◌-◌, ◌*◌, ◌/◌, ◌^◌, ◌<◌, ◌≢◌, refl, ap, ◌∙◌, mod-lt, arith}
+use Rattle.std.proofs.Common.{◌≡◌, Ok, ℕ, zero, suc, ◌-◌, ◌*◌, ◌/◌, ◌^◌, ◌<◌, ◌≢◌, refl, mod-lt, arith}
 use lib.Bits.{bit_xor, xor_add_and, and_le_l, and_le_r, xor_lt}
-use Rattle.refusal.specs.declared.Refusal.TheVariants.{Seed as NoSeed}
 use Rattle.seed.specs.declared.Seed.{Seed}
-use Rattle.seed.specs.declared.Drawn.{Drawn}
-use Rattle.seed.specs.declared.Drawn.TheVariants.{Card, Refused}
-use Rattle.seed.specs.Draw.{left, right, shifted_once, shifted_twice, xorshifted, moved, next_by, next, card_of, drawn_by, drawn}
+use Rattle.seed.specs.Draw.{left, right, shifted_once, shifted_twice, xorshifted, moved, next_by, card_of, drawn_by}
 
 -- ---- by the first word
 
@@ -13,17 +10,9 @@ pub next_moves : (n : ℕ) (s : Seed) → n ≢ 0 → next_by n s ≡ moved s
 next_moves zero s h = absurd (h refl)
 next_moves (suc n) s h = refl
 
-pub next_stays : (n : ℕ) (s : Seed) → n ≡ 0 → next_by n s ≡ s
-next_stays zero s e = refl
-next_stays (suc n) s e = absurd (omega arith)
-
-pub drawn_card : (n : ℕ) (s : Seed) → n ≢ 0 → drawn_by n s ≡ Card (card_of s)
+pub drawn_card : (n : ℕ) (s : Seed) → n ≢ 0 → drawn_by n s ≡ Ok (card_of s)
 drawn_card zero s h = absurd (h refl)
 drawn_card (suc n) s h = refl
-
-pub drawn_none : (n : ℕ) (s : Seed) → n ≡ 0 → drawn_by n s ≡ Refused NoSeed
-drawn_none zero s e = refl
-drawn_none (suc n) s e = absurd (omega arith)
 
 -- ---- the xorshift can be undone, so only 0 becomes 0
 
@@ -65,15 +54,3 @@ xorshift_zero x h e =
     let c = left_5 (shifted_twice x) (twice_low x h) (xor_same (shifted_twice x) (left 5 (shifted_twice x)) e) in
     let b = right_17 (shifted_once x) (xor_same (shifted_once x) (right 17 (shifted_once x)) c) in
     left_13 x h (xor_same x (left 13 x) b)
-
--- a draw refuses by the word that it finds, and tells by the word that it leaves: the two are 0 together
-told : (s : Seed) → s.first < 2 ^ 32 → drawn_by (next s).first (next s) ≡ drawn s
-told s h = by_word s.first refl
-  where
-    by_word : (n : ℕ) → s.first ≡ n → drawn_by (next_by n s).first (next_by n s) ≡ drawn_by n (next_by n s)
-    by_word zero e = drawn_none s.first s e
-    by_word (suc n) e = drawn_card (xorshifted s.first) (moved s) (λ z. omega (arith, xorshift_zero s.first h z))
-
--- so what the next seed tells is what the draw answers
-pub tells : (s r : Seed) (d : Drawn) → s.first < 2 ^ 32 → r ≡ next s → d ≡ drawn_by r.first r → d ≡ drawn s
-tells s r d h e f = f ∙ ap (λ (t : Seed). drawn_by t.first t) e ∙ told s h

@@ -1,14 +1,12 @@
 -- SPECIFICATION 10: the schedule of so many draws, its checks (8, 16, 15, 7), and the seed that is left.
-use Rattle.std.specs.Prelude.{◌≡◌, ℕ, zero, suc, ◌<◌, List, [], ◌∷◌, length, ◌==◌, slice_index}
-use Rattle.refusal.specs.Number.{number}
+use Rattle.std.specs.Prelude.{◌≡◌, Result, Ok, Err, ℕ, zero, suc, ◌<◌, List, [], ◌∷◌, length, ◌==◌, slice_index}
+use Rattle.refusal.specs.declared.Refusal.{Refusal}
+use Rattle.refusal.specs.Number.{number_of}
 use Rattle.refusal.specs.Order.{raise, first}
 use Rattle.desk.specs.Checks.{workers_fault}
 use Rattle.desk.specs.Kept.{unless_refused}
 use Rattle.hands.specs.Hand.{turns_of, width_fault, schedule_fault, Rounds}
 use Rattle.seed.specs.declared.Seed.{Seed}
-use Rattle.seed.specs.declared.Drawn.TheVariants.{Card}
-use Rattle.seed.specs.declared.Dealt.{Dealt}
-use Rattle.seed.specs.declared.Dealt.TheVariants.{Moved, Refused}
 use Rattle.seed.specs.Draw.{next, card_of, drawn}
 
 -- the seed after k draws
@@ -34,22 +32,18 @@ fault s k W long =
 
 -- ---- the answer
 
-abbrev pub refusal_of : Dealt → ℕ
-refusal_of (Moved s) = 0
-refusal_of (Refused r) = number r
-
 -- the seed that the caller has afterwards
-abbrev pub seed_left : Seed → Dealt → Seed
-seed_left s (Moved t) = t
-seed_left s (Refused r) = s
+abbrev pub seed_left : Seed → Result Seed Refusal → Seed
+seed_left s (Ok t) = t
+seed_left s (Err r) = s
 
 -- the promise of the call, for all inputs
-pub record Deals (s : Seed) (k W : ℕ) (before : List ℕ) (r : Dealt) (after : List ℕ) : Type 0 where
-  pub number_is : refusal_of r ≡ fault s k W (length before)
+pub record Deals (s : Seed) (k W : ℕ) (before : List ℕ) (r : Result Seed Refusal) (after : List ℕ) : Type 0 where
+  pub number_is : number_of r ≡ fault s k W (length before)
   -- the schedule of the cards drawn, and the seed as those draws leave it; both unchanged beside a refusal
   pub schedule_is : after ≡ unless_refused (fault s k W (length before)) (turns_of W (hand_of k s)) before
   pub seed_is : seed_left s r ≡ unless_refused (fault s k W (length before)) (after_draws k s) s
   -- the cards are those that k draws answer, one after the other
-  pub draws : fault s k W (length before) ≡ 0 → (i : ℕ) → i < k → drawn (after_draws i s) ≡ Card (slice_index (hand_of k s) i)
+  pub draws : fault s k W (length before) ≡ 0 → (i : ℕ) → i < k → drawn (after_draws i s) ≡ Ok (slice_index (hand_of k s) i)
   -- each draw is a stretch, so enough rounds finish, whatever the seed
   pub brings : fault s k W (length before) ≡ 0 → Rounds W k after

@@ -1,11 +1,10 @@
 -- SPECIFICATION 10: the draw. A seed is two words of 32 bits; a draw moves both, and the moved words give a card.
-use Rattle.std.specs.Prelude.{ℕ, zero, suc, ◌+◌, ◌*◌, ◌/◌, ◌%◌, ◌^◌, bit_xor}
+use Rattle.std.specs.Prelude.{Result, Ok, Err, ℕ, zero, suc, ◌+◌, ◌*◌, ◌/◌, ◌%◌, ◌^◌, bit_xor}
+use Rattle.refusal.specs.declared.Refusal.{Refusal}
 use Rattle.refusal.specs.declared.Refusal.TheVariants.{Seed as NoSeed}
 use Rattle.refusal.specs.Number.{number}
 use Rattle.hands.specs.Deck.{deck_size}
 use Rattle.seed.specs.declared.Seed.{Seed}
-use Rattle.seed.specs.declared.Drawn.{Drawn}
-use Rattle.seed.specs.declared.Drawn.TheVariants.{Card, Refused}
 
 -- modulo 4,294,967,296
 abbrev pub wrap : ℕ → ℕ
@@ -49,12 +48,12 @@ abbrev pub card_of : Seed → ℕ
 card_of s = wrap (s.first + s.second) % deck_size
 
 -- what moved words answer
-abbrev pub drawn_by : ℕ → Seed → Drawn
-drawn_by zero s = Refused NoSeed
-drawn_by (suc k) s = Card (card_of s)
+abbrev pub drawn_by : ℕ → Seed → Result ℕ Refusal
+drawn_by zero s = Err NoSeed
+drawn_by (suc k) s = Ok (card_of s)
 
 -- what a draw answers: 16 where the first word is 0, else the card of the moved words
-abbrev pub drawn : Seed → Drawn
+abbrev pub drawn : Seed → Result ℕ Refusal
 drawn s = drawn_by s.first (next s)
 
 -- as a row of SPECIFICATION 2: the number, 0 for no fault, and the card, which is 0 beside a refusal
@@ -62,6 +61,6 @@ pub record DrawRow : Type 0 where
   pub number : ℕ
   pub card : ℕ
 
-abbrev pub draw_row : Drawn → DrawRow
-draw_row (Card c) = record { number = 0; card = c }
-draw_row (Refused r) = record { number = number r; card = 0 }
+abbrev pub draw_row : Result ℕ Refusal → DrawRow
+draw_row (Ok c) = record { number = 0; card = c }
+draw_row (Err r) = record { number = number r; card = 0 }

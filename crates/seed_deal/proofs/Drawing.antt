@@ -1,20 +1,19 @@
 -- The loops over the draws: the seed and the rounds of those that were drawn.
-use mathlib.Core.Path.{◌≡◌, refl, ap, sym, subst, ◌∙◌}
+use mathlib.Core.Path.{◌≡◌, refl, ap, sym, ◌∙◌}
 use mathlib.Core.List.{List, append-nil}
 use Prim.Native.Nat.{ℕ, ◌+◌, ◌*◌, ◌≤◌, ◌<◌}
 use native.Mathlib.Nat.{suc-mul, zero-mul, mul-le-mul_right}
 use native.Mathlib.Numerals.{add-one}
 use native.Mathlib.Omega.{arith}
-use lib.ListN.{length}
+use lib.ListN.{length, replicate}
 use lib.Seq.{drop-length}
 use Rattle.laws.specs.Blocks.{laid}
 use Rattle.slices.specs.Put.{Put}
-use Rattle.slices.specs.Slices.{cleared}
 use Rattle.slices.proofs.Written.{nothing, then, same_long}
 use Rattle.hands.specs.Hand.{round_of, turns_of}
 use Rattle.hands.proofs.Rows.{laid_snoc}
 use Rattle.seats.specs.Rounding.{Roomy, Rounded}
-use Rattle.cards.proofs.Copying.{zeros}
+use Rattle.cards.proofs.Zeros.{zeros}
 use Rattle.seed.specs.declared.Seed.{Seed}
 use Rattle.seed.specs.Draw.{next, card_of}
 use Rattle.seed.specs.Deal.{after_draws, hand_of}
@@ -72,16 +71,10 @@ module _ {s : Seed} {k W : ℕ} {before : List ℕ} where
 pub after_next : (i : ℕ) (s : Seed) {left t : Seed} → left ≡ after_draws i s → t ≡ next left → t ≡ after_draws (i + 1) s
 after_next i s m e = rw add-one (e ∙ ap next m ∙ sym (after_snoc i s))
 
--- ---- one worker, and a number of workers that is known
-
-pub drawing_for : {k W j long : ℕ} → W ≡ j → Drawing k W long → Drawing k j long
-drawing_for {k} {long = long} e d = subst (λ (w : ℕ). Drawing k w long) e d
-
-pub drew_for : {s left : Seed} {k W j : ℕ} {schedule : List ℕ} → W ≡ j → Drew s k j left schedule → Drew s k W left schedule
-drew_for {s} {left} {k} {schedule = schedule} e d = subst (λ (w : ℕ). Drew s k w left schedule) (sym e) d
+-- ---- one worker
 
 pub drew_zeros : {s left : Seed} {k W : ℕ} {schedule : List ℕ} (before : List ℕ) → W ≡ 1 → Drawing k W (length before)
-    → left ≡ after_draws k s → schedule ≡ cleared before 0 (length before) → Drew s k W left schedule
+    → left ≡ after_draws k s → schedule ≡ replicate (length before) 0 → Drew s k W left schedule
 drew_zeros {s} {k = k} before one d m e =
     record {
       seed_is = m;

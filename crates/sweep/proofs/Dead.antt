@@ -3,11 +3,12 @@ use mathlib.Core.Path.{◌≡◌, refl, ap, sym, ◌∙◌}
 use mathlib.Core.Bool.{true, false}
 use mathlib.Core.List.{List, [], ◌∷◌, ◌++◌, append_assoc, append-nil}
 use Prim.Native.Nat.{ℕ, zero, suc, ◌+◌, ◌-◌, ◌/◌, ◌≤◌, ◌<◌}
-use native.Mathlib.Nat.{div-lt_iff_lt-mul}
+use native.Mathlib.Nat.{div-lt_iff_lt-mul, zero-add}
 use native.Mathlib.Omega.{arith}
 use native.Mathlib.Numerals.{add-one}
 use lib.Dec.{leb}
-use lib.ListN.{length, get_or, take, drop, set, replicate, length-set, drop_of_length-le}
+use lib.ListN.{length, get_or, take, drop, set, replicate, length-set, length-drop, drop_of_length-le}
+use Rattle.std.proofs.lemmas.List.{get_or-take, get_or-drop}
 use lib.Seq.{drop-cons, take-suc-set, take-set-le, drop-length, length-take-le}
 use borrow.Author.Tests.{leb-true, le-leb, lt-leb}
 use Rattle.laws.specs.Sum.{sum}
@@ -175,3 +176,15 @@ at_skip {i = i} (suc k) a h l =
 pub padded : {marks sizes before mid after : List ℕ} {count freed n : ℕ} → Listed marks sizes before mid count freed → length before ≡ n
     → after ≡ cleared mid count n → after ≡ dead marks ++ replicate (length before - length (dead marks)) 0
 padded {mid = mid} l e z = rw (z, ← e, ← l.long, drop-length mid, append-nil, l.front, l.counted)
+
+-- a block whose objects are all marked
+pub live_block : (marks : List ℕ) (from : ℕ) → from + 16 ≤ length marks
+    → LiveFor (take (from + 16 - from) (drop from marks)) 0 (length (take (from + 16 - from) (drop from marks))) → LiveFor marks from 16
+live_block marks from h l j q z =
+    let n : from + 16 - from ≡ 16 = omega arith in
+    let long : length (drop from marks) ≡ length marks - from = length-drop from marks in
+    let size : length (take (from + 16 - from) (drop from marks)) ≡ 16 =
+    rw n (length-take-le 16 (drop from marks) (omega (arith, long))) in
+    let same : get_or (take (from + 16 - from) (drop from marks)) (0 + j) 0 ≡ get_or marks (from + j) 0 =
+    rw (n, zero-add) (get_or-take 16 (drop from marks) j 0 q ∙ get_or-drop from marks j 0) in
+    l j (omega (arith, size)) (same ∙ z)

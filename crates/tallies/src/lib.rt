@@ -2,20 +2,19 @@
 // (SPECIFICATION 8.2).
 #![tactic(auto)]
 
-mod fields;
-
-ghost use Rattle.std.specs.Prelude.{◌≡◌, ◌<◌, ◌≤◌, length};
+ghost use Rattle.std.specs.Prelude.{◌≡◌, ◌+◌, ◌≤◌, ◌<◌, length};
 ghost use Rattle.laws.specs.Decides.{Decides};
 ghost use Rattle.graph.specs.Limits.{most_references};
-ghost use Rattle.desk.specs.Lengths.{tally_word_count, workers_place};
-ghost use Rattle.saved.specs.Layout.{counts_in};
+ghost use Rattle.desk.specs.Limits.{most_workers};
+ghost use Rattle.desk.specs.Lengths.{counts_number, tally_word_count, workers_place, marks_place};
+ghost use Rattle.saved.specs.Layout.{count_in, counts_in, tally_number};
 ghost use Rattle.tallies.specs.Counts.{TalliesThere, tally_sum, ClaimsSound, TalliesSound, CountsRight, CountsLow, RangesLow, SumsLow, Agree};
 
 use desk::{Settings, places};
 use machine::Counts;
 
 // What the marks, the starts and the workers come to.
-#[derive(Clone, Copy)]
+#[derive(Clone, Copy, Debug, PartialEq, Eq)]
 pub struct Sums {
     pub live: u64,
     pub leaving: u64,
@@ -26,19 +25,36 @@ pub struct Sums {
     pub carried: u64,
 }
 
+// Saved count k.
+fn count(saved: &[u32], k: usize) -> u64
+    requires { (k < counts_number) × (workers_place ≤ length saved.now) }
+    ensures { result ≡ count_in saved.now k }
+{
+    saved::number(saved, places::COUNTS_PLACE + 2 * k)
+}
+
 // The saved counts.
 fn saved_counts(saved: &[u32]) -> Counts
     requires { workers_place ≤ length saved.now }
     ensures { result ≡ counts_in saved.now }
 {
     Counts {
-        live: fields::count(saved, 0),
-        followed: fields::count(saved, 1),
-        handed: fields::count(saved, 2),
-        refused: fields::count(saved, 3),
-        moved: fields::count(saved, 4),
-        carrying: fields::count(saved, 5),
+        live: count(saved, 0),
+        followed: count(saved, 1),
+        handed: count(saved, 2),
+        refused: count(saved, 3),
+        moved: count(saved, 4),
+        carrying: count(saved, 5),
     }
+}
+
+// Number k of worker b's tally.
+fn tally(saved: &[u32], workers: u32, b: u32, k: usize) -> u64
+    requires { TalliesThere workers saved.now × (b < workers) × (k < tally_word_count) }
+    ensures { result ≡ tally_number workers saved.now b k }
+{
+    let first = places::tallies(workers) + 2 * places::TALLY * b as usize;
+    saved::number(saved, first + 2 * k)
 }
 
 // Whether number k of the tallies sums to a total.
@@ -47,9 +63,8 @@ fn adds_up(saved: &[u32], workers: u32, k: usize, total: u64) -> bool
     ensures { Decides result (tally_sum workers saved.now k workers ≡ total) }
 {
     let mut left = total;
-    let first = places::tallies(workers);
     for b in 0..workers {
-        let x = fields::number(saved, first + fields::TALLY * b as usize + 2 * k);
+        let x = tally(saved, workers, b, k);
         if left < x {
             return false;
         }
@@ -63,16 +78,11 @@ fn claims_sound(saved: &[u32], workers: u32) -> bool
     requires { TalliesThere workers saved.now }
     ensures { Decides result (ClaimsSound workers saved.now) }
 {
-    let first = places::tallies(workers);
     for b in 0..workers {
-        let at = first + fields::TALLY * b as usize;
-        let followed = fields::number(saved, at + fields::FOLLOWED);
-        let won = fields::number(saved, at + fields::WON);
-        let lost = fields::number(saved, at + fields::LOST);
-        if followed < won {
-            return false;
-        }
-        if followed - won < lost {
+        let followed = tally(saved, workers, b, 0);
+        let won = tally(saved, workers, b, 1);
+        let lost = tally(saved, workers, b, 2);
+        if followed < won || followed - won < lost {
             return false;
         }
     }
@@ -84,22 +94,11 @@ fn tallies_sound(saved: &[u32], workers: u32, c: Counts, distinct: u64) -> bool
     requires { TalliesThere workers saved.now }
     ensures { Decides result (TalliesSound workers saved.now c distinct) }
 {
-    let live = c.live;
-    let followed = c.followed;
-    let handed = c.handed;
-    if live < distinct {
-        return false;
-    }
-    if !adds_up(saved, workers, 0, followed) {
-        return false;
-    }
-    if !adds_up(saved, workers, 1, live - distinct) {
-        return false;
-    }
-    if !adds_up(saved, workers, 3, handed) {
-        return false;
-    }
-    claims_sound(saved, workers)
+    distinct <= c.live
+        && adds_up(saved, workers, 0, c.followed)
+        && adds_up(saved, workers, 1, c.live - distinct)
+        && adds_up(saved, workers, 3, c.handed)
+        && claims_sound(saved, workers)
 }
 
 // Whether the counts are those of the marks and the workers.
@@ -107,21 +106,11 @@ fn counts_right(references: u64, c: Counts, s: Sums) -> bool
     requires { (references ≤ most_references) × SumsLow s }
     ensures { Decides result (CountsRight references c s) }
 {
-    if c.live != s.live {
-        return false;
-    }
-    if c.carrying != s.carrying {
-        return false;
-    }
-    if references < c.followed {
-        return false;
-    }
-    if s.ended != 0 {
-        if s.carried != 0 {
-            return false;
-        }
-    }
-    c.followed + s.carried + s.leaving == references
+    c.live == s.live
+        && c.carrying == s.carrying
+        && (s.ended == 0 || s.carried == 0)
+        && c.followed <= references
+        && c.followed + s.carried + s.leaving == references
 }
 
 // Whether they are within their bounds.
@@ -129,19 +118,11 @@ fn counts_low(references: u64, workers: u64, cutoff: u64, c: Counts, since: u64)
     requires { RangesLow references workers cutoff }
     ensures { Decides result (CountsLow references workers cutoff c since) }
 {
-    if 7 * references + workers < c.moved {
-        return false;
-    }
-    if 3 * references < c.handed {
-        return false;
-    }
-    if 3 * references < c.handed * cutoff {
-        return false;
-    }
-    if c.followed < since {
-        return false;
-    }
-    c.refused <= c.moved
+    c.moved <= 7 * references + workers
+        && c.handed <= 3 * references
+        && c.handed * cutoff <= 3 * references
+        && since <= c.followed
+        && c.refused <= c.moved
 }
 
 // Both, and the tallies.
@@ -151,17 +132,8 @@ pub fn agree(saved: &[u32], references: u64, settings: Settings, s: Sums) -> boo
 {
     let workers = settings.workers;
     let c = saved_counts(saved);
-    if !counts_right(references, c, s) {
-        return false;
-    }
-    if !counts_low(
-        references,
-        workers as u64,
-        settings.cutoff as u64,
-        c,
-        s.since,
-    ) {
-        return false;
-    }
-    tallies_sound(saved, workers, c, s.distinct)
+    let cutoff = u64::from(settings.cutoff);
+    counts_right(references, c, s)
+        && counts_low(references, u64::from(workers), cutoff, c, s.since)
+        && tallies_sound(saved, workers, c, s.distinct)
 }

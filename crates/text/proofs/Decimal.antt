@@ -1,16 +1,13 @@
 -- Digits are made from the last to the first: what is left of the number gives the digits in front of those made.
 use mathlib.Core.Path.{◌≡◌, ap, ◌∙◌}
-use mathlib.Core.Bool.{Bool, true, false}
-use mathlib.Core.List.{List, [], ◌∷◌, ◌++◌, append_assoc}
-use Prim.Native.Nat.{ℕ, zero, suc, ◌+◌, ◌/◌, ◌%◌, ◌≤◌, ◌<◌}
+use mathlib.Core.List.{List, ◌∷◌, ◌++◌, append_assoc}
+use Prim.Native.Nat.{ℕ, suc, ◌+◌, ◌/◌, ◌%◌, ◌≤◌, ◌<◌}
 use native.Mathlib.Omega.{arith}
 use native.Mathlib.Nat.{mod-eq_of_lt}
-use lib.ListN.{length, drop, set, length-set, length-append}
+use lib.ListN.{length, drop, set, length-set}
 use lib.Seq.{drop-cons, get_or-set_same, drop-set-lt}
-use lib.Dec.{ltb}
 use borrow.Author.Tests.{lt-ltb, le-ltb}
-use Rattle.laws.specs.Choice.{pick}
-use Rattle.text.specs.Text.{digits_in, decimal}
+use Rattle.text.specs.Text.{digits_in}
 
 module _ (i j v : ℕ) (l : List ℕ) (e : j ≡ suc i) (q : i < length l) where
   -- the store of one more digit in front
@@ -33,17 +30,3 @@ module _ (i j v : ℕ) (l : List ℕ) (e : j ≡ suc i) (q : i < length l) where
 pub none_left : (i v : ℕ) (l : List ℕ) → i ≡ 0 → l ≡ digits_in i v ++ drop i l
 unfolding digits_in
 none_left i v l e = rw e
-
--- there are at most as many digits as allowed
-digits_few : (k v : ℕ) → length (digits_in k v) ≤ k
-unfolding digits_in
-digits_few zero v = omega arith
-digits_few (suc k) v = go (ltb v 10) (digits_few k (v / 10))
-  where
-    go : (b : Bool) → length (digits_in k (v / 10)) ≤ k → length (pick b ((48 + v) ∷ []) (digits_in k (v / 10) ++ ((48 + v % 10) ∷ []))) ≤ suc k
-    go true i = omega arith
-    go false i = simp length-append (omega arith)
-
-pub decimal_few : (v : ℕ) → length (decimal v) ≤ 20
-unfolding decimal
-decimal_few v = digits_few 20 v

@@ -1,13 +1,13 @@
 -- What the tests of `is_sound` say, of the marks as the part of the words that it lends.
 use mathlib.Core.Path.{◌≡◌, refl, ap, ◌∙◌}
-use mathlib.Core.Bool.{Bool, true, false}
+use mathlib.Core.Bool.{Bool}
 use mathlib.Core.List.{List}
 use Prim.Native.Nat.{ℕ, ◌+◌, ◌-◌, ◌≤◌}
 use native.Mathlib.Omega.{arith}
 use lib.ListN.{length, get_or, take, drop}
 use Rattle.laws.specs.Decides.{Decides}
 use Rattle.laws.specs.Sum.{hit}
-use Rattle.laws.proofs.Decides.{never, decides_same}
+use Rattle.laws.proofs.Decides.{decides_same}
 use Rattle.laws.proofs.Sum.{sum_at, hit_same}
 use Rattle.graph.specs.Graph.{Graph, objects, references}
 use Rattle.graph.proofs.OverMarked.{over_total}
@@ -17,15 +17,14 @@ use Rattle.saved.specs.Layout.{state_of}
 use Rattle.saved_theorems.proofs.RoundTrip.{state_sized}
 use Rattle.tallies.specs.declared.Sums.{Sums}
 use Rattle.protocol.specs.declared.heads.Heads.{Heads}
-use Rattle.marks.specs.declared.Marks.{Marks}
-use Rattle.marks.specs.declared.Starts.{Starts}
+use Rattle.marks.specs.declared.Counted.{Counted}
 use Rattle.frontier.specs.declared.runs.Loads.{Loads}
 use Rattle.validate.specs.Checked.{Checked, Saves}
 use Rattle.tallies.specs.Counts.{TalliesThere, RangesLow, SumsLow, Agree}
-use Rattle.protocol.specs.Heads.{WorkersThere, HeadsSound, HeadsFound}
+use Rattle.protocol.specs.Heads.{HeadsCounted}
 use Rattle.protocol.specs.Ring.{LinksSound}
-use Rattle.marks.specs.Marks.{MarksThere, MarksFound, StartsBelow, StartsFound, distinct}
-use Rattle.frontier.specs.Runs.{LoadsThere, LoadedFound}
+use Rattle.marks.specs.Marks.{MarksLow, MarksSound, StartsBelow, StartsMarked, StartsCounted, distinct}
+use Rattle.frontier.specs.Runs.{LoadedAre, StretchesSound, TargetsSound}
 use Rattle.validate.proofs.Rebuilt.{Words32}
 use Rattle.validate.proofs.Told.{marks_in}
 use Rattle.validate.proofs.Parts.{SumsAre, saves}
@@ -36,25 +35,26 @@ pub marks_lent : (n W m : ℕ) (w : List ℕ) → m ≡ marks_place W → take (
 marks_lent n W m w e = let k : m + n - m ≡ n = omega arith in rw (k, e)
 
 -- all tests but the last have held
-pub record Passed (G : Graph) (starts : List ℕ) (W : ℕ) (g : Setting) (w ms : List ℕ) (heads : Heads) (marks : Marks) (begun : Starts) (loads : Loads) : Type 0 where
+pub record Passed (G : Graph) (starts : List ℕ) (W : ℕ) (g : Setting) (w ms : List ℕ) (heads : Heads) (marks : Counted) (distinct : ℕ) (loads : Loads) : Type 0 where
   pub form : get_or w 0 0 ≡ 2
-  pub heads_found : HeadsFound W g.batch w heads
-  pub heads_sound : heads.sound ≡ true
+  pub heads_are : HeadsCounted W g.batch w heads
   pub links : LinksSound W w
-  pub marks_found : MarksFound W G.offsets ms marks
-  pub marks_sound : marks.sound ≡ true
-  pub starts_found : StartsFound starts ms begun
-  pub starts_sound : begun.sound ≡ true
-  pub loads_found : LoadedFound G ms W w loads
-  pub loads_sound : loads.sound ≡ true
+  pub marks_are : MarksSound W G.offsets ms marks
+  pub starts_are : StartsCounted starts ms distinct
+  pub loads_are : LoadedAre G ms W w loads
+
+pub all_passed : {G : Graph} {starts : List ℕ} {W : ℕ} {g : Setting} {w ms : List ℕ} {heads : Heads} {marks : Counted} {some : ℕ} {loads : Loads}
+    → get_or w 0 0 ≡ 2 → HeadsCounted W g.batch w heads → LinksSound W w → MarksSound W G.offsets ms marks → StartsCounted starts ms some
+    → LoadedAre G ms W w loads → Passed G starts W g w ms heads marks some loads
+all_passed f h l m s o = record { form = f; heads_are = h; links = l; marks_are = m; starts_are = s; loads_are = o }
 
 -- the sums that it is given
-abbrev pub sums_of : Heads → Marks → Starts → Loads → Sums
-sums_of heads marks begun loads =
+abbrev pub sums_of : Heads → Counted → ℕ → Loads → Sums
+sums_of heads marks distinct loads =
     record {
       live = marks.live;
       leaving = marks.leaving;
-      distinct = begun.distinct;
+      distinct = distinct;
       ended = heads.ended;
       since = heads.since;
       carrying = loads.carrying;
@@ -62,9 +62,6 @@ sums_of heads marks begun loads =
     }
 
 module _ {G : Graph} {starts : List ℕ} {W : ℕ} {g : Setting} {w : List ℕ} (ch : Checked G starts W g w) where
-  pub workers_there : WorkersThere W w
-  workers_there = record { low = ch.accepted.workers_limit; long = omega (arith, ch.long) }
-
   pub tallies_there : TalliesThere W w
   tallies_there = record { low = ch.accepted.workers_limit; long = omega (arith, ch.long) }
 
@@ -82,14 +79,6 @@ module _ {G : Graph} {starts : List ℕ} {W : ℕ} {g : Setting} {w : List ℕ} 
     unfolding state_of
     long = ap length is ∙ (state_sized (objects G) W w ch.long).marks_length
 
-    pub marks_there : MarksThere G.offsets ms
-    marks_there =
-        record {
-          few = omega (arith, long, ch.objects_limit);
-          long = omega (arith, long, ch.accepted.some_object);
-          rises = λ v h. ch.accepted.formed.rises v (omega (arith, long));
-        }
-
     pub starts_below : StartsBelow starts (length ms)
     starts_below i h =
         let v = get_or starts i 0 in
@@ -98,55 +87,38 @@ module _ {G : Graph} {starts : List ℕ} {W : ℕ} {g : Setting} {w : List ℕ} 
     pub objects_low : length ms ≤ 65536
     objects_low = omega (arith, long, ch.objects_limit)
 
-    pub loads_there : HeadsSound W g.batch w → LoadsThere G ms W w
-    loads_there heads =
-        record {
-          formed = ch.accepted.formed;
-          some = ch.accepted.some_object;
-          objects_limit = ch.objects_limit;
-          references_limit = ch.references_limit;
-          marks_length = long;
-          workers_limit = ch.accepted.workers_limit;
-          long = ch.long;
-          batch_none = λ b h q. (heads b h).batch_none (omega arith);
-        }
+    pub marks_wrong : ¬ MarksLow W ms → Saves G starts W g w → ⊥
+    marks_wrong n r = n (rw is (marks_needed ch r))
 
-    module _ {found : Marks} (x : MarksFound W G.offsets ms found) where
-      pub marks_wrong : found.sound ≡ false → Saves G starts W g w → ⊥
-      marks_wrong f r = never (x.known (rw is (marks_needed ch r))) f
+    pub starts_wrong : ¬ StartsMarked starts ms → Saves G starts W g w → ⊥
+    starts_wrong n r = n (rw is (starts_needed ch r))
 
-    module _ {found : Starts} (x : StartsFound starts ms found) where
-      pub starts_wrong : found.sound ≡ false → Saves G starts W g w → ⊥
-      starts_wrong f r = never (x.known (rw is (starts_needed ch r))) f
+    pub loads_wrong : (StretchesSound G ms W w → TargetsSound G ms W w → ⊥) → Saves G starts W g w → ⊥
+    loads_wrong n r = n (rw is (stretches_needed ch r)) (rw is (targets_needed ch r))
 
-    module _ {found : Loads} (x : LoadedFound G ms W w found) where
-      pub loads_wrong : found.sound ≡ false → Saves G starts W g w → ⊥
-      loads_wrong f r = never (x.known (rw is (stretches_needed ch r)) (rw is (targets_needed ch r))) f
-
-    module _ {heads : Heads} {marks : Marks} {begun : Starts} {loads : Loads} (x : Passed G starts W g w ms heads marks begun loads) where
-      sums_are : SumsAre G starts W w (sums_of heads marks begun loads)
+    module _ {heads : Heads} {marks : Counted} {some : ℕ} {loads : Loads} (x : Passed G starts W g w ms heads marks some loads) where
+      sums_are : SumsAre G starts W w (sums_of heads marks some loads)
       sums_are =
           record {
-            live_is = rw is at (x.marks_found.live x.marks_sound);
-            leaving_is = rw is at (x.marks_found.leaving x.marks_sound G.targets);
-            distinct_is = x.starts_found.distinct x.starts_sound ∙ ap (λ (k : ℕ). distinct k starts) long;
-            ended_is = x.heads_found.ended x.heads_sound;
-            since_is = x.heads_found.since x.heads_sound;
-            carrying_is = x.loads_found.carrying x.loads_sound;
-            carried_is = x.loads_found.total x.loads_sound;
+            live_is = rw is at x.marks_are.counted.live;
+            leaving_is = rw is at (x.marks_are.counted.leaving G.targets);
+            distinct_is = x.starts_are.distinct ∙ ap (λ (k : ℕ). distinct k starts) long;
+            ended_is = x.heads_are.ended;
+            since_is = x.heads_are.since;
+            carrying_is = x.loads_are.carrying;
+            carried_is = x.loads_are.total;
           }
 
-      pub sums_low : SumsLow (sums_of heads marks begun loads)
+      pub sums_low : SumsLow (sums_of heads marks some loads)
       sums_low =
           let all = over_total G ch.accepted.formed (marks_in (objects G) W w) (rw is at long) in
-          record { carried_low = x.loads_found.low; leaving_low = omega (arith, sums_are.leaving_is, all, ch.references_limit) }
+          record { carried_low = x.loads_are.low; leaving_low = omega (arith, sums_are.leaving_is, all, ch.references_limit) }
 
-      pub decided : {r : Bool} → Words32 w → Decides r (Agree (references G) W g.cutoff w (sums_of heads marks begun loads))
+      pub decided : {r : Bool} → Words32 w → Decides r (Agree (references G) W g.cutoff w (sums_of heads marks some loads))
           → Decides r (Saves G starts W g w)
       decided small d =
           decides_same d
           (λ a.
-          saves ch x.form (x.heads_found.right x.heads_sound) x.links (rw is at (x.marks_found.right x.marks_sound))
-          (rw is at (x.starts_found.right x.starts_sound)) (rw is at (x.loads_found.right x.loads_sound))
-          (rw is at (x.loads_found.targets x.loads_sound)) sums_are a small)
+          saves ch x.form x.heads_are.right x.links (rw is at x.marks_are.right) (rw is at x.starts_are.right)
+          (rw is at x.loads_are.right) (rw is at x.loads_are.targets) sums_are a small)
           (λ r. agree_needed ch r sums_are)

@@ -16,10 +16,10 @@ use Rattle.machine.specs.Run.{Run, carried}
 use Rattle.machine.specs.Machine.{Worker, idle, asking, denied, ended, given, busy, Phase, poll, look, claim, runs_of, carried_by, stopped}
 use Rattle.machine.specs.Sound.{batch_of, batch_in, Supplied, holds, cell_holds, waits, since_of}
 use Rattle.theorems.proofs.Runs.{length_carried}
+use Rattle.worker.specs.Registers.{status_given, status_poll, status_claim}
 use Rattle.worker.specs.Status.{cell_word, phase_word}
 use Rattle.saved.specs.Layout.{worker_words, worker_from, rested_from, cell_from}
 use Rattle.protocol.specs.Heads.{Head}
-use Rattle.protocol.proofs.HeadLaws.{head_some, head_resting}
 
 cell_word_lem : (ce : ℕ) → cell_word (cell_from ce) ≡ ce
 cell_word_lem zero = refl
@@ -112,6 +112,34 @@ module _ {W D ce si ba : ℕ} {rs : List Run} where
 -- word k of a worker
 abbrev pub word_of : Worker → ℕ → ℕ → ℕ
 word_of w since k = get_or (worker_words w since) k 0
+
+module _ {W D status cell since batch : ℕ} where
+  -- a worker that looks or claims
+  head_some : status ≤ status_claim → cell ≤ W → batch ≤ D → status_poll < status → 0 < batch → Head W D status cell since batch
+  head_some k c d h p =
+      record {
+        known = k;
+        cell_known = c;
+        batch_limit = d;
+        batch_some = λ q. p;
+        batch_none = λ q. absurd (omega arith);
+        cell_none = λ q. absurd (omega arith);
+        since_none = λ q. absurd (omega arith);
+      }
+
+  -- one that polls, or carries nothing
+  head_resting : status ≤ status_poll → batch ≡ 0 → cell ≤ W → (status < status_poll → cell ≡ 0)
+      → (status ≡ status_given → since ≡ 0) → Head W D status cell since batch
+  head_resting k b c n s =
+      record {
+        known = omega arith;
+        cell_known = c;
+        batch_limit = omega arith;
+        batch_some = λ q. absurd (omega arith);
+        batch_none = λ q. b;
+        cell_none = n;
+        since_none = s;
+      }
 
 module _ (ce si ba : ℕ) (rs : List Run) where
   pub head_back : {W D : ℕ} (st : ℕ)

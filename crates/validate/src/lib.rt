@@ -24,32 +24,27 @@ pub fn is_sound(
     if saved[0] != places::FORM {
         return false;
     }
-    let heads = heads::check_heads(saved, workers, settings.batch);
-    if !heads.sound {
+    let Some(heads) = heads::check_heads(saved, workers, settings.batch) else {
         return false;
-    }
+    };
     if !ring::links_sound(saved, workers, heads.ended) {
         return false;
     }
     let from = places::marks(workers);
-    let to = from + (offsets.len() - 1);
-    let marks = &saved[from..to];
-    let marked = marks::check_marks(offsets, marks, workers);
-    if !marked.sound {
+    let marks = &saved[from..from + (offsets.len() - 1)];
+    let Some(marked) = marks::check_marks(offsets, marks, workers) else {
         return false;
-    }
-    let begun = marks::check_starts(starts, marks);
-    if !begun.sound {
+    };
+    let Some(distinct) = marks::check_starts(starts, marks) else {
         return false;
-    }
-    let loads = frontier::check_loads(offsets, targets, marks, saved, workers);
-    if !loads.sound {
+    };
+    let Some(loads) = frontier::check_loads(offsets, targets, marks, saved, workers) else {
         return false;
-    }
+    };
     let sums = Sums {
         live: marked.live,
         leaving: marked.leaving,
-        distinct: begun.distinct,
+        distinct,
         ended: heads.ended,
         since: heads.since,
         carrying: loads.carrying,
