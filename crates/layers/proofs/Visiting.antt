@@ -15,7 +15,7 @@ use Rattle.graph.proofs.OverMarked.{after_limit}
 use Rattle.bag.specs.declared.Bag.{Bag}
 use Rattle.bag.specs.Bag.{Same, times, contents}
 use Rattle.layers.specs.Hops.{hop_of}
-use Rattle.layers.specs.Search.{leads_to, Growable, Grown, Walkable, Apart}
+use Rattle.layers.specs.Search.{Growable, Grown, Walkable, Apart}
 use Rattle.layers.proofs.Growing.{some_hit, grown_none, growable_after, grown_then, grown_as}
 
 -- ---- the references of one object
