@@ -10,6 +10,7 @@ ghost use Rattle.bag.specs.Adder.{Unitable, Sums};
 pub const SLOTS: usize = 17;
 
 // A bag: slot k has the root of a pennant of 2^k objects, or none.
+// Stays (5): the links are lent words that all bags of a search share, so none of them holds them.
 #[derive(Clone, Copy)]
 pub struct Bag {
     pub slots: [Option<u32>; SLOTS],
@@ -62,7 +63,9 @@ impl Bag {
         size: 0,
     };
 
-    // Adds an object: a pennant of one object, which is united with those in its way.
+    // Adds an object: a pennant of one object, which is united with those in its way. Out of line, so that what tests
+    // whether an object is new stays small enough to be compiled into the loops that test.
+    #[inline(never)]
     pub fn add(&mut self, links: &mut [u32], x: u32)
         requires { Addable links.old self.old x }
         ensures { Adds links.old self.old x links.new self.new }

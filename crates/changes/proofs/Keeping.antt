@@ -1,5 +1,5 @@
 -- What remains once numbers are taken out: counted, written, and a graph again.
-use mathlib.Core.Path.{◌≡◌, refl, sym, ap, subst, ◌∙◌}
+use mathlib.Core.Path.{◌≡◌, refl, sym, ap, ◌∙◌}
 use mathlib.Core.Bool.{true, false}
 use mathlib.Core.List.{List, [], ◌∷◌, ◌++◌, map, append-nil}
 use mathlib.Core.Logic.{by_cases}
@@ -96,9 +96,6 @@ pub record PartTo (ts ws l₀ : List ℕ) (base from to at₀ : ℕ) (l : List �
   pub long : length l ≡ length l₀
   pub kept : (x : PartReady ts ws l₀ base from to at₀) → TargetsTo x.stays ts l at e
 
-pub part_none : {ts ws l : List ℕ} {base from to at : ℕ} → from ≤ to → PartTo ts ws l base from to at l at from
-part_none h = record { low = omega arith; high = h; long = refl; kept = λ x. x.kept }
-
 module _ {ts ws l₀ : List ℕ} {base from to at₀ : ℕ} {l : List ℕ} {at e : ℕ} (a : PartTo ts ws l₀ base from to at₀ l at e) where
   module _ (h : e < to) where
     module _ (q : eqb (bit ws (e - base)) 1 ≡ false) where
@@ -128,9 +125,6 @@ module _ {ts ws l₀ : List ℕ} {base from to at₀ : ℕ} {l : List ℕ} {at e
               (x.tells.agrees e (omega (arith, a.low, x.low)) h ∙ absent_no ws (e - base) q);
         }
 
-  pub part_end : to ≤ e → PartKept ts ws l₀ base from to at₀ at l
-  part_end h = λ x. let same : e ≡ to = omega (arith, a.high) in subst (λ (k : ℕ). TargetsTo x.stays ts l at k) same (a.kept x)
-
 -- ---- `keep_objects`
 
 -- a smaller window
@@ -151,10 +145,6 @@ pub record ObjectsTo (os ts ws bounds₀ places₀ : List ℕ) (base v₀ at₀ 
   pub bounds_long : length bounds ≡ length bounds₀
   pub places_long : length places ≡ length places₀
   pub kept : (x : ObjectsReady os ts ws bounds₀ places₀ base v₀ at₀ end) → KeptTo x.stays os ts bounds places e v at
-
-pub objects_none : {os ts ws bounds places : List ℕ} {base v at end : ℕ} → base ≤ end
-    → ObjectsTo os ts ws bounds places base v at end bounds places base v at
-objects_none h = record { onward = omega arith; high = h; forth = omega arith; bounds_long = refl; places_long = refl; kept = λ x. x.kept }
 
 module _ {os ts ws bounds₀ places₀ : List ℕ} {base v₀ at₀ end : ℕ} {bounds places : List ℕ} {e v at : ℕ}
     (a : ObjectsTo os ts ws bounds₀ places₀ base v₀ at₀ end bounds places e v at) where
@@ -220,11 +210,6 @@ module _ {os ts ws bounds₀ places₀ : List ℕ} {base v₀ at₀ end : ℕ} {
                     last = λ w s. let here : w ≡ v = omega arith in rw here (omega arith);
                   };
             }
-
-  pub objects_end : {v' : ℕ} → v' ≡ v → length os ≤ v → ObjectsKept os ts ws bounds₀ places₀ base v₀ at₀ end e v' at bounds places
-  objects_end same h =
-      rw same
-      (record { kept = a.kept; onward = a.onward; forth = a.forth; reached = λ q. absurd (omega arith) })
 
 -- ---- `keep`
 

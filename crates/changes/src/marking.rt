@@ -9,6 +9,7 @@ ghost use Rattle.changes.specs.Marking.{Roomy, ListLeft, Touched, Between, Follo
 pub const NEW: u8 = 255;
 
 // Marks an object and puts it on the list, unless it is marked. How many are on the list then.
+// Stays (6): the list stands in lent words, with no heap, so how many of them are in use goes beside it.
 fn touch(marks: &mut [u8], list: &mut [u32], top: usize, v: u32, value: u8) -> usize
     requires { Roomy marks.old list.old top × (v < length marks.old) × (0 < value) }
     ensures { Touched value (v ∷ []) marks.old list.old top marks.new list.new result }

@@ -64,10 +64,8 @@ fn measure(s: &[u32]) -> Extent
     ensures { measures s.now result }
 {
     let mut carried = 0;
-    let pairs = s.len() / 2;
-    for i in 0..pairs {
-        let first = s[2 * i];
-        let end = s[2 * i + 1];
+    let (pairs, _) = s.as_chunks::<2>();
+    for (i, &[first, end]) in pairs.iter().enumerate() {
         if end <= first {
             return Extent {
                 words: 2 * i as u32,
@@ -77,7 +75,7 @@ fn measure(s: &[u32]) -> Extent
         carried += end - first;
     }
     Extent {
-        words: 2 * pairs as u32,
+        words: 2 * pairs.len() as u32,
         carried,
     }
 }

@@ -9,7 +9,7 @@ ghost use Rattle.refusal.specs.Order.{raise};
 ghost use Rattle.refusal.specs.Number.{number_of};
 
 use graph::{LARGEST_SIZE, MOST_OBJECTS, MOST_REFERENCES};
-use records::Kind;
+use records::{HEADER_LENGTH, Kind, LEASE_LENGTH, RECORD_LENGTH};
 use refusal::{Checked, Refusal};
 use slices::{word2, word4, word8};
 
@@ -54,30 +54,41 @@ fn kind_fault(bytes: &[u8], long: usize, number: u16, due: Option<Kind>, n: u32)
     requires { (long ≡ length_field bytes.now) × (long ≤ length bytes.now) }
     ensures { number_of result ≡ contents_fault (kind_of number) (due_number due) n bytes.now }
 {
-    let kind = Kind::try_from(number)?;
-    if long != kind.length() {
-        return Err(Refusal::Kind);
-    }
-    match kind {
-        Kind::Header => {
+    match Kind::try_from(number) {
+        Ok(Kind::Header) => {
+            if long != HEADER_LENGTH {
+                return Err(Refusal::Kind);
+            }
             if due != Some(Kind::Header) {
                 return Err(Refusal::Place);
             }
             header_fault(bytes)
         }
-        Kind::Object => {
+        Ok(Kind::Object) => {
+            if long != RECORD_LENGTH {
+                return Err(Refusal::Kind);
+            }
             if due != Some(Kind::Object) {
                 return Err(Refusal::Place);
             }
             object_fault(bytes)
         }
-        Kind::Reference | Kind::Subject => {
+        Ok(Kind::Reference | Kind::Subject) => {
+            if long != RECORD_LENGTH {
+                return Err(Refusal::Kind);
+            }
             if due != Some(Kind::Reference) {
                 return Err(Refusal::Place);
             }
             reference_fault(bytes, n)
         }
-        Kind::Lease => lease_fault(bytes, due, n),
+        Ok(Kind::Lease) => {
+            if long != LEASE_LENGTH {
+                return Err(Refusal::Kind);
+            }
+            lease_fault(bytes, due, n)
+        }
+        Err(unknown) => Err(unknown),
     }
 }
 

@@ -10,6 +10,7 @@ ghost use Rattle.kullneyra.specs.Promise.{Marks, MarksAll, Begins, Resumes, Swee
 ghost use Rattle.begin.specs.Answer.{length_for as saved_length};
 
 use desk::Settings;
+use resume::Resumed;
 use sweep::Swept;
 
 // The marker; the tallies are four words for each worker: followed, won, lost and handed. Result
@@ -161,7 +162,7 @@ pub extern "C" fn kullneyra_resume(
     if res.len() != kullneyra::STOP_WORDS {
         return kullneyra::BUFFER;
     }
-    let resumed = resume::resume(
+    match resume::resume(
         offsets,
         targets,
         starts,
@@ -175,9 +176,10 @@ pub extern "C" fn kullneyra_resume(
         work,
         tallies,
         saved,
-    );
-    let answer = resumed.marked;
-    kullneyra::give_stopped(answer, resumed.sound, res)
+    ) {
+        Ok(Resumed { marked, sound }) => kullneyra::give_stopped(Ok(marked), sound, res),
+        Err(refusal) => kullneyra::number(refusal),
+    }
 }
 
 // The sweep; result words: count, freed.
@@ -197,11 +199,10 @@ pub extern "C" fn kullneyra_sweep(
         return kullneyra::BUFFER;
     }
     match sweep::sweep(marks, sizes, list) {
-        Swept::Dead { count, freed } => {
-            res[0] = count as u64;
-            res[1] = freed;
+        Ok(Swept { count, freed }) => {
+            res.copy_from_slice(&[u64::from(count), freed]);
             0
         }
-        Swept::Refused(refusal) => refusal::number_of(refusal) as u32,
+        Err(refusal) => kullneyra::number(refusal),
     }
 }

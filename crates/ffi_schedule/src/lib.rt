@@ -7,7 +7,7 @@ ghost use Rattle.hands.specs.Hand.{fault, turns_of, length_of as schedule_length
 ghost use Rattle.kullneyra.specs.Calls.{LengthIn, seed_of, DrawsIn, DealsIn};
 ghost use Rattle.kullneyra.specs.Promise.{DealPromise};
 
-use seed::{Dealt, Drawn, Seed};
+use seed::Seed;
 
 // How many bytes the schedule of so many cards has; result words: bytes.
 #[unsafe(no_mangle)]
@@ -24,7 +24,18 @@ pub extern "C" fn kullneyra_deal(cards: &[u32], workers: u32, schedule: &mut [u8
     ensures schedule_after { schedule.new ≡ unless_refused (fault workers cards.now (length schedule.old)) (turns_of workers cards.now) schedule.old }
     ensures rounds { result ≡ 0 → Rounds workers (length cards.now) schedule.new }
 {
-    refusal::verdict_number(cards::deal(cards, workers, schedule)) as u32
+    u32::from(refusal::number_of(&cards::deal(cards, workers, schedule)))
+}
+
+// The seed of two words.
+fn seed_in(words: &[u32]) -> Seed
+    requires { length words.now ≡ 2 }
+    ensures { result ≡ seed_of words.now }
+{
+    Seed {
+        first: words[0],
+        second: words[1],
+    }
 }
 
 // A draw, which moves the two words of the seed; result words: the card.
@@ -38,18 +49,14 @@ pub extern "C" fn kullneyra_draw(seed: &mut [u32], res: &mut [u32]) -> u32
     if res.len() != 1 {
         return kullneyra::BUFFER;
     }
-    let left = seed::draw_from(Seed {
-        first: seed[0],
-        second: seed[1],
-    });
-    let answer = left.answer;
-    match answer {
-        Drawn::Card(card) => {
-            kullneyra::put_seed(left.seed, seed);
+    let mut words = seed_in(seed);
+    match seed::draw(&mut words) {
+        Ok(card) => {
+            kullneyra::put_seed(words, seed);
             res[0] = card;
             0
         }
-        Drawn::Refused(refusal) => refusal::number_of(refusal) as u32,
+        Err(refusal) => kullneyra::number(refusal),
     }
 }
 
@@ -67,15 +74,11 @@ pub extern "C" fn kullneyra_deal_seed(
     if seed.len() != 2 {
         return kullneyra::BUFFER;
     }
-    let words = Seed {
-        first: seed[0],
-        second: seed[1],
-    };
-    match seed_deal::deal_seed(words, rounds, workers, schedule) {
-        Dealt::Moved(moved) => {
+    match seed_deal::deal_seed(seed_in(seed), rounds, workers, schedule) {
+        Ok(moved) => {
             kullneyra::put_seed(moved, seed);
             0
         }
-        Dealt::Refused(refusal) => refusal::number_of(refusal) as u32,
+        Err(refusal) => kullneyra::number(refusal),
     }
 }

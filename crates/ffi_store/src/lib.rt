@@ -109,7 +109,7 @@ pub extern "C" fn kullneyra_export(offsets: &[u32], targets: &[u32], out: &mut [
     ensures out_after { out.new ≡ bytes_after offsets.now targets.now out.old }
     ensures returns { result ≡ 0 → Returns offsets.now targets.now }
 {
-    refusal::verdict_number(market::export(offsets, targets, out)) as u32
+    u32::from(refusal::number_of(&market::export(offsets, targets, out)))
 }
 
 // How many mentions of names texts have; one result word.

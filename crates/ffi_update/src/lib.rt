@@ -5,14 +5,12 @@ ghost use Rattle.kullneyra.specs.Calls.{LengthIn, HopsIn, AddsIn, RemovesIn};
 ghost use Rattle.hops.specs.Call.{length_for as hop_length};
 ghost use Rattle.updates.specs.Call.{length_for as update_length};
 
-use desk::Length;
-
 // How many work words the hop counts take; one result word.
 #[unsafe(no_mangle)]
 pub extern "C" fn kullneyra_hop_words(objects: u32, res: &mut [u64]) -> u32
     ensures { LengthIn (hop_length objects) res.old res.new result }
 {
-    let words: Length = hops::hop_words(objects);
+    let words = hops::hop_words(objects);
     kullneyra::give_length(words, res)
 }
 
@@ -27,7 +25,7 @@ pub extern "C" fn kullneyra_hops(
 ) -> u32
     ensures { HopsIn offsets.now targets.now starts.now hops.old work.old hops.new work.new result }
 {
-    refusal::verdict_number(hops::hops(offsets, targets, starts, hops, work)) as u32
+    u32::from(refusal::number_of(&hops::hops(offsets, targets, starts, hops, work)))
 }
 
 // How many work words adding and taking out references take; result word: words.
@@ -35,7 +33,7 @@ pub extern "C" fn kullneyra_hops(
 pub extern "C" fn kullneyra_update_words(objects: u32, res: &mut [u64]) -> u32
     ensures { LengthIn (update_length objects) res.old res.new result }
 {
-    let words: Length = updates::update_words(objects);
+    let words = updates::update_words(objects);
     kullneyra::give_length(words, res)
 }
 
@@ -55,7 +53,7 @@ pub extern "C" fn kullneyra_add(
         new_offsets.old new_targets.old marks.old work.old
         new_offsets.new new_targets.new marks.new work.new result }
 {
-    refusal::verdict_number(add::add(
+    u32::from(refusal::number_of(&add::add(
         offsets,
         targets,
         from,
@@ -64,7 +62,7 @@ pub extern "C" fn kullneyra_add(
         new_targets,
         marks,
         work,
-    )) as u32
+    )))
 }
 
 // References are taken out, and marks made afresh; there are no result words.
@@ -83,7 +81,7 @@ pub extern "C" fn kullneyra_remove(
         new_offsets.old new_targets.old marks.old work.old
         new_offsets.new new_targets.new marks.new work.new result }
 {
-    refusal::verdict_number(remove::remove(
+    u32::from(refusal::number_of(&remove::remove(
         offsets,
         targets,
         numbers,
@@ -92,5 +90,5 @@ pub extern "C" fn kullneyra_remove(
         new_targets,
         marks,
         work,
-    )) as u32
+    )))
 }

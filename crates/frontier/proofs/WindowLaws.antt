@@ -110,9 +110,6 @@ pub record TakenAt (base end : ℕ) (bs st : List ℕ) (i : ℕ) (bs' : List ℕ
   pub left : (e : ℕ) → base ≤ e → e < end
       → bit bs' (e - base) + runs_sum (hit e) (runs_in (drop (2 * i) st)) ≡ bit bs (e - base) + runs_sum (hit e) (runs_in st)
 
-pub taken_start : {base end : ℕ} {bs st : List ℕ} → TakenAt base end bs st 0 bs
-taken_start = record { long = refl; left = λ e h q. refl }
-
 module _ {base end : ℕ} {bs st : List ℕ} {i : ℕ} {bs' : List ℕ} (x : TakenAt base end bs st i bs') where
   -- no pair is left
   pub taken_end : runs_in (drop (2 * i) st) ≡ [] → RunsCarried base end bs st true bs'

@@ -24,6 +24,7 @@ pub fn insert(words: &mut [u32], from: u32, to: u32) -> bool
     requires { (from ≤ to) × (to ≤ word_bits * length words.old) }
     ensures { Row words.old from (to - from) result words.new }
 {
+    // Stays (3): the first part is what is left of a word, so the steps are not alike.
     let mut i = from;
     while i < to {
         let low = i % bits::WORD;

@@ -35,10 +35,8 @@ fn carry_runs(carried: &mut [u32], base: u32, end: u32, stretch: &[u32]) -> bool
     requires { (end ≤ base + word_bits * length carried.old) × (length stretch.now ≤ stretch_length most_objects) }
     ensures { RunsCarried base end carried.old stretch.now result carried.new }
 {
-    let pairs = stretch.len() / 2;
-    for i in 0..pairs {
-        let from = stretch[2 * i];
-        let to = stretch[2 * i + 1];
+    let (pairs, _) = stretch.as_chunks::<2>();
+    for &[from, to] in pairs {
         if to <= from {
             return true;
         }
@@ -128,6 +126,7 @@ fn check_windows(
 {
     let all = targets.len() as u32;
     let size = bits::WORD * carried.len() as u32;
+    // Stays (3): each window's end is worked out from what is left, and a for over step_by asks for the same end and the same measure.
     let mut from: u32 = 0;
     while from < all {
         let to = all.min(from + size);
@@ -148,6 +147,7 @@ fn check_windows(
 }
 
 // The same with a set of references, which is small where there are few.
+// Stays (2): the arms differ in the size of the set alone, and one function with that size would be called in the same two arms.
 pub fn check_references(
     offsets: &[u32],
     targets: &[u32],

@@ -2,12 +2,13 @@
 use mathlib.Core.Path.{◌≡◌, sym, ◌∙◌}
 use mathlib.Core.List.{List}
 use Prim.Native.Nat.{ℕ}
-use Rattle.refusal.specs.declared.Verdict.{Verdict}
+use Rattle.std.specs.Prelude.{Result}
+use Rattle.refusal.specs.declared.Refusal.{Refusal}
 use Rattle.refusal.specs.Number.{number_of}
 use Rattle.hops.specs.Call.{Answered}
 use Rattle.kullneyra.specs.Calls.{HopsIn}
 
-pub hops_in : {os ts ss H W H' W' : List ℕ} {v : Verdict} {r : ℕ} → Answered os ts ss H W v H' W' → r ≡ number_of v → HopsIn os ts ss H W H' W' r
+pub hops_in : {os ts ss H W H' W' : List ℕ} {v : Result (Unit {0}) Refusal} {r : ℕ} → Answered os ts ss H W v H' W' → r ≡ number_of v → HopsIn os ts ss H W H' W' r
 hops_in a e =
     let n = e ∙ a.number_is in
     record {

@@ -13,6 +13,8 @@ use Rattle.catalogue.specs.Acceptance.{Acceptance}
 use Rattle.machine.specs.Row.{Row}
 use Rattle.machine.specs.Machine.{State}
 use Rattle.machine.specs.Call.{Call, graph_of, setting_of, fault, final, answer_for}
+use Rattle.std.specs.Prelude.{Result, Ok}
+use Rattle.refusal.specs.declared.Refusal.{Refusal}
 use Rattle.marker.specs.declared.Marked.{Marked}
 use Rattle.marker.specs.Answer.{row, Answered}
 use Rattle.sweep.specs.Sweep.{Row as SweepRow}
@@ -22,7 +24,6 @@ use Rattle.saved.specs.Calls.{begin_fault, resume_fault, resumed, row_for}
 use Rattle.begin.specs.Answer.{Begun}
 use Rattle.resume.specs.Answer.{Continued}
 use Rattle.seed.specs.declared.Seed.{Seed}
-use Rattle.seed.specs.declared.Dealt.TheVariants.{Moved}
 use Rattle.seed.specs.Deal.{Deals}
 use Rattle.matrix.specs.Promise.{Accepts}
 use Rattle.kullneyra.specs.Calls.{read_words, flag, mark_words, stop_words, swept_words, header_words}
@@ -63,7 +64,7 @@ saved_number s (suc k) = refl
 answer_is : {answer k : ℕ} {r t : Row} → answer ≡ r.number → r ≡ t → t.number ≡ k → answer ≡ k
 answer_is e i n = e ∙ ap (λ (t : Row). t.number) i ∙ n
 
-module _ (result : List ℕ) {result' : List ℕ} (r : Marked) {answer : ℕ}
+module _ (result : List ℕ) {result' : List ℕ} (r : Result Marked Refusal) {answer : ℕ}
     (e : answer ≡ (row r).number) (w : result' ≡ unless_refused (row r).number (mark_words (row r)) result) where
   pub mark_promise : {c : Call} {marks work tallies marks' work' tallies' : List ℕ} → Answered c marks work tallies r marks' work' tallies' → answer ≡ 0
       → MarkPromise c marks' tallies' result'
@@ -83,7 +84,7 @@ module _ (result : List ℕ) {result' : List ℕ} (r : Marked) {answer : ℕ}
   finished_told f z = ap (λ (l : List ℕ). get_or l 0 0) (words_told (mark_words (row r)) result e w z) ∙ ap flag (f (sym e ∙ z))
 
 -- the calls that save
-module _ (result : List ℕ) {result' : List ℕ} (r : Marked) {sound : Bool} {answer : ℕ}
+module _ (result : List ℕ) {result' : List ℕ} (r : Result Marked Refusal) {sound : Bool} {answer : ℕ}
     (e : answer ≡ (row r).number) (w : result' ≡ unless_refused (row r).number (stop_words (row r) sound) result)
     {c : Call} {marks work tallies marks' work' tallies' saved saved' : List ℕ} where
   pub begin_promise : Begun c marks work tallies saved r marks' work' tallies' saved' → sound ≡ true → answer ≡ 0
@@ -128,5 +129,5 @@ module _ (result : List ℕ) {result' : List ℕ} (r : Marked) {sound : Bool} {a
 -- ---- deal_seed
 
 -- a call that moves the seed has no fault
-pub deal_promise : {s t : Seed} {k W : ℕ} {before after : List ℕ} → Deals s k W before (Moved t) after → DealPromise s k W after
+pub deal_promise : {s t : Seed} {k W : ℕ} {before after : List ℕ} → Deals s k W before (Ok t) after → DealPromise s k W after
 deal_promise d = let none = sym d.number_is in record { draws = d.draws none; brings = d.brings none }

@@ -10,6 +10,8 @@ use Rattle.desk.specs.Kept.{unless_refused}
 use Rattle.machine.specs.Row.{Row}
 use Rattle.machine.specs.Machine.{State}
 use Rattle.machine.specs.Call.{Call, graph_of, setting_of}
+use Rattle.std.specs.Prelude.{Result, Ok}
+use Rattle.refusal.specs.declared.Refusal.{Refusal}
 use Rattle.marker.specs.declared.Marked.{Marked}
 use Rattle.marker.specs.Answer.{row}
 use Rattle.saved.specs.Layout.{saved_words}
@@ -33,7 +35,7 @@ module _ {c : Call} {k : ℕ} {s : State} {marks work tallies w result : List �
   not_made f =
       record { answers = rw f; fills_marks = rw f; fills_work = rw f; fills_tallies = rw f; fills_saved = rw f; fills_result = rw f }
 
-  made : {r : Marked} {sound : Bool} {marks' work' tallies' w' result' : List ℕ} {answer : ℕ}
+  made : {r : Result Marked Refusal} {sound : Bool} {marks' work' tallies' w' result' : List ℕ} {answer : ℕ}
       → eqb (length result) stop_word_count ≡ true
       → Answers c k s marks work tallies w r marks' work' tallies' w'
       → (k ≡ 0 → sound ≡ saved? (graph_of c) c.starts c.workers (setting_of c) w')
@@ -57,7 +59,7 @@ module _ {c : Call} {k : ℕ} {s : State} {marks work tallies w result : List �
       }
 
 -- of the two calls
-module _ {c : Call} {marks work tallies w result marks' work' tallies' w' result' : List ℕ} {r : Marked} {sound : Bool} {answer : ℕ}
+module _ {c : Call} {marks work tallies w result marks' work' tallies' w' result' : List ℕ} {r : Result Marked Refusal} {sound : Bool} {answer : ℕ}
     (f : eqb (length result) stop_word_count ≡ true) (number : answer ≡ (row r).number)
     (words : result' ≡ unless_refused (row r).number (stop_words (row r) sound) result) where
   pub begins_in : Begun c marks work tallies w r marks' work' tallies' w' → sound ≡ true

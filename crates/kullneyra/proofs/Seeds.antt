@@ -11,9 +11,7 @@ use Rattle.refusal.specs.declared.Refusal.{Refusal}
 use Rattle.refusal.specs.Number.{number}
 use Rattle.refusal.proofs.Numbers.{numbered}
 use Rattle.seed.specs.declared.Seed.{Seed}
-use Rattle.seed.specs.declared.Drawn.{Drawn}
-use Rattle.seed.specs.declared.Drawn.TheVariants.{Card, Refused}
-use Rattle.seed.specs.declared.Dealt.TheVariants.{Moved, Refused as NotDealt}
+use Rattle.std.specs.Prelude.{Result, Ok, Err}
 use Rattle.seed.specs.Draw.{next, drawn}
 use Rattle.seed.specs.Deal.{fault, Deals}
 use Rattle.kullneyra.specs.Calls.{seed_of, seed_words, DrawsIn, DealsIn}
@@ -33,11 +31,11 @@ draw_result_wrong seed result two h =
     record { answers = rw (f, g); moves = rw (f, g); fills_result = rw (f, g) }
 
 -- with both lengths right: the seed r that the draw left, and its answer d
-module _ (seed result : List ℕ) (two : length seed ≡ 2) (one : length result ≡ 1) {r : Seed} {d : Drawn} (e : r ≡ next (seed_of seed))
+module _ (seed result : List ℕ) (two : length seed ≡ 2) (one : length result ≡ 1) {r : Seed} {d : Result ℕ Refusal} (e : r ≡ next (seed_of seed))
     (answered : d ≡ drawn (seed_of seed)) where
-  pub draw_card : {c : ℕ} {seed' : List ℕ} → d ≡ Card c → seed' ≡ seed_words r → DrawsIn seed result seed' (set result 0 c) 0
+  pub draw_card : {c : ℕ} {seed' : List ℕ} → d ≡ Ok c → seed' ≡ seed_words r → DrawsIn seed result seed' (set result 0 c) 0
   draw_card {c} t w =
-      let a : drawn (seed_of seed) ≡ Card c = sym answered ∙ t in
+      let a : drawn (seed_of seed) ≡ Ok c = sym answered ∙ t in
       let l = eq-eqb (length seed) 2 two in
       let k = eq-eqb (length result) 1 one in
       record {
@@ -46,9 +44,9 @@ module _ (seed result : List ℕ) (two : length seed ≡ 2) (one : length result
         fills_result = rw (l, k, a) (sets_all (c ∷ []) result one);
       }
 
-  pub draw_refused : {q : Refusal} {n : ℕ} → d ≡ Refused q → n ≡ number q → DrawsIn seed result seed result n
+  pub draw_refused : {q : Refusal} {n : ℕ} → d ≡ Err q → n ≡ number q → DrawsIn seed result seed result n
   draw_refused {q} t m =
-      let a : drawn (seed_of seed) ≡ Refused q = sym answered ∙ t in
+      let a : drawn (seed_of seed) ≡ Err q = sym answered ∙ t in
       let l = eq-eqb (length seed) 2 two in
       let k = eq-eqb (length result) 1 one in
       record {
@@ -65,7 +63,7 @@ deal_seed_wrong seed k W schedule h =
     record { answers = rw f; moves = rw f; fills_schedule = rw f }
 
 module _ (seed : List ℕ) (k W : ℕ) (schedule : List ℕ) (two : length seed ≡ 2) {after : List ℕ} where
-  pub deal_moved : {t : Seed} {seed' : List ℕ} → Deals (seed_of seed) k W schedule (Moved t) after → seed' ≡ seed_words t
+  pub deal_moved : {t : Seed} {seed' : List ℕ} → Deals (seed_of seed) k W schedule (Ok t) after → seed' ≡ seed_words t
       → DealsIn seed k W schedule seed' after 0
   deal_moved d w =
       let l = eq-eqb (length seed) 2 two in
@@ -76,7 +74,7 @@ module _ (seed : List ℕ) (k W : ℕ) (schedule : List ℕ) (two : length seed 
         fills_schedule = rw (l, z) (rw z at d.schedule_is);
       }
 
-  pub deal_refused : {q : Refusal} {n : ℕ} → Deals (seed_of seed) k W schedule (NotDealt q) after → n ≡ number q
+  pub deal_refused : {q : Refusal} {n : ℕ} → Deals (seed_of seed) k W schedule (Err q) after → n ≡ number q
       → DealsIn seed k W schedule seed after n
   deal_refused {q} {n} d m = by_number (number q) refl (numbered q)
     where

@@ -2,12 +2,13 @@
 use mathlib.Core.Path.{◌≡◌, sym, ◌∙◌}
 use mathlib.Core.List.{List}
 use Prim.Native.Nat.{ℕ}
-use Rattle.refusal.specs.declared.Verdict.{Verdict}
+use Rattle.std.specs.Prelude.{Result}
+use Rattle.refusal.specs.declared.Refusal.{Refusal}
 use Rattle.refusal.specs.Number.{number_of}
 use Rattle.updates.specs.Call.{Adds, Removes}
 use Rattle.kullneyra.specs.Calls.{AddsIn, RemovesIn}
 
-module _ {os ts a b B P M W B' P' M' W' : List ℕ} {v : Verdict} {r : ℕ} where
+module _ {os ts a b B P M W B' P' M' W' : List ℕ} {v : Result (Unit {0}) Refusal} {r : ℕ} where
   pub adds_in : Adds os ts a b B P M W v B' P' M' W' → r ≡ number_of v → AddsIn os ts a b B P M W B' P' M' W' r
   adds_in x e =
       let n = e ∙ x.number_is in

@@ -22,7 +22,6 @@ use Rattle.saved.specs.Test.{saved?}
 use Rattle.saved.specs.Calls.{begin_fault, resumed, resumed_by, Afresh, Joined}
 use Rattle.hands.specs.Hand.{Rounds}
 use Rattle.seed.specs.declared.Seed.{Seed}
-use Rattle.seed.specs.declared.Drawn.TheVariants.{Card}
 use Rattle.seed.specs.Draw.{drawn}
 use Rattle.seed.specs.Deal.{after_draws, hand_of}
 use Rattle.matrix.specs.Promise.{Accepts}
@@ -116,7 +115,7 @@ pub record SweepPromise (marks list result : List ℕ) (answer : ℕ) : Type 0 w
 
 -- without a fault: the cards are those that so many draws answer, and each draw is a stretch
 pub record DealPromise (s : Seed) (rounds W : ℕ) (schedule : List ℕ) : Type 0 where
-  pub draws : (i : ℕ) → i < rounds → drawn (after_draws i s) ≡ Card (get_or (hand_of rounds s) i 0)
+  pub draws : (i : ℕ) → i < rounds → drawn (after_draws i s) ≡ Ok (get_or (hand_of rounds s) i 0)
   pub brings : Rounds W rounds schedule
 
 -- ---- import

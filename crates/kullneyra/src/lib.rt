@@ -2,20 +2,20 @@
 // answer is given as a number and result words. The functions stand in the crates ffi_*.
 #![tactic(auto)]
 
-ghost use Rattle.std.specs.Prelude.{◌≡◌, [], ◌∷◌, ◌≤◌, length};
-ghost use Rattle.std.proofs.lemmas.List.Edits.{sets};
+ghost use Rattle.std.specs.Prelude.{◌≡◌, length};
+ghost use Rattle.refusal.specs.Number.{number as number_for};
 ghost use Rattle.desk.specs.Length.{length_row};
 ghost use Rattle.desk.specs.Kept.{unless_refused};
 ghost use Rattle.catalogue.specs.Answer.{row, found_row};
 ghost use Rattle.marker.specs.Answer.{row as mark_row};
 ghost use Rattle.kullneyra.specs.Calls.{header_words, read_words};
-ghost use Rattle.kullneyra.specs.Calls.{LengthIn, mark_word_count, result_words, mark_words, stop_word_count, stop_words, flag as flag_word, seed_words};
+ghost use Rattle.kullneyra.specs.Calls.{LengthIn, mark_word_count, result_words, mark_words, stop_word_count, stop_words, seed_words};
 
-use catalogue::{Answer, Found};
-use desk::Length;
+use catalogue::{Found, Header};
 use desk::places::COUNTS;
 use machine::Counts;
 use marker::Marked;
+use refusal::Refusal;
 use seed::Seed;
 
 // The number of a buffer that is not as long as it must be.
@@ -27,49 +27,45 @@ pub const MARK_WORDS: usize = 1 + COUNTS;
 // Those of a call that saves: one more, whether what is saved is sound.
 pub const STOP_WORDS: usize = MARK_WORDS + 1;
 
-// The first three result words of the catalogue's calls.
-fn give_head(n: u32, m: u32, index: u32, res: &mut [u32])
-    requires { 3 ≤ length res.old }
-    ensures { res.new ≡ sets res.old 0 (n ∷ m ∷ index ∷ []) }
+// The number of a refusal as it is answered.
+pub fn number(refusal: Refusal) -> u32
+    ensures { result ≡ number_for refusal }
 {
-    res[0] = n;
-    res[1] = m;
-    res[2] = index;
+    u32::from(u8::from(refusal))
 }
 
 // An answer of `header`: its number, and n, m and the index in the result words.
-pub fn give(answer: Answer, res: &mut [u32]) -> u32
+pub fn give(answer: Result<Header, Refusal>, res: &mut [u32]) -> u32
     requires { length res.old ≡ 3 }
     ensures value { result ≡ (row answer).refusal }
     ensures res_after { res.new ≡ unless_refused (row answer).refusal (header_words (row answer)) res.old }
 {
     match answer {
-        Answer::Read { n, m, index } => {
-            give_head(n, m, index, res);
+        Ok(Header { n, m, index }) => {
+            res.copy_from_slice(&[n, m, index]);
             0
         }
-        Answer::Refused(refusal) => refusal::number_of(refusal) as u32,
+        Err(refusal) => number(refusal),
     }
 }
 
 // An answer of `read`: the same, and how many starts there are.
-pub fn give_found(found: Found, res: &mut [u32]) -> u32
+pub fn give_found(answer: Result<Found, Refusal>, res: &mut [u32]) -> u32
     requires { length res.old ≡ 4 }
-    ensures value { result ≡ (found_row found).refusal }
-    ensures res_after { res.new ≡ unless_refused (found_row found).refusal (read_words (found_row found)) res.old }
+    ensures value { result ≡ (found_row answer).refusal }
+    ensures res_after { res.new ≡ unless_refused (found_row answer).refusal (read_words (found_row answer)) res.old }
 {
-    match found {
-        Found::Read {
+    match answer {
+        Ok(Found {
             n,
             m,
             index,
             starts,
-        } => {
-            give_head(n, m, index, res);
-            res[3] = starts;
+        }) => {
+            res.copy_from_slice(&[n, m, index, starts]);
             0
         }
-        Found::Refused(refusal) => refusal::number_of(refusal) as u32,
+        Err(refusal) => number(refusal),
     }
 }
 
@@ -83,57 +79,50 @@ fn give_counts(finished: u64, counts: Counts, res: &mut [u64])
 }
 
 // An answer of the marker: its number, and its values in the result words.
-pub fn give_marked(answer: Marked, res: &mut [u64]) -> u32
+pub fn give_marked(answer: Result<Marked, Refusal>, res: &mut [u64]) -> u32
     requires { length res.old ≡ mark_word_count }
     ensures value { result ≡ (mark_row answer).number }
     ensures res_after { res.new ≡ unless_refused (mark_row answer).number (mark_words (mark_row answer)) res.old }
 {
     match answer {
-        Marked::Finished(counts) => {
+        Ok(Marked::Finished(counts)) => {
             give_counts(1, counts, res);
             0
         }
-        Marked::Unfinished(counts) => {
+        Ok(Marked::Unfinished(counts)) => {
             give_counts(0, counts, res);
             0
         }
-        Marked::Refused(refusal) => refusal::number_of(refusal) as u32,
+        Err(refusal) => number(refusal),
     }
 }
 
-// A flag as a word.
-fn word_of(flag: bool) -> u64
-    ensures { result ≡ flag_word flag }
-{
-    if flag { 1 } else { 0 }
-}
-
 // An answer of a call that saves, and whether what it saved is sound.
-pub fn give_stopped(answer: Marked, sound: bool, res: &mut [u64]) -> u32
+pub fn give_stopped(answer: Result<Marked, Refusal>, sound: bool, res: &mut [u64]) -> u32
     requires { length res.old ≡ stop_word_count }
     ensures value { result ≡ (mark_row answer).number }
     ensures res_after { res.new ≡ unless_refused (mark_row answer).number (stop_words (mark_row answer) sound) res.old }
 {
     let number = give_marked(answer, &mut res[..MARK_WORDS]);
     if number == 0 {
-        res[MARK_WORDS] = word_of(sound);
+        res[MARK_WORDS] = u64::from(sound);
     }
     number
 }
 
 // The answer of a call for a length: its number, and the length in the result word.
-pub fn give_length(found: Length, res: &mut [u64]) -> u32
-    ensures { LengthIn (length_row found) res.old res.new result }
+pub fn give_length(answer: Result<u64, Refusal>, res: &mut [u64]) -> u32
+    ensures { LengthIn (length_row answer) res.old res.new result }
 {
     if res.len() != 1 {
         return BUFFER;
     }
-    match found {
-        Length::Is(long) => {
+    match answer {
+        Ok(long) => {
             res[0] = long;
             0
         }
-        Length::Refused(refusal) => refusal::number_of(refusal) as u32,
+        Err(refusal) => number(refusal),
     }
 }
 
@@ -142,6 +131,5 @@ pub fn put_seed(seed: Seed, words: &mut [u32])
     requires { length words.old ≡ 2 }
     ensures { words.new ≡ seed_words seed }
 {
-    words[0] = seed.first;
-    words[1] = seed.second;
+    words.copy_from_slice(&[seed.first, seed.second]);
 }

@@ -2,14 +2,15 @@
 -- have counts and are in no bag that is filled, so their links stay as they are meanwhile.
 use mathlib.Core.Path.{◌≡◌, sym, ◌∙◌}
 use mathlib.Core.List.{List}
-use Prim.Native.Nat.{ℕ, ◌+◌, ◌≤◌, ◌<◌}
+use Prim.Native.Nat.{ℕ, ◌+◌, ◌-◌, ◌≤◌, ◌<◌}
 use native.Mathlib.Omega.{arith}
-use lib.ListN.{length, get_or}
+use native.Mathlib.Numerals.{add-one}
+use lib.ListN.{length, get_or, take, drop}
 use Rattle.laws.specs.Sum.{hit}
 use Rattle.laws.specs.Span.{span}
 use Rattle.laws.proofs.Passing.{span_after}
 use Rattle.graph.specs.Graph.{Graph, objects, first, degree, target, references_of}
-use Rattle.graph.proofs.View.{view_long, view_at}
+use Rattle.graph.proofs.View.{view_part, view_long, view_at}
 use Rattle.graph.proofs.OverMarked.{after_limit}
 use Rattle.bag.specs.declared.Bag.{Bag}
 use Rattle.bag.specs.Bag.{Same, times, contents}
@@ -28,6 +29,13 @@ module _ (G : Graph) (hop u : ℕ) (H₀ L₀ : List ℕ) (S₀ : Bag) where
 module _ {G : Graph} {hop u : ℕ} {H₀ L₀ : List ℕ} {S₀ : Bag} (ok : Walkable G hop H₀ L₀ S₀) (is : u < length H₀) where
   object : u < objects G
   object = omega (arith, ok.sizes)
+
+  -- where they stand
+  pub part_inside : (u + 1 < length G.offsets) × (first G u ≤ get_or G.offsets (u + 1) 0) × (get_or G.offsets (u + 1) 0 ≤ length G.targets)
+  part_inside = rw (add-one u) (omega (arith, object), ok.formed.rises u object, after_limit G ok.formed u object)
+
+  pub part_is : {part : List ℕ} → part ≡ take (get_or G.offsets (u + 1) 0 - first G u) (drop (first G u) G.targets) → part ≡ references_of G u
+  part_is e = e ∙ rw (add-one u) (sym (view_part G u object (ok.formed.rises u object) (after_limit G ok.formed u object)))
 
   pub visiting_start : Visiting G hop u H₀ L₀ S₀ H₀ L₀ S₀ 0
   unfolding span

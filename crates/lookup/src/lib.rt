@@ -87,11 +87,19 @@ pub fn all_digits(bytes: &[u8]) -> bool
 }
 
 // How bytes and a name stand to each other. The lead of the bytes is handed in, since many names are looked at.
+// Stays (4): the leads compared by `cmp` and `then_with`, tried, and texts full of names take a tenth longer.
 fn look(bytes: &[u8], head: u64, name: &[u8]) -> Ordering
     requires { (length name.now ≡ length bytes.now) × (head ≡ lead_of bytes.now) }
     ensures { result ≡ order bytes.now name.now }
 {
-    head.cmp(&lead(name)).then_with(|| bytes.cmp(name))
+    let other = lead(name);
+    if head < other {
+        return Ordering::Less;
+    }
+    if other < head {
+        return Ordering::Greater;
+    }
+    bytes.cmp(name)
 }
 
 // The order of two names.
@@ -142,6 +150,7 @@ fn stride(before: Option<Turn>, now: Turn, step: usize, left: usize) -> usize {
 }
 
 // The number of the name that a window is.
+// Stays (6): names are lent as bytes end to end, so `binary_search_by` has no slice of names; and the index says where to begin.
 pub fn find(names: &LentNames, index: &[u32], window: &[u8]) -> Option<usize>
     requires { Searchable (names_in names.now) index.now window.now }
     ensures { FoundIs (names_in names.now) window.now result }
@@ -206,6 +215,7 @@ fn slide(text: &[u8], from: usize, width: usize, index: &[u32]) -> Result<usize,
 }
 
 // The next place where a name may stand. The bytes up to `sure` were looked at before.
+// Stays (3): the place jumps behind what was found, by up to a name's width, and no iterator of std's does.
 pub fn next_place(
     text: &[u8],
     from: usize,

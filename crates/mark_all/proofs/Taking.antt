@@ -3,12 +3,13 @@ use Prim.Native.Nat.{ℕ, suc, ◌+◌, ◌*◌, ◌≤◌, ◌<◌}
 use mathlib.Core.Path.{◌≡◌, refl, sym, ap, subst, ◌∙◌}
 use mathlib.Core.Bool.{true}
 use mathlib.Core.Logic.{◌≢◌, by_cases}
-use mathlib.Core.List.{List}
+use mathlib.Core.List.{List, ◌++◌}
 use native.Mathlib.Decide.{dec_le}
 use native.Mathlib.Nat.{mul-le-mul_left}
 use native.Mathlib.Omega.{arith}
 use borrow.Author.Tests.{eq-eqb, eqb-true}
-use lib.ListN.{length}
+use lib.ListN.{length, take}
+use lib.Seq.{take_at}
 use Rattle.laws.specs.Sum.{sum}
 use Rattle.graph.specs.Graph.{Graph, references}
 use Rattle.graph.specs.Chain.{leaving_reached}
@@ -24,6 +25,10 @@ use Rattle.marker.specs.Stages.{IsScheduled, scheduled, DoesAll}
 use Rattle.marker.proofs.Loop.{all_ended_lem, entries_few}
 use Rattle.rounds.specs.Whole.{round_from, rounds_of, enough_rounds, IsStart}
 use Rattle.rounds.proofs.Rounds.{round_fits_alone, round_long, after_one, enough_end, enough_same}
+
+-- a round, written at the beginning of longer bytes
+pub round_front : (W : ℕ) {round : List ℕ} (rest : List ℕ) → round ≡ round_from W 0 W → take (2 * W) (round ++ rest) ≡ round_from W 0 W
+round_front W {round} rest e = take_at round rest (2 * W) (ap (λ (l : List ℕ). length l) e ∙ round_long W 0 W) ∙ e
 
 module _ {offsets targets : List ℕ} {g : Setup} {μ₀ : Memory} (x : Ready (IsStart g offsets targets) g μ₀) where
   abbrev starts : List ℕ

@@ -81,10 +81,6 @@ first_target : (G : Graph) (rs : List Run) (t : Top) (s : List ℕ) → Told rs 
 first_target G [] t s d h e = absurd (omega arith)
 first_target G (run f j ∷ rs) t s d h e = omega (arith, ap (λ (x : Top). x.first) d.top, e.0)
 
--- marks that are cleared are zero
-pub cleared : (marks : List ℕ) {marks₁ : List ℕ} → marks₁ ≡ replicate (length marks) 0 → marks₁ ≡ replicate (length marks₁) 0
-cleared marks {marks₁} e = e ∙ sym (ap (λ (k : ℕ). replicate {A = ℕ} k 0) (ap length e ∙ length-replicate (length marks) 0))
-
 module _ {offsets targets starts : List ℕ} {g : Setup} {marks regs : List ℕ} (x : Startable offsets targets starts g marks regs) where
   abbrev G : Graph
   G = graph offsets targets

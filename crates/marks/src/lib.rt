@@ -66,6 +66,7 @@ fn count_starts(starts: &[u32], marks: &[u32], seen: &mut [u32]) -> Option<u64>
 }
 
 // The same, with such a set; it is small where there are few objects.
+// Stays (2): the arms differ in the size of the set alone, and one function with that size would be called in the same two arms.
 pub fn check_starts(starts: &[u32], marks: &[u32]) -> Option<u64>
     requires { StartsBelow starts.now (length marks.now) × (length marks.now ≤ most_objects) }
     ensures { StartsFound starts.now marks.now result }
@@ -136,6 +137,7 @@ fn rows_marked(
     requires { TargetsThere targets.now marks.now carried.now base to × (base ≤ from) }
     ensures { Decides result (PartMarked targets.now marks.now carried.now base from to) }
 {
+    // Stays (3): each row's end is worked out from what is left, and a for over step_by asks for the same end and the same measure.
     let mut e = from;
     while e < to {
         let next = e + ROW.min(to - e);
@@ -178,6 +180,7 @@ pub fn targets_marked(
     let last = window.last;
     let mut from = base;
     let mut v = window.first;
+    // Stays (3): each round passes as many objects as are alike, and no iterator of std lends both what it passed and where it is.
     while v < last {
         let next = alike_end(marks, v, last, true);
         let to = end.min(offsets[next]);

@@ -3,7 +3,6 @@ use mathlib.Core.Path.{◌≡◌, refl, ap, sym, ◌∙◌}
 use mathlib.Core.Bool.{Bool, true, false, ◌&&◌}
 use mathlib.Core.List.{List}
 use Prim.Native.Nat.{ℕ, suc, ◌+◌, ◌-◌, ◌≤◌, ◌<◌}
-use native.Mathlib.Nat.{sub-zero}
 use native.Mathlib.Omega.{arith}
 use lib.ListN.{length, drop, length-drop}
 use lib.Dec.{eqb}
@@ -20,9 +19,6 @@ pub record Passing (text : List ℕ) (at n m e i : ℕ) (fits : Bool) : Type 0 w
   pub place : i ≤ length text
   pub lines : are_lines m (drop at text) ≡ are_lines (m - e) (drop i text)
   pub whole : inside n (pairs_in m (drop at text)) ≡ both fits (inside n (pairs_in (m - e) (drop i text)))
-
-pub passing_start : (text : List ℕ) (at n m : ℕ) → at ≤ length text → Passing text at n m 0 at true
-passing_start text at n m h = record { passed = omega arith; place = h; lines = rw sub-zero; whole = rw sub-zero }
 
 -- the first of some lines
 lines_first : (k : ℕ) (t : List ℕ) → is_line t ≡ true → are_lines (suc k) t ≡ are_lines k (line_behind t)

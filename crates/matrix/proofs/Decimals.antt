@@ -3,7 +3,7 @@ use mathlib.Core.Path.{◌≡◌, refl, ap, sym, ◌∙◌}
 use mathlib.Core.Bool.{Bool, true, false}
 use mathlib.Core.List.{List, [], ◌∷◌, ◌++◌, append_assoc, append-nil}
 use Prim.Native.Nat.{ℕ, zero, suc, ◌+◌, ◌-◌, ◌/◌, ◌%◌, ◌^◌, ◌≤◌, ◌<◌}
-use native.Mathlib.Nat.{pow-suc, one-le-pow, mod-eq_of_lt}
+use native.Mathlib.Nat.{add-zero, pow-suc, one-le-pow, mod-eq_of_lt}
 use native.Mathlib.Omega.{arith}
 use lib.ListN.{length, get_or, take, drop, set, length-append, length-set, take-append-drop}
 use lib.Seq.{take-suc, set_at, length-take-le, drop-cons, get_or-set_same, drop-set-lt, take-set-le}
@@ -77,105 +77,73 @@ last_digit k v h = go (ltb v 10) refl
 
 -- ---- digits written from the last to the first
 
--- k digits are still to be written, those of what is left of v; the others stand behind the place i
-pub record Printing (o : List ℕ) (at w v i left : ℕ) (out : List ℕ) : Type 0 where
-  pub k : ℕ
+-- k digits are still to be written, those of what is left of v; the others stand behind the place at + k
+pub record Printing (o : List ℕ) (at w v k left : ℕ) (out : List ℕ) : Type 0 where
   pub done : List ℕ
-  pub place : i ≡ at + k
   pub together : digits_in k left ++ done ≡ decimal v
   pub full : length (digits_in k left) ≡ k
   pub room : at + w < length o
   pub within : k ≤ w
-  pub holds : out ≡ take i o ++ (done ++ drop (at + w) o)
+  pub holds : out ≡ take (at + k) o ++ (done ++ drop (at + w) o)
   pub long : length out ≡ length o
 
-pub printing_start : (o : List ℕ) (at w v : ℕ) → w ≡ length (decimal v) → at + w < length o → Printing o at w v (at + w) v o
+pub printing_start : (o : List ℕ) (at w v : ℕ) → length (decimal v) ≡ w → at + w < length o → Printing o at w v w v o
 unfolding decimal
 printing_start o at w v e h =
-    let f : digits_in w v ≡ decimal v = rw e (just_enough 20 v) in
+    let f : digits_in w v ≡ decimal v = rw (← e) (just_enough 20 v) in
     record {
-      k = w;
       done = [];
-      place = refl;
       together = append-nil (digits_in w v) ∙ f;
-      full = ap length f ∙ sym e;
+      full = ap length f ∙ e;
       room = h;
       within = omega arith;
       holds = sym (take-append-drop (at + w) o);
       long = refl;
     }
 
-module _ {o : List ℕ} {at w v i left : ℕ} {out : List ℕ} (a : Printing o at w v i left out) where
-  pub printing_next : at < i → Printing o at w v (i - 1) (left / 10) (set out (i - 1) (48 + left % 10))
-  printing_next h = go a.k refl
-    where
-      go : (k : ℕ) → a.k ≡ k → Printing o at w v (i - 1) (left / 10) (set out (i - 1) (48 + left % 10))
-      go zero e = absurd (omega (arith, e, a.place))
-      go (suc k) e =
-          let r = a.room in
-          let j : i ≡ suc (i - 1) = omega arith in
-          let p : length (digits_in (suc k) left) ≡ suc k = rw e at a.full in
-          let d = last_digit k left p in
-          let low : i - 1 < length o = omega (arith, e, a.place, a.within) in
-          let t : take i o ≡ take (i - 1) o ++ (get_or o (i - 1) 0 ∷ []) = ap (λ (x : ℕ). take x o) j ∙ take-suc o (i - 1) 0 low in
-          let rest = a.done ++ drop (at + w) o in
-          let s : out ≡ take (i - 1) o ++ (get_or o (i - 1) 0 ∷ rest) = a.holds ∙ ap (λ (l : List ℕ). l ++ rest) t ∙ append_assoc (take (i - 1) o) (get_or o (i - 1) 0 ∷ []) rest in
-          record {
-            k = k;
-            done = (48 + left % 10) ∷ a.done;
-            place = omega (arith, e, a.place);
-            together =
-                sym (append_assoc (digits_in k (left / 10)) ((48 + left % 10) ∷ []) a.done)
-                ∙ ap (λ (l : List ℕ). l ++ a.done) (sym d.split) ∙ ap (λ (x : ℕ). digits_in x left ++ a.done) (sym e) ∙ a.together;
-            full = d.full;
-            room = r;
-            within = omega (arith, e, a.within);
-            holds =
-                ap (λ (l : List ℕ). set l (i - 1) (48 + left % 10)) s
-                ∙ set_at (take (i - 1) o) (get_or o (i - 1) 0) rest (48 + left % 10) (i - 1) (length-take-le (i - 1) o (omega arith));
-            long = length-set out (i - 1) (48 + left % 10) ∙ a.long;
-          }
+module _ {o : List ℕ} {at w v k left : ℕ} {out : List ℕ} (a : Printing o at w v (suc k) left out) where
+  printing_suc : Printing o at w v k (left / 10) (set out (at + k) (48 + left % 10))
+  printing_suc =
+      let r = a.room in
+      let j : at + suc k ≡ suc (at + k) = omega arith in
+      let d = last_digit k left a.full in
+      let low : at + k < length o = omega (arith, a.within) in
+      let t : take (at + suc k) o ≡ take (at + k) o ++ (get_or o (at + k) 0 ∷ []) = ap (λ (x : ℕ). take x o) j ∙ take-suc o (at + k) 0 low in
+      let rest = a.done ++ drop (at + w) o in
+      let s : out ≡ take (at + k) o ++ (get_or o (at + k) 0 ∷ rest) = a.holds ∙ ap (λ (l : List ℕ). l ++ rest) t ∙ append_assoc (take (at + k) o) (get_or o (at + k) 0 ∷ []) rest in
+      record {
+        done = (48 + left % 10) ∷ a.done;
+        together =
+            sym (append_assoc (digits_in k (left / 10)) ((48 + left % 10) ∷ []) a.done) ∙ ap (λ (l : List ℕ). l ++ a.done) (sym d.split) ∙ a.together;
+        full = d.full;
+        room = r;
+        within = omega (arith, a.within);
+        holds =
+            ap (λ (l : List ℕ). set l (at + k) (48 + left % 10)) s
+            ∙ set_at (take (at + k) o) (get_or o (at + k) 0) rest (48 + left % 10) (at + k) (length-take-le (at + k) o (omega arith));
+        long = length-set out (at + k) (48 + left % 10) ∙ a.long;
+      }
+
+pub printing_next : {o : List ℕ} {at w v k left : ℕ} {out : List ℕ} → Printing o at w v k left out → 0 < k
+    → Printing o at w v (k - 1) (left / 10) (set out (at + (k - 1)) (48 + left % 10))
+printing_next {k = zero} a h = absurd (omega arith)
+printing_next {k = suc k} a h = let e : suc k - 1 ≡ k = omega arith in rw e (printing_suc a)
 
 -- all digits are written, and behind them stands the byte that was there before
-pub printed : {o : List ℕ} {at w v i left : ℕ} {out : List ℕ} → Printing o at w v i left out → i ≤ at → out ≡ take at o ++ (decimal v ++ drop (at + w) o)
+pub printed : (o : List ℕ) (at w v stop : ℕ) {k left : ℕ} {out : List ℕ} → length (decimal v) ≡ w → at + w < length o
+    → Printing (set o (at + w) stop) at w v k left out → k ≤ 0 → Put o at (stopped (decimal v) stop) out (at + w + 1)
 unfolding digits_in
-printed {o} {at} {w} {v} {i} {left} {out} a h =
-    let e : a.k ≡ 0 = omega (arith, a.place) in
-    let d : a.done ≡ decimal v = ap (λ (x : ℕ). digits_in x left ++ a.done) (sym e) ∙ a.together in
-    let j : i ≡ at = omega (arith, a.place) in
-    a.holds ∙ rw (j, d)
-
-pub printed_field : (o : List ℕ) (at w v stop : ℕ) {out : List ℕ} → w ≡ length (decimal v) → at + w < length o
-    → out ≡ take at (set o (at + w) stop) ++ (decimal v ++ drop (at + w) (set o (at + w) stop)) → Put o at (stopped (decimal v) stop) out (at + w + 1)
-printed_field o at w v stop {out} e h p =
+printed o at w v stop {k} {left} {out} e h b none =
+    let z : k ≡ 0 = omega arith in
+    let a : Printing (set o (at + w) stop) at w v 0 left out = rw z at b in
     let x = set o (at + w) stop in
     let d : drop (at + w) x ≡ stop ∷ drop (suc (at + w)) o =
     drop-cons x (at + w) 0 (omega (arith, length-set o (at + w) stop))
     ∙ rw (get_or-set_same o (at + w) stop 0 h, drop-set-lt (suc (at + w)) o (at + w) stop (omega arith)) in
     let j : at + w + 1 ≡ suc (at + w) = omega arith in
+    let p : out ≡ take at x ++ (decimal v ++ drop (at + w) x) = a.holds ∙ rw (add-zero at, ← a.together) in
     record {
       ends = simp length-append (omega arith);
       fits = omega arith;
       holds = p ∙ rw (take-set-le at o (at + w) stop (omega arith), d, j, append_assoc (decimal v));
     }
-
--- ---- a number whose width is known, without a loop
-
--- the last k digits of a number, written before the place at + k
-unfoldable pub down_from : ℕ → ℕ → ℕ → List ℕ → List ℕ
-down_from zero at left out = out
-down_from (suc k) at left out = down_from k at (left / 10) (set out (at + k) (48 + left % 10))
-
-down_printed : {o : List ℕ} {at w v left : ℕ} {out : List ℕ} (k : ℕ) → Printing o at w v (at + k) left out
-    → down_from k at left out ≡ take at o ++ (decimal v ++ drop (at + w) o)
-unfolding down_from
-down_printed {at = at} zero a = printed a (omega arith)
-down_printed {o} {at} {w} {v} {left} {out} (suc k) a =
-    let e : at + suc k - 1 ≡ at + k = omega arith in
-    down_printed {left = left / 10} {out = set out (at + k) (48 + left % 10)} k (rw e at (printing_next a (omega arith)))
-
-pub straight : (w : ℕ) (o : List ℕ) (at v stop : ℕ) → length (decimal v) ≡ w → at + w < length o
-    → Put o at (stopped (decimal v) stop) (down_from w at v (set o (at + w) stop)) (at + w + 1)
-straight w o at v stop e h =
-    let x = set o (at + w) stop in
-    printed_field o at w v stop (sym e) h (down_printed w (printing_start x at w v (sym e) (rw length-set h)))

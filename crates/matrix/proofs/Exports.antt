@@ -1,8 +1,8 @@
 -- What the two export calls answer at each exit.
-use mathlib.Core.Path.{◌≡◌, refl, ap, sym, ◌∙◌}
+use mathlib.Core.Path.{◌≡◌, ap, sym, ◌∙◌}
 use mathlib.Core.Bool.{Bool, true, false, not}
 use mathlib.Core.List.{List}
-use Prim.Native.Nat.{ℕ, zero, suc, ◌≤◌, ◌<◌}
+use Prim.Native.Nat.{ℕ, ◌≤◌}
 use native.Mathlib.Omega.{arith}
 use lib.Dec.{eqb}
 use lib.ListN.{length}
@@ -11,16 +11,14 @@ use Rattle.refusal.specs.declared.Refusal.{Refusal}
 use Rattle.refusal.specs.Number.{number}
 use Rattle.refusal.specs.Order.{raise}
 use Rattle.refusal.proofs.None.{raise_none, first_none}
-use Rattle.refusal.proofs.Numbers.{numbered, first_found}
+use Rattle.refusal.proofs.Numbers.{first_found}
 use Rattle.graph.specs.Graph.{graph, well_formed}
 use Rattle.graph.proofs.Formed.{formed}
-use Rattle.desk.specs.declared.Length.TheVariants.{Is, Refused}
 use Rattle.desk.specs.Checks.{count_fault, graph_faults}
 use Rattle.desk.specs.Kept.{unless_refused}
-use Rattle.desk.specs.Length.{length_row, length_with, length_by}
 use Rattle.desk.proofs.Kept.{kept}
 use Rattle.desk.proofs.Passed.{counted}
-use Rattle.matrix.specs.Export.{exported, length_for, export_fault, bytes_after}
+use Rattle.matrix.specs.Export.{exported, export_fault, bytes_after}
 use Rattle.matrix.specs.Steps.{Exportable}
 
 module _ (os ts : List ℕ) where
@@ -36,18 +34,6 @@ module _ (os ts : List ℕ) where
 
   pub some_object : graph_faults os ts ≡ 0 → 2 ≤ length os
   some_object z = omega (arith, counted os ts (first_none (count_fault os ts) _ z).0)
-
-  -- ---- the length
-
-  length_none : (k : ℕ) (b : ℕ) → 0 < k → length_with k 0 ≡ length_by k b
-  length_none zero b h = absurd (omega arith)
-  length_none (suc k) b h = refl
-
-  pub length_refused : (r : Refusal) → number r ≡ graph_faults os ts → length_row (Refused r) ≡ length_for os ts
-  length_refused r e = length_none (number r) (length (exported (graph os ts))) (numbered r) ∙ ap (λ (k : ℕ). length_by k (length (exported (graph os ts)))) e
-
-  pub length_told : graph_faults os ts ≡ 0 → {k : ℕ} → k ≡ length (exported (graph os ts)) → length_row (Is k) ≡ length_for os ts
-  length_told z e = ap (length_with 0) e ∙ sym (ap (λ (k : ℕ). length_by k (length (exported (graph os ts)))) z)
 
   -- ---- the text
 

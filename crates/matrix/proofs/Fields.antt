@@ -7,7 +7,7 @@ use Prim.Native.Nat.{ℕ, zero, suc, ◌+◌, ◌-◌, ◌*◌, ◌^◌, ◌≤�
 use native.Mathlib.Nat.{add-zero, pow-suc, pow-le-pow_right}
 use native.Mathlib.Numerals.{add-one}
 use native.Mathlib.Omega.{arith}
-use lib.ListN.{length, get_or, drop, drop_of_length-le, length-drop}
+use lib.ListN.{length, get_or, drop, length-drop}
 use lib.Seq.{drop-cons, drop-drop, get_or-drop}
 use lib.Dec.{ltb}
 use borrow.Author.Tests.{lt-ltb, le-leb, lt-leb, eq-eqb, ne_eqb}
@@ -87,9 +87,6 @@ module _ {t : List ℕ} {k value : ℕ} (a : Scanning t k value) where
   pub ended_full : k ≡ 10 → Ended
   unfolding digits
   ended_full h = let z : a.left ≡ 0 = omega (arith, a.sum) in ended (rw z)
-
-  pub ended_text : length t ≤ k → Ended
-  ended_text h = ended (digits_none a.left (drop k t) (rw (drop_of_length-le t h)))
 
   -- a number, with the wanted byte behind it
   pub stops_good : Ended → {stop : ℕ} → get_or t k 0 ≡ stop → (k ≡ 0 → ⊥) → stops stop t ≡ true

@@ -1,4 +1,4 @@
--- What stands before the pairs: the first line, lines that begin with %, and the counts; and the line of a pair.
+-- What stands before the pairs: the first line, lines that begin with %, and the counts.
 use mathlib.Core.Path.{◌≡◌, refl, ap, sym, ◌∙◌}
 use mathlib.Core.Bool.{Bool, true, false}
 use mathlib.Core.List.{List, [], ◌∷◌}
@@ -14,8 +14,8 @@ use borrow.Author.Tests.{eq-eqb, ne_eqb}
 use Rattle.laws.specs.Choice.{both}
 use Rattle.std.specs.List.{starts_with}
 use Rattle.matrix.specs.Layout.{banner, space, feed, percent}
-use Rattle.matrix.specs.Reading.{begins, skip, is_head, is_line, stops, behind, counts_in, rows, columns, number}
-use Rattle.matrix.specs.Steps.{LineEnd, FieldAt, LineAt, HeadOf}
+use Rattle.matrix.specs.Reading.{begins, skip, is_head, stops, behind, counts_in, rows, columns, number}
+use Rattle.matrix.specs.Steps.{LineEnd, FieldAt, HeadOf}
 
 -- ---- the first line
 
@@ -79,28 +79,6 @@ module _ (text : List ℕ) (at : ℕ) (h : at < length text) where
 pub skip_end : (text : List ℕ) (at : ℕ) → length text ≤ at → skip false (drop at text) ≡ drop at text
 unfolding skip
 skip_end text at h = rw (drop_of_length-le text h)
-
--- ---- the line of a pair
-
-pub line_first : (t : List ℕ) → stops space t ≡ false → is_line t ≡ false
-line_first t e = rw e
-
-module _ {text : List ℕ} {at value next : ℕ} (a : FieldAt text at space value next) where
-  pub line_second : stops feed (drop next text) ≡ false → is_line (drop at text) ≡ false
-  line_second e = rw (a.good, ← a.next_is) e
-
-  pub line_of : {value₂ next₂ : ℕ} → FieldAt text next feed value₂ next₂ → LineAt text at value value₂ next₂
-  line_of b =
-      let n = a.next_is in
-      record {
-        good = rw (a.good, ← n) b.good;
-        from_is = a.value_is;
-        to_is = rw (← n) b.value_is;
-        from_small = a.small;
-        to_small = b.small;
-        next_is = rw (← n) b.next_is;
-        there = b.there;
-      }
 
 -- ---- the counts
 

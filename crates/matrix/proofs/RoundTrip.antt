@@ -317,7 +317,6 @@ returns os ts z =
     }
 
 -- the same of a call that found no fault
-pub promised : (os ts : List ℕ) (bytes : ℕ) {k : ℕ} {P : Type 0} → (k ≡ export_fault os ts bytes) × P
-    → (k ≡ export_fault os ts bytes) × (P × (k ≡ 0 → Returns os ts))
+pub promised : (os ts : List ℕ) (bytes : ℕ) {k : ℕ} → k ≡ export_fault os ts bytes → k ≡ 0 → Returns os ts
 unfolding export_fault
-promised os ts bytes a = (a.0, (a.1, λ z. returns os ts (first_none (graph_faults os ts) _ (sym a.0 ∙ z)).0))
+promised os ts bytes e z = returns os ts (first_none (graph_faults os ts) _ (sym e ∙ z)).0

@@ -7,8 +7,12 @@ use Prim.Native.Nat.{ℕ, zero, suc, ◌+◌, ◌-◌, ◌*◌, ◌≤◌, ◌<�
 use native.Mathlib.Numerals.{add-one}
 use native.Mathlib.Nat.{mul-le-mul_left}
 use native.Mathlib.Omega.{arith}
+use mathlib.Core.Bool.{Bool, true, false}
+use lib.Dec.{leb}
+use borrow.Author.Tests.{le-leb, lt-leb}
+use Rattle.std.specs.Int.{from_bool}
 use lib.ListN.{length, get_or, take, drop, length-append, length-drop, take-append-drop, drop_of_length-le}
-use lib.Seq.{take-suc, length-take-le, get_or-take, get_or-drop, take_all, drop-drop}
+use lib.Seq.{take-suc, length-take-le, get_or-take, get_or-drop, drop-drop}
 use Rattle.laws.specs.Blocks.{laid}
 use Rattle.laws.specs.Every.{Every}
 use Rattle.laws.specs.Sum.{sum}
@@ -26,7 +30,7 @@ use Rattle.slices.proofs.Written.{same_long, nothing, then, as_text}
 use Rattle.text.specs.Text.{decimal}
 use Rattle.matrix.specs.Layout.{banner, space, feed, stopped}
 use Rattle.matrix.specs.Export.{pairs_from, pairs_below, line_of, counts_line, exported}
-use Rattle.matrix.specs.Steps.{pair_at, short, digits_at, Reaches, Exportable, Listable, Printable}
+use Rattle.matrix.specs.Steps.{pair_at, short, digits_at, Exportable, Listable, Printable}
 use Rattle.matrix.proofs.Decimals.{width_one, width_more}
 
 -- ---- one line
@@ -45,9 +49,6 @@ line_length f t =
     ∙ omega (arith, stopped_length (decimal (f + 1)) space, stopped_length (decimal (t + 1)) feed)
 
 module _ (f t : ℕ) {before mid : List ℕ} {at end : ℕ} (p : Put before at (stopped (decimal (f + 1)) space) mid end) where
-  pub line_room : at + length (line_of (pair_at f t)) ≤ length before → end + suc (length (decimal (t + 1))) ≤ length mid
-  line_room h = omega (arith, p.ends, same_long p, line_length f t, stopped_length (decimal (f + 1)) space)
-
   pub line_put : {end' : ℕ} {last : List ℕ} → Put mid end (stopped (decimal (t + 1)) feed) last end' → Put before at (line_of (pair_at f t)) last end'
   line_put q = as_text (line_is f t) (then p q)
 
@@ -66,25 +67,14 @@ head_length n m =
       stopped_length (decimal m) feed,
     )
 
-module _ (n m : ℕ) {b0 b1 : List ℕ} {e1 : ℕ} (room : length (banner ++ counts_line n m) ≤ length b0) (p : Put b0 0 banner b1 e1) where
-  pub room_one : e1 + suc (length (decimal n)) ≤ length b1
-  room_one = omega (arith, p.ends, same_long p, head_length n m)
-
-  module _ {b2 : List ℕ} {e2 : ℕ} (q : Put b1 e1 (stopped (decimal n) space) b2 e2) where
-    pub room_two : e2 + suc (length (decimal n)) ≤ length b2
-    room_two = omega (arith, p.ends, q.ends, same_long p, same_long q, head_length n m, stopped_length (decimal n) space)
-
-    module _ {b3 : List ℕ} {e3 : ℕ} (r : Put b2 e2 (stopped (decimal n) space) b3 e3) where
-      pub room_three : e3 + suc (length (decimal m)) ≤ length b3
-      room_three = omega (arith, p.ends, q.ends, r.ends, same_long p, same_long q, same_long r, head_length n m, stopped_length (decimal n) space)
-
-      pub head_put : {b4 : List ℕ} {e4 : ℕ} → Put b3 e3 (stopped (decimal m) feed) b4 e4 → Put b0 0 (banner ++ counts_line n m) b4 e4
-      head_put s =
-          let a = stopped (decimal n) space in
-          let c = stopped (decimal m) feed in
-          as_text
-          (append_assoc (banner ++ a) a c ∙ append_assoc banner a (a ++ c))
-          (then (then (then p q) r) s)
+pub head_put : (n m : ℕ) {b0 b1 b2 b3 b4 : List ℕ} {e1 e2 e3 e4 : ℕ} → Put b0 0 banner b1 e1 → Put b1 e1 (stopped (decimal n) space) b2 e2
+    → Put b2 e2 (stopped (decimal n) space) b3 e3 → Put b3 e3 (stopped (decimal m) feed) b4 e4 → Put b0 0 (banner ++ counts_line n m) b4 e4
+head_put n m p q r s =
+    let a = stopped (decimal n) space in
+    let c = stopped (decimal m) feed in
+    as_text
+    (append_assoc (banner ++ a) a c ∙ append_assoc banner a (a ++ c))
+    (then (then (then p q) r) s)
 
 -- ---- the lines of one object
 
@@ -134,9 +124,6 @@ module _ {v : ℕ} {ts out₀ : List ℕ} {at : ℕ} where
 
     pub object_next : {out' : List ℕ} {end' : ℕ} → Put out end (line_of (pair_at v (get_or ts e 0))) out' end' → Object v ts out₀ at (e + 1) out' end'
     object_next q = record { able = a.able; passed = omega arith; put = as_text (sym (lines_next v ts e h)) (then a.put q) }
-
-  pub object_end : {e end : ℕ} {out : List ℕ} → Object v ts out₀ at e out end → length ts ≤ e → Put out₀ at (laid line_of (pairs_from v ts)) out end
-  object_end {e} a h = as_text (ap (lines v) (take_all e ts h)) a.put
 
 -- ---- all objects
 
@@ -254,11 +241,24 @@ module _ (G : Graph) (X : Exportable G) where
 
 -- ---- lengths
 
+-- a test as a number: 1 where a number is at least another, and 0 else
+record Reaches (least v r : ℕ) : Type 0 where
+  pub reached : least ≤ v → r ≡ 1
+  pub missed : v < least → r ≡ 0
+  pub low : r ≤ 1
+
+reaches : (least v r : ℕ) → r ≡ from_bool (leb least v) → Reaches least v r
+reaches least v r e =
+    record { reached = λ h. e ∙ rw (le-leb least v h); missed = λ h. e ∙ rw (lt-leb least v h); low = rw e (bit (leb least v)) }
+  where
+    bit : (b : Bool) → from_bool b ≤ 1
+    bit true = omega arith
+    bit false = omega arith
+
 -- an object's number has one to five digits
-pub digits_few : (v : ℕ) → v < most_objects → {a b c d : ℕ} → Reaches 9 v a → Reaches 99 v b → Reaches 999 v c → Reaches 9999 v d
-    → suc (a + b + c + d) ≡ digits_at v
+few : (v : ℕ) → v < most_objects → {a b c d : ℕ} → Reaches 9 v a → Reaches 99 v b → Reaches 999 v c → Reaches 9999 v d → suc (a + b + c + d) ≡ digits_at v
 unfolding decimal
-digits_few v h p q r s =
+few v h p q r s =
     by_cases (dec_lt v 9) (λ (l : v < 9). omega (arith, p.missed l, q.missed (omega arith), r.missed (omega arith), s.missed (omega arith), width_one 19 (v + 1) (omega arith)))
     (λ (n₁ : ¬ (v < 9)). by_cases (dec_lt v 99)
     (λ (l : v < 99). omega (arith, p.reached (omega arith), q.missed l, r.missed (omega arith), s.missed (omega arith), width_more 0 18 (v + 1) (omega arith) (omega arith)))
@@ -267,6 +267,15 @@ digits_few v h p q r s =
     (λ (n₃ : ¬ (v < 999)). by_cases (dec_lt v 9999)
     (λ (l : v < 9999). omega (arith, p.reached (omega arith), q.reached (omega arith), r.reached (omega arith), s.missed l, width_more 2 16 (v + 1) (omega arith) (omega arith)))
     (λ (n₄ : ¬ (v < 9999)). omega (arith, p.reached (omega arith), q.reached (omega arith), r.reached (omega arith), s.reached (omega arith), width_more 3 15 (v + 1) (omega arith) (omega arith))))))
+
+pub digits_few : (v : ℕ) → v < most_objects → {a b c d : ℕ} → a ≡ from_bool (leb 9 v) → b ≡ from_bool (leb 99 v) → c ≡ from_bool (leb 999 v)
+    → d ≡ from_bool (leb 9999 v) → (suc (a + b + c + d) ≡ digits_at v) × (a + b + c + d ≤ 4)
+digits_few v h {a} {b} {c} {d} e f g k =
+    let p = reaches 9 v a e in
+    let q = reaches 99 v b f in
+    let r = reaches 999 v c g in
+    let s = reaches 9999 v d k in
+    (few v h p q r s, omega (arith, p.low, q.low, r.low, s.low))
 
 -- the digits of the first e targets behind their first
 pub record Counting (ts : List ℕ) (e more : ℕ) : Type 0 where
@@ -280,18 +289,10 @@ unfolding sum
 counting_start a = record { able = a; passed = omega arith; more_is = refl; low = omega arith }
 
 module _ {ts : List ℕ} {e more : ℕ} (a : Counting ts e more) where
-  pub counting_small : e < length ts → get_or ts e 0 < most_objects
-  counting_small h = every_at (λ (t : ℕ). t < most_objects) ts e 0 a.able h
-
   pub counting_on : e < length ts → {x : ℕ} → (suc x ≡ digits_at (get_or ts e 0)) × (x ≤ 4) → Counting ts (e + 1) (more + x)
   counting_on h {x} p =
       let s = ap (λ (k : ℕ). sum digits_at (take k ts)) (add-one e) ∙ ap (sum digits_at) (take-suc ts e 0 h) ∙ sum_snoc digits_at (take e ts) (get_or ts e 0) in
       record { able = a.able; passed = omega arith; more_is = omega (arith, a.more_is, s, p.0); low = omega (arith, a.low, p.1) }
-
-  pub counting_end : length ts ≤ e → (length ts + more ≡ sum digits_at ts) × (more ≤ 4 * length ts)
-  counting_end h =
-      let q : e ≡ length ts = omega (arith, a.passed) in
-      (rw (take_all e ts h, q) at a.more_is, omega (arith, a.low))
 
 -- the lines of one object: as often its number and two bytes, and the numbers of the targets
 lines_long : (v : ℕ) (ts : List ℕ) → length (laid line_of (pairs_from v ts)) ≡ length ts * (digits_at v + 2) + sum digits_at ts
@@ -302,14 +303,7 @@ lines_long v (t ∷ ts) =
     omega (arith, l, line_length v t, lines_long v ts)
 
 module _ (G : Graph) (X : Exportable G) where
-  pub targets_few : Every (λ (t : ℕ). t < most_objects) G.targets
-  targets_few = every_from G.targets (λ i h. omega (arith, X.formed.inside i h, X.few))
-    where
-      every_from : (l : List ℕ) → ((i : ℕ) → i < length l → get_or l i 0 < most_objects) → Every (λ (t : ℕ). t < most_objects) l
-      every_from [] f = tt
-      every_from (x ∷ l) f = (f 0 (omega arith), every_from l (λ i p. f (suc i) (omega arith)))
-
-  pub measured_start : {x y k : ℕ} → (x ≡ length (decimal (objects G))) × (x ≤ 7) → (y ≡ length (decimal (references G))) × (y ≤ 7)
+  pub measured_start : {x y k : ℕ} → (x ≡ length (decimal (objects G))) × ((0 < x) × (x ≤ 7)) → (y ≡ length (decimal (references G))) × ((0 < y) × (y ≤ 7))
       → (references G + k ≡ sum digits_at G.targets) × (k ≤ 4 * references G)
       → Measured G 0 (49 + 2 * x + y + 3 + references G + k)
   unfolding laid pairs_below
@@ -318,7 +312,7 @@ module _ (G : Graph) (X : Exportable G) where
       record {
         passed = omega arith;
         total_is = rw z (omega (arith, head_length (objects G) (references G), p.0, q.0, r.0));
-        low = omega (arith, p.1, q.1, r.1);
+        low = omega (arith, p.1.1, q.1.1, r.1);
       }
 
   module _ {v total : ℕ} (a : Measured G v total) where
@@ -336,7 +330,7 @@ module _ (G : Graph) (X : Exportable G) where
       size_few : {x : ℕ} → x ≤ 7 → (after G v - first G v) * (x + 2) ≤ 9 * (after G v - first G v)
       size_few {x} p = omega (arith, mul-le-mul_left {m = x + 2} {n = 9} (after G v - first G v) (omega arith))
 
-      pub measured_on : {x : ℕ} → (x ≡ digits_at v) × (x ≤ 7) → Measured G (v + 1) (total + (after G v - first G v) * (x + 2))
+      pub measured_on : {x : ℕ} → (x ≡ digits_at v) × ((0 < x) × (x ≤ 7)) → Measured G (v + 1) (total + (after G v - first G v) * (x + 2))
       measured_on {x} p =
           let s : v + 1 ≡ suc v = omega arith in
           let rest = sum digits_at (references_of G v) in
@@ -346,11 +340,8 @@ module _ (G : Graph) (X : Exportable G) where
           record {
             passed = omega arith;
             total_is = rw s (omega (arith, a.total_is, rw s at (body_longer G X v), m, parts));
-            low = rw s (omega (arith, a.low, size_few p.1, X.formed.rises v h));
+            low = rw s (omega (arith, a.low, size_few p.1.1, X.formed.rises v h));
           }
-
-      pub measured_room : {x : ℕ} → x ≤ 7 → total + (after G v - first G v) * (x + 2) ≤ 100000000
-      measured_room p = omega (arith, a.low, size_few p, X.formed.rises v h, after_limit G X.formed v h, X.few_references)
 
     pub measured_end : objects G ≤ v → (total ≡ length (exported G)) × (total ≤ 100000000)
     unfolding sum

@@ -8,6 +8,7 @@ ghost use Rattle.names.specs.Names.{name_at, names_of};
 pub const WORK: usize = 135169;
 
 // What is lent as names: their width, their bytes end to end, and the object that each of them names.
+// Stays (6): the C interface lends them so (`kullneyra_scan`), and a name is found by its number alone.
 #[derive(Clone, Copy)]
 pub struct LentNames<'a> {
     pub width: usize,
@@ -16,6 +17,7 @@ pub struct LentNames<'a> {
 }
 
 // What is lent as texts: their bytes end to end, where each of them ends, and the object that owns it.
+// Stays (6): the C interface lends them so (`kullneyra_scan`).
 #[derive(Clone, Copy)]
 pub struct LentTexts<'a> {
     pub bytes: &'a [u8],

@@ -1,5 +1,6 @@
 // The text of a Matrix Market file (SPECIFICATION 13) read from the front: its first line, the counts, the
 // lines of pairs. Nothing is written.
+// Stays (5): a text and a place in it; a struct of both is no plainer, since what is said of a place names the two (`matrix` `Steps`).
 #![tactic(auto)]
 
 ghost use Rattle.std.specs.Prelude.{◌≡◌, true, false, ◌+◌, ◌≤◌, ◌<◌, length, drop, MatchOption, IfSome};

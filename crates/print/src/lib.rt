@@ -1,4 +1,5 @@
 // The text of a graph (SPECIFICATION 13): its length, and the text in a buffer of exactly that length.
+// Stays (5): a buffer and a place in it; a struct of both is no plainer, since `text::put` takes the two and `slices` `Put` names them.
 #![tactic(auto)]
 
 ghost use Rattle.std.specs.Prelude.{◌≡◌, ◌++◌, ℕ, suc, ◌+◌, ◌*◌, ◌≤◌, ◌<◌, length};
@@ -11,7 +12,7 @@ ghost use Rattle.slices.specs.Put.{Put};
 ghost use Rattle.text.specs.Text.{decimal};
 ghost use Rattle.matrix.specs.Layout.{banner, stopped};
 ghost use Rattle.matrix.specs.Export.{line_of, pairs_from, counts_line, exported};
-ghost use Rattle.matrix.specs.Steps.{Exportable, Printable, Reaches, pair_at, short, digits_at};
+ghost use Rattle.matrix.specs.Steps.{Exportable, Printable, pair_at, short, digits_at};
 
 use matrix::BANNER;
 
@@ -25,111 +26,49 @@ const ZERO: u64 = 48;
 // How many decimal digits a number has.
 fn width(v: u64) -> usize
     requires { v < short }
-    ensures { (result ≡ length (decimal v)) × (result ≤ 7) }
+    ensures { (result ≡ length (decimal v)) × ((0 < result) × (result ≤ 7)) }
 {
-    if v < 10 {
-        return 1;
+    if 1_000_000 <= v {
+        7
+    } else if 100_000 <= v {
+        6
+    } else if 10_000 <= v {
+        5
+    } else if 1_000 <= v {
+        4
+    } else if 100 <= v {
+        3
+    } else if 10 <= v {
+        2
+    } else {
+        1
     }
-    if v < 100 {
-        return 2;
-    }
-    if v < 1000 {
-        return 3;
-    }
-    if v < 10000 {
-        return 4;
-    }
-    if v < 100000 {
-        return 5;
-    }
-    if v < 1000000 {
-        return 6;
-    }
-    7
 }
 
-// Writes a number of one digit and the byte behind it. Short numbers take no loop.
-fn put_one(out: &mut [u8], at: usize, v: u64, stop: u8) -> usize
-    requires { (length (decimal v) ≡ 1) × (at + 2 ≤ length out.old) }
+// Writes a number of N digits and the byte behind it: no loop is left of that where it is compiled.
+fn put_digits<const N: usize>(out: &mut [u8], at: usize, v: u64, stop: u8) -> usize
+    requires { (length (decimal v) ≡ N) × (at + N < length out.old) }
     ensures { Put out.old at (stopped (decimal v) stop) out.new result }
 {
-    out[at + 1] = stop;
-    out[at] = (ZERO + v % 10) as u8;
-    at + 2
-}
-
-// The same of two digits, of three, of four and of five.
-fn put_two(out: &mut [u8], at: usize, v: u64, stop: u8) -> usize
-    requires { (length (decimal v) ≡ 2) × (at + 3 ≤ length out.old) }
-    ensures { Put out.old at (stopped (decimal v) stop) out.new result }
-{
-    let tens = v / 10;
-    out[at + 2] = stop;
-    out[at + 1] = (ZERO + v % 10) as u8;
-    out[at] = (ZERO + tens % 10) as u8;
-    at + 3
-}
-
-fn put_three(out: &mut [u8], at: usize, v: u64, stop: u8) -> usize
-    requires { (length (decimal v) ≡ 3) × (at + 4 ≤ length out.old) }
-    ensures { Put out.old at (stopped (decimal v) stop) out.new result }
-{
-    let tens = v / 10;
-    let hundreds = tens / 10;
-    out[at + 3] = stop;
-    out[at + 2] = (ZERO + v % 10) as u8;
-    out[at + 1] = (ZERO + tens % 10) as u8;
-    out[at] = (ZERO + hundreds % 10) as u8;
-    at + 4
-}
-
-fn put_four(out: &mut [u8], at: usize, v: u64, stop: u8) -> usize
-    requires { (length (decimal v) ≡ 4) × (at + 5 ≤ length out.old) }
-    ensures { Put out.old at (stopped (decimal v) stop) out.new result }
-{
-    let tens = v / 10;
-    let hundreds = tens / 10;
-    let thousands = hundreds / 10;
-    out[at + 4] = stop;
-    out[at + 3] = (ZERO + v % 10) as u8;
-    out[at + 2] = (ZERO + tens % 10) as u8;
-    out[at + 1] = (ZERO + hundreds % 10) as u8;
-    out[at] = (ZERO + thousands % 10) as u8;
-    at + 5
-}
-
-fn put_five(out: &mut [u8], at: usize, v: u64, stop: u8) -> usize
-    requires { (length (decimal v) ≡ 5) × (at + 6 ≤ length out.old) }
-    ensures { Put out.old at (stopped (decimal v) stop) out.new result }
-{
-    let tens = v / 10;
-    let hundreds = tens / 10;
-    let thousands = hundreds / 10;
-    let ten_thousands = thousands / 10;
-    out[at + 5] = stop;
-    out[at + 4] = (ZERO + v % 10) as u8;
-    out[at + 3] = (ZERO + tens % 10) as u8;
-    out[at + 2] = (ZERO + hundreds % 10) as u8;
-    out[at + 1] = (ZERO + thousands % 10) as u8;
-    out[at] = (ZERO + ten_thousands % 10) as u8;
-    at + 6
-}
-
-// The same of any number.
-fn put_digits(out: &mut [u8], at: usize, v: u64, stop: u8) -> usize
-    requires { (v < short) × (at + suc (length (decimal v)) ≤ length out.old) }
-    ensures { Put out.old at (stopped (decimal v) stop) out.new result }
-{
-    let end = at + width(v);
-    out[end] = stop;
+    out[at + N] = stop;
     let mut left = v;
-    let mut i = end;
-    while at < i {
-        i -= 1;
-        out[i] = (ZERO + left % 10) as u8;
-        left = left / 10;
+    for k in (0..N).rev() {
+        out[at + k] = (ZERO + left % 10) as u8;
+        left /= 10;
     }
-    end + 1
+    at + N + 1
+}
+
+// Writes a number of six or seven digits and the byte behind it: only the counts have so many.
+#[inline(never)]
+fn put_long(out: &mut [u8], at: usize, v: u64, stop: u8) -> usize
+    requires { ((5 < length (decimal v)) × (v < short)) × (at + suc (length (decimal v)) ≤ length out.old) }
+    ensures { Put out.old at (stopped (decimal v) stop) out.new result }
+{
+    match width(v) {
+        6 => put_digits::<6>(out, at, v, stop),
+        _ => put_digits::<7>(out, at, v, stop),
+    }
 }
 
 // Writes a number and the byte behind it.
@@ -137,22 +76,14 @@ fn put_field(out: &mut [u8], at: usize, v: u64, stop: u8) -> usize
     requires { (v < short) × (at + suc (length (decimal v)) ≤ length out.old) }
     ensures { Put out.old at (stopped (decimal v) stop) out.new result }
 {
-    if 100000 <= v {
-        return put_digits(out, at, v, stop);
+    match width(v) {
+        1 => put_digits::<1>(out, at, v, stop),
+        2 => put_digits::<2>(out, at, v, stop),
+        3 => put_digits::<3>(out, at, v, stop),
+        4 => put_digits::<4>(out, at, v, stop),
+        5 => put_digits::<5>(out, at, v, stop),
+        _ => put_long(out, at, v, stop),
     }
-    if 10000 <= v {
-        return put_five(out, at, v, stop);
-    }
-    if 1000 <= v {
-        return put_four(out, at, v, stop);
-    }
-    if 100 <= v {
-        return put_three(out, at, v, stop);
-    }
-    if 10 <= v {
-        return put_two(out, at, v, stop);
-    }
-    put_one(out, at, v, stop)
 }
 
 // Writes the line of a pair.
@@ -170,8 +101,8 @@ fn put_object(out: &mut [u8], at: usize, v: u32, targets: &[u32]) -> usize
     ensures { Put out.old at (laid line_of (pairs_from v targets.now)) out.new result }
 {
     let mut end = at;
-    for e in 0..targets.len() {
-        end = put_line(out, end, v as u64, targets[e] as u64);
+    for target in targets {
+        end = put_line(out, end, u64::from(v), u64::from(*target));
     }
     end
 }
@@ -194,6 +125,7 @@ pub fn put_text(out: &mut [u8], offsets: &[u32], targets: &[u32])
 {
     let n = offsets.len() - 1;
     let mut end = put_head(out, n as u64, targets.len() as u64);
+    // Stays (3): two words of `offsets` beside each other and their number are read, which `windows(2).enumerate()` would read by an index too.
     for v in 0..n {
         let first = offsets[v] as usize;
         let after = offsets[v + 1] as usize;
@@ -201,19 +133,13 @@ pub fn put_text(out: &mut [u8], offsets: &[u32], targets: &[u32])
     }
 }
 
-// Whether a number is at least another, as a number: no jump depends on it, so that many are looked at at once.
-fn reaches(least: u32, v: u32) -> u32
-    ensures { Reaches least v result }
-{
-    if least <= v { 1 } else { 0 }
-}
-
-// How many digits the number of object v has, counted from 1, behind its first.
+// How many digits the number of object v has, counted from 1, behind its first: no jump depends on it, so that many are looked at at once.
+// Stays (2): four tests where `width` has six, and added up where that one jumps; one function for both would be no plainer.
 fn more_digits(v: u32) -> u32
     requires { v < most_objects }
     ensures { (suc result ≡ length (decimal (v + 1))) × (result ≤ 4) }
 {
-    reaches(9, v) + reaches(99, v) + reaches(999, v) + reaches(9999, v)
+    u32::from(9 <= v) + u32::from(99 <= v) + u32::from(999 <= v) + u32::from(9999 <= v)
 }
 
 // The same for the targets of all references.
@@ -222,8 +148,8 @@ fn more_in(targets: &[u32]) -> u32
     ensures { (length targets.now + result ≡ sum digits_at targets.now) × (result ≤ 4 * length targets.now) }
 {
     let mut more: u32 = 0;
-    for e in 0..targets.len() {
-        more += more_digits(targets[e]);
+    for target in targets {
+        more += more_digits(*target);
     }
     more
 }
@@ -237,6 +163,7 @@ pub fn text_length(offsets: &[u32], targets: &[u32]) -> usize
     let m = targets.len();
     let head = BANNER.len() + 2 * width(n as u64) + width(m as u64) + 3;
     let mut total = head + m + more_in(targets) as usize;
+    // Stays (3): as in `put_text`.
     for v in 0..n {
         let size = (offsets[v + 1] - offsets[v]) as usize;
         total += size * (width(v as u64 + 1) + 2);

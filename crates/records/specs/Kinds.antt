@@ -4,7 +4,7 @@ use Rattle.refusal.specs.declared.Refusal.{Refusal}
 use Rattle.refusal.specs.declared.Refusal.TheVariants.{Kind as kind_refusal}
 use Rattle.records.specs.declared.Kind.{Kind}
 use Rattle.records.specs.declared.Kind.TheVariants.{Header, Object, Reference, Lease, Subject}
-use Rattle.records.specs.Layout.{header, object, reference, lease, subject, header_length, record_length, lease_length}
+use Rattle.records.specs.Layout.{header, object, reference, lease, subject}
 use Rattle.records.specs.Reading.{nothing}
 
 -- the number of a kind
@@ -14,14 +14,6 @@ kind_number Object = object
 kind_number Reference = reference
 kind_number Lease = lease
 kind_number Subject = subject
-
--- the length of its records
-abbrev pub kind_length : Kind → ℕ
-kind_length Header = header_length
-kind_length Object = record_length
-kind_length Reference = record_length
-kind_length Lease = lease_length
-kind_length Subject = record_length
 
 -- the kind with a number; where there is none, that is 2
 abbrev pub decoded : ℕ → Result Kind Refusal

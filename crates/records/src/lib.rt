@@ -4,7 +4,7 @@
 #![tactic(auto)]
 
 ghost use Rattle.std.specs.Prelude.{◌≡◌};
-ghost use Rattle.records.specs.Kinds.{kind_number, kind_length, decoded};
+ghost use Rattle.records.specs.Kinds.{kind_number, decoded};
 
 use refusal::Refusal;
 
@@ -24,19 +24,6 @@ pub const HEADER_LENGTH: usize = 16;
 pub const RECORD_LENGTH: usize = 12;
 
 pub const LEASE_LENGTH: usize = 8;
-
-impl Kind {
-    // How long a record of this kind is.
-    pub fn length(self) -> usize
-        ensures { result ≡ kind_length self }
-    {
-        match self {
-            Kind::Header => HEADER_LENGTH,
-            Kind::Object | Kind::Reference | Kind::Subject => RECORD_LENGTH,
-            Kind::Lease => LEASE_LENGTH,
-        }
-    }
-}
 
 // The number that a record says its kind by.
 impl From<Kind> for u16 {
@@ -66,7 +53,7 @@ impl TryFrom<u16> for Kind {
             3 => Ok(Kind::Reference),
             4 => Ok(Kind::Lease),
             5 => Ok(Kind::Subject),
-            _ => Err(Refusal::Kind),
+            0 | 6..=65535 => Err(Refusal::Kind),
         }
     }
 }

@@ -35,6 +35,7 @@ fn gather(numbers: &[u32], taken: &mut [u32], base: u32, end: u32) -> usize
 }
 
 // How many of m references the numbers name, window by window.
+// Stays (3): each window begins where the last one ended; `step_by` would have the same end worked out beside it.
 fn count_by(numbers: &[u32], taken: &mut [u32], m: usize) -> usize
     requires { (m ≤ most_references) × (1 ≤ length taken.old) × (length taken.old ≤ many_words) }
     ensures { (result ≡ distinct numbers.now m) × (result ≤ m) }
@@ -52,6 +53,7 @@ fn count_by(numbers: &[u32], taken: &mut [u32], m: usize) -> usize
 }
 
 // The same with a set of references, which is small where there are few.
+// Stays (2): the two sets are arrays of their own sizes; a closure that is given either one would leave the same choice.
 fn count_named(numbers: &[u32], m: usize) -> usize
     requires { m ≤ most_references }
     ensures { (result ≡ distinct numbers.now m) × (result ≤ m) }
@@ -89,6 +91,7 @@ fn check(
 
 // Writes the targets of those references from one to another that stay, from a place on. The bits are those of the
 // references from base on. Where the next target goes.
+// Stays (3): a reference's number names its bit as well as its place.
 fn keep_part(
     targets: &[u32],
     taken: &[u32],
@@ -121,6 +124,7 @@ pub struct Progress {
 }
 
 // Writes the targets up to the window's end, and the offsets of the objects whose references begin in it.
+// Stays (3): an object's number is where its offset is written and where the next window begins.
 fn keep_objects(
     offsets: &[u32],
     targets: &[u32],
@@ -190,6 +194,7 @@ fn keep_by(
 }
 
 // The same with a set of references, which is small where there are few.
+// Stays (2): as `count_named`.
 fn keep(offsets: &[u32], targets: &[u32], numbers: &[u32], bounds: &mut [u32], places: &mut [u32])
     requires { Formed (graph offsets.now targets.now) × (length targets.now ≤ most_references)
         × (length bounds.old ≡ length offsets.now) × (length places.old ≡ staying numbers.now (length targets.now)) }

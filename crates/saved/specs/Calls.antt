@@ -1,11 +1,10 @@
 -- SPECIFICATION 8.3: the calls that begin a collection and save it, and that take a saved one up: their checks, what they leave,
 -- and what calls in a row come to.
-use Rattle.std.specs.Prelude.{◌≡◌, ℕ, zero, suc, Bool, true, not, List, [], ◌∷◌, ◌++◌, length}
+use Rattle.std.specs.Prelude.{◌≡◌, ℕ, zero, suc, Bool, true, not, Some, List, [], ◌∷◌, ◌++◌, length}
 use Rattle.laws.specs.Choice.{both}
 use Rattle.refusal.specs.Order.{raise, first}
 use Rattle.graph.specs.Graph.{objects}
 use Rattle.desk.specs.declared.Lengths.{Lengths}
-use Rattle.desk.specs.declared.SavedWords.TheVariants.{Lent}
 use Rattle.machine.specs.Row.{Row, refused_row}
 use Rattle.machine.specs.Tally.{tallies_words}
 use Rattle.machine.specs.Machine.{State, Entry, turns, entries, result, memory}
@@ -20,7 +19,7 @@ use Rattle.saved.specs.Test.{saved?}
 
 -- so many marks, work words, tally words and saved words
 abbrev pub saving_lengths : ℕ → ℕ → ℕ → ℕ → Lengths
-saving_lengths marks work tallies saved = record { marks = marks; work = work; tallies = tallies; saved = Lent saved }
+saving_lengths marks work tallies saved = record { marks = marks; work = work; tallies = tallies; saved = Some saved }
 
 -- the number of the first fault of a call whose buffers are so long
 abbrev pub begin_fault : Call → ℕ → ℕ → ℕ → ℕ → ℕ

@@ -20,6 +20,7 @@ const SINCE: usize = 2;
 const BATCH: usize = 3;
 
 // The words of a worker.
+// Stays (1): the status is a number, since words are read before they are tested, and may tell of no worker (SPECIFICATION 8.1).
 #[derive(Clone, Copy, Debug, PartialEq, Eq)]
 pub struct WorkerWords {
     pub status: u32,

@@ -91,6 +91,7 @@ fn count_all<'a>(finder: &'a Finder<'a>, texts: &LentTexts<'a>) -> usize
 }
 
 // Writes all mentions to both lists, which are as long as they are many.
+// Stays (3): the place in the lists goes on from one text to the next, so no `enumerate` counts it.
 fn put_all<'a>(finder: &'a Finder<'a>, texts: &LentTexts<'a>, from: &mut [u32], to: &mut [u32])
     requires { Puttable finder.now (texts_in texts.now) from.old to.old }
     ensures { PutAll finder.now (texts_in texts.now) from.new to.new }

@@ -1,4 +1,5 @@
 pub mod Clearing
+pub mod LittleEndian
 pub mod BitWords
 pub mod Filling
 pub mod Written

@@ -1,7 +1,7 @@
 -- What a state that is held gives the code: bounds, room, and what the kept numbers say.
 use mathlib.Core.Path.{refl, ap}
 use Prim.Native.Nat.{ℕ, ◌+◌, ◌*◌, ◌≤◌, ◌<◌}
-use native.Mathlib.Nat.{mul-le-mul_right, mul-le-mul, suc-mul}
+use native.Mathlib.Nat.{mul-le-mul_right, suc-mul}
 use native.Mathlib.Omega.{arith}
 use lib.ListN.{length}
 use Rattle.laws.proofs.Sum.{sum_share}
@@ -26,10 +26,6 @@ module _ {G : Graph} {g : Setup} {s : State} (c : Scene G g s) where
     -- worker b's stretch and block are there
     pub stretch_room : (b : ℕ) → b < g.workers → b * g.stretch + g.stretch ≤ length μ.work
     stretch_room b low = rw (h.work_long, ← suc-mul) (mul-le-mul_right g.stretch low)
-
-    pub place_limit : (b : ℕ) → b < g.workers → b * g.stretch + g.stretch ≤ 2097216
-    place_limit b low =
-        omega (arith, stretch_room b low, h.work_long, mul-le-mul workers_limit stretch_limit)
 
     pub block_room : (b : ℕ) → b < g.workers → Room μ.regs b
     block_room b low = record { low = omega (arith, workers_limit); long = omega (arith, h.regs_long) }

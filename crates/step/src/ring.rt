@@ -4,6 +4,8 @@ ghost use Rattle.machine.specs.Ring.{shade as shade_of, colour_of, blackened as 
 ghost use Rattle.step.specs.Ringing.{ring_with, ring_of, RingAt};
 
 // A colour is 1 for black and 0 for white; black workers are bits, worker 0 the lowest.
+// Stays (1): a colour is a bit of `black` and a word of the saved words, added and shifted as a number; an enum would be turned
+// into that number at each place.
 #[derive(Clone, Copy)]
 pub struct Ring {
     pub holder: u64,

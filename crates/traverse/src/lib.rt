@@ -11,6 +11,7 @@ ghost use Rattle.layers.specs.Search.{leads_to, Growable, Grown, Walkable, Apart
 use bag::Bag;
 
 // The hop count of an object to which no chain leads.
+// Stays (1): the counts are lent words of the C interface (`kullneyra_hops`), and layers `Hops.none` is this number.
 pub const NONE: u32 = 4294967295;
 
 // A tree or a pennant of a bag: how high it is, and the object at its root.
@@ -47,7 +48,9 @@ fn visit(
     ensures { Grown hop (λ (w : ℕ). leads_to (graph offsets.now targets.now) w u)
         hops.old links.old bag.old hops.new links.new bag.new }
 {
-    for v in graph::references(offsets, targets, u) {
+    let start = offsets[u as usize] as usize;
+    let end = offsets[u as usize + 1] as usize;
+    for v in &targets[start..end] {
         find(hops, links, bag, hop, *v);
     }
 }

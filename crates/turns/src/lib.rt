@@ -11,6 +11,8 @@ use step::{Outcome, Step, counts};
 use worker::registers;
 
 // One turn.
+// Stays (5): each kind of turn is lent only what it may write, as idling the registers alone; one struct would lend all to each.
+// Stays (7): which step is run is a word of the lent registers, where no closure can stand.
 pub fn turn(
     offsets: &[u32],
     targets: &[u32],

@@ -1,5 +1,5 @@
 -- Check 17: the scan of the marked objects' references, and what it says when it finds nothing.
-use mathlib.Core.Path.{◌≡◌, refl, sym, subst, ◌∙◌}
+use mathlib.Core.Path.{◌≡◌, refl, sym, ◌∙◌}
 use mathlib.Core.Bool.{true, false, not}
 use mathlib.Core.List.{List}
 use mathlib.Core.Logic.{⊎_elim}
@@ -77,11 +77,6 @@ module _ (G : Graph) (ms : List ℕ) where
       (λ (t : all_up_to n (closed_at G ms) ≡ true). never (up_to_each (closed_at G ms) n t v h) (closed_open v k e))
       (λ (t : all_up_to n (closed_at G ms) ≡ false). sym t)
       (tested (all_up_to n (closed_at G ms)))
-
-  pub closed_end : {v n : ℕ} → ClosedTo v → length ms ≤ v → length ms ≡ n → true ≡ all_up_to n (closed_at G ms)
-  closed_end {v} {n} a h e =
-      let q : v ≡ n = omega (arith, h, e, a.low) in
-      sym (subst (λ (k : ℕ). all_up_to k (closed_at G ms) ≡ true) q a.so_far)
 
   -- the view of an object names objects
   pub view_marks : well_formed G ≡ true → length ms + 1 ≡ length G.offsets → (v : ℕ) → v < length ms

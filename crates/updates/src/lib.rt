@@ -33,6 +33,7 @@ impl Lengths {
 }
 
 // The number of work words for n objects, in either call: the list of objects to follow.
+// Stays (2): like `hops::hop_words` by another factor; either is a test and a product, which a common one would not shorten.
 pub fn update_words(objects: u32) -> Result<u64, Refusal>
     ensures { length_row result ≡ length_for objects }
 {

@@ -190,9 +190,6 @@ module _ {s : List ℕ} {t : Top} {k others : ℕ} (x : Sharing s t k others) wh
   unfolding carried sum
   total = ap (λ (l : List Run). carried l) front.whole
 
-  pub front_order : t.first ≤ t.end
-  front_order = omega (arith, front.end_is)
-
   pub held_front : k ≤ t.end - t.first → Front ≡ held k x.runs
   unfolding held
   held_front l = rw (front.whole, le-leb k (suc front.more) (omega (arith, front.end_is)))

@@ -3,6 +3,8 @@ ghost use Rattle.std.specs.Prelude.{◌≡◌, ◌<◌};
 ghost use Rattle.worker.specs.Registers.{Room, block_at, put_at, step_words, begin_words, puts_at, store_at};
 
 // A worker's status. From GIVEN on it carries references, from POLL on it is busy.
+// Stays (1): a status is a word of the saved words (SPECIFICATION 8.1) and is asked for by its order; an enum would be turned
+// into that word at each of these places, and back only in `turns::turn`.
 pub const IDLE: u32 = 0;
 
 pub const ASKING: u32 = 1;
@@ -43,6 +45,7 @@ const TARGET: usize = 8;
 pub const BLOCK: usize = 9;
 
 // The registers of the most workers.
+// Stays (6): no heap; a call keeps them itself, and uses as many as it has workers.
 pub const ALL: usize = BLOCK * 16;
 
 // The words of a block: status; batch; cell (0 empty, else the asker and 1); since as it will be

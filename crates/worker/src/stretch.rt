@@ -1,5 +1,6 @@
 // One worker's stretch of the work memory: the runs below the one being followed as pairs (first,
 // end), the run to be followed last standing first. The words behind them say nothing.
+// Stays (6): no heap; the runs stand in the lent work words, where the call leaves them (SPECIFICATION 4.5).
 ghost use Rattle.std.specs.Prelude.{◌≡◌, ◌+◌, ◌-◌, ◌≤◌, length, get_or, set};
 ghost use Rattle.machine.specs.Run.{rest as others};
 ghost use Rattle.machine.specs.Split.{held as holder};

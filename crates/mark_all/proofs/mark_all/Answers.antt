@@ -1,5 +1,5 @@
 -- The checks, the start, all turns, the stretches written out and the answer, each on what the one before left.
-use Rattle.std.proofs.Common.{[], arith}
+use Rattle.std.proofs.Common.{[]}
 use Rattle.std.proofs.lemmas.Result.{err_from_is_err_and}
 use Rattle.marker.specs.Answer.{call_of}
 use Rattle.marker.proofs.Stages.{registers_room, registers_long, runnable, passed, start_ready, work_long}

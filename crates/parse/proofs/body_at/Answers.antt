@@ -1,12 +1,6 @@
 -- `parse::body_at`: one law of `Bodies` for each way on and out.
-use Rattle.matrix.proofs.Bodies.{passing_start, passing_next, body_bad, body_longer, body_end}
+use Rattle.matrix.proofs.Bodies.{passing_next, body_bad, body_longer, body_end}
 use Rattle.parse.proofs.body_at.Goals as goal
-
-pub loop-e-init : goal.loop-e-init
-loop-e-init c = passing_start _ _ _ _ c.requires
-
-pub line_at-requires : goal.line_at-requires
-line_at-requires c = c.loop-e.invariant.place
 
 pub returns-in_err-line : goal.returns-in_err-line
 returns-in_err-line c = rw c.from_residual.ensures (body_bad c.loop-e.invariant c.loop-e-test.true c.in_err-line.ensures)

@@ -1,8 +1,7 @@
 -- `parse::field_at`: each exit says why the digits end.
 use Rattle.std.proofs.Common.{◌≡◌, refl, ℕ, ◌-◌, List, length, take, drop, arith}
-use lib.ListN.{get_or-eq_default}
 use Rattle.std.proofs.lemmas.Slice.{between_to_end}
-use Rattle.matrix.proofs.Fields.{scanning_start, scanning_next, ended_other, ended_full, ended_text, stops_other, stops_none, field_good}
+use Rattle.matrix.proofs.Fields.{scanning_start, scanning_next, ended_other, ended_full, stops_other, stops_none, field_good}
 use Rattle.parse.proofs.field_at.Goals as goal
 use Rattle.parse.proofs.field_at.Goals.{then-b-stop-via-then-b-stop, then-b-stop-via-else-b-stop+then-k-eq0}
 
@@ -38,9 +37,3 @@ pub loop-k-preserved : goal.loop-k-preserved
 loop-k-preserved c =
     let h = c.if-not-is_ascii_digit.ensures.cases in
     rw c.from.ensures (scanning_next c.loop-k.invariant c.loop-k-test.true refl h.0 h.1 c.if-k-eq-MOST_DIGITS.false)
-
-pub returns : goal.returns
-returns c =
-    let a = c.loop-k.invariant in
-    rw (← rest c.args.text.now c.args.at)
-    (stops_other a (ended_text a c.loop-k-test.false) (λ z. omega (arith, z, get_or-eq_default _ 0 c.loop-k-test.false, c.requires.1.0)))

@@ -2,5 +2,5 @@
 use Rattle.frontier.proofs.WindowLaws.{TakenAt}
 use Rattle.frontier.proofs.windows.carry_runs.Given as goal
 
-abbrev pub invariant-loop-i : goal.invariant-loop-i
-invariant-loop-i l = TakenAt l.base l.end l.initial.carried l.stretch l.i l.carried
+abbrev pub invariant-loop-from : goal.invariant-loop-from
+invariant-loop-from l = TakenAt l.base l.end l.initial.carried l.stretch l.from-index l.carried
