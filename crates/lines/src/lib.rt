@@ -86,6 +86,7 @@ fn put_tallies(page: &mut Page, tallies: &[u64])
 }
 
 // The lines of every collection: the counts, and each worker's tally.
+// Stays (1): `finished` is a line of its own, and the counts hold beside either value.
 pub fn put_result(page: &mut Page, finished: bool, counts: Counts, tallies: &[u64])
     requires { Room (counts_room + tally_room (length tallies.now / 4)) page.old }
     ensures { Wrote (counts_room + tally_room (length tallies.now / 4))

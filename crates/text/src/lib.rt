@@ -14,6 +14,7 @@ struct Digits {
 }
 
 // The digits of a number.
+// Stays (4): std's write! promises its bytes only beside an Ok that no clause promises, and `itoa` would be one more crate to rest on.
 fn digits_of(v: u64) -> Digits
     ensures { Aligned v result.bytes result.from }
 {
