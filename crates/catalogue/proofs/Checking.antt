@@ -165,9 +165,6 @@ module _ {n from to : ℕ} {b : List ℕ} {right : Bool} {i : ℕ} (a : Looking 
             by_cases (ℕ_discrete k i) (λ (q : k ≡ i). rw q (f e).1) (λ q. a.clear (f e).0 k g (omega (arith, q)));
       }
 
-  pub looking_end : to ≤ i → right ≡ true → Clear n from to b
-  looking_end h e k g p = a.clear e k g (omega arith)
-
 -- all of them
 clear_checking : (n m : ℕ) (b : List ℕ) → 16 ≤ length b → (i : ℕ) → i ≤ n + m → Clear n 0 i b → Checking n m b i (16 + 12 * i)
 clear_checking n m b l zero h c = checking_none n m b l

@@ -21,10 +21,6 @@ use Rattle.catalogue.proofs.Forms.{EachRecord, lease_form}
 
 -- ---- at a place
 
--- behind the most leases
-pub surplus_none : (n at : ℕ) (b : List ℕ) → at ≡ length b → 0 ≡ surplus_fault n (drop at b)
-surplus_none n at b h = rw (drop_of_length-le b {i = at} (omega (arith, h)))
-
 pub surplus_some : (n at : ℕ) (b : List ℕ) → at < length b → record_fault nothing n (drop at b) ≡ surplus_fault n (drop at b)
 surplus_some n at b h = rw (drop-cons b at 0 h)
 

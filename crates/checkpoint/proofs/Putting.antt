@@ -4,7 +4,7 @@ use mathlib.Core.List.{List, [], ◌∷◌, ◌++◌}
 use mathlib.Core.Logic.{by_cases}
 use Prim.Native.Nat.{ℕ, ◌+◌, ◌-◌, ◌*◌, ◌≤◌, ◌<◌}
 use native.Mathlib.Decide.{dec_lt}
-use native.Mathlib.Nat.{mul-le-mul, mul-le-mul_right, suc-mul}
+use native.Mathlib.Nat.{mul-le-mul_right, suc-mul}
 use native.Mathlib.Omega.{arith}
 use lib.ListN.{length, get_or, take, drop, length-take}
 use lib.Seq.{ext_get_or, get_or-take}
@@ -33,9 +33,6 @@ module _ {stretches regs work₀ : List ℕ} {W L : ℕ} (x : Puttable stretches
   module _ (k : ℕ) (low : k < W) where
     pub part_room : k * L + L ≤ W * L
     part_room = rw suc-mul at (mul-le-mul_right L low)
-
-    pub part_small : k * L + L ≤ 2097216
-    part_small = omega (arith, part_room, mul-le-mul x.few x.small)
 
     pub part_lent : (l : List ℕ) {e : ℕ} → e ≡ k * L + L → take (e - k * L) (drop (k * L) l) ≡ stretch_at L k l
     part_lent l {e} end = let m : e - k * L ≡ L = omega (arith, end) in ap (λ (m : ℕ). take m (drop (k * L) l)) m

@@ -4,7 +4,6 @@ use mathlib.Core.List.{List, [], ◌∷◌, ◌++◌, append_assoc}
 use Prim.Native.Nat.{ℕ, suc, ◌+◌, ◌-◌, ◌*◌, ◌≤◌, ◌<◌, ◌^◌}
 use mathlib.Core.Logic.{by_cases}
 use native.Mathlib.Decide.{dec_lt}
-use native.Mathlib.Nat.{mul-le-mul, mul-le-mul_right, suc-mul}
 use native.Mathlib.Omega.{arith}
 use lib.ListN.{length, get_or, take, drop, replicate}
 use lib.Seq.{get_or-append-add, get_or_at, take_at}
@@ -194,16 +193,7 @@ module _ {targets words stretches regs₀ : List ℕ} {W L : ℕ} (x : AllRestor
     pub long : length regs ≡ length regs₀
     pub done : Restored x.graph x.workers x.rested stretches regs L k
 
-  pub taking_none : Taking 0 regs₀
-  taking_none = record { long = refl; done = record { blocks = λ b h. absurd (omega arith); sinces = λ b h. absurd (omega arith) } }
-
   module _ {k : ℕ} (low : k < W) where
-    pub part_room : k * L + L ≤ length stretches
-    part_room = omega (arith, x.stretches_long, rw suc-mul at (mul-le-mul_right L low))
-
-    pub part_small : k * L + L ≤ 2097216
-    part_small = omega (arith, part_room, x.stretches_long, mul-le-mul x.few x.small)
-
     pub part_is : {e : ℕ} → e ≡ k * L + L → take (e - k * L) (drop (k * L) stretches) ≡ stretch_at L k stretches
     part_is {e} end = let m : e - k * L ≡ L = omega (arith, end) in ap (λ (m : ℕ). take m (drop (k * L) stretches)) m
 

@@ -39,12 +39,6 @@ pub begins_next : {n : ℕ} {pre l l' part : List ℕ} → Begins n pre l → (p
     → length pre ≡ a → a + length part' ≤ n → Begins n (pre ++ part') l'
 begins_next b part' a e q at room = rw (e, q) (begins_more b part' a at room)
 
--- a part that is lent and comes back with these words
-pub lent_back : (l : List ℕ) (a e : ℕ) {part : List ℕ} (part' : List ℕ) → part ≡ part' → e ≡ a + length part'
-    → take a l ++ (part ++ drop (e - a) (drop a l)) ≡ placed a part' l
-lent_back l a e part' q end =
-    let d : e - a ≡ length part' = omega (arith, end) in rw (q, d) refl
-
 -- all of it
 pub begins_all : {n : ℕ} {pre l : List ℕ} → Begins n pre l → length pre ≡ n → l ≡ pre
 begins_all {n} {pre} {l} b e = sym (take_all (length pre) l (omega (arith, b.long, e))) ∙ b.is
@@ -103,10 +97,6 @@ module _ {W : ℕ} {μ : Memory} {w : List ℕ} (x : Savable W μ w) where
 
   abbrev A₃ : List ℕ
   A₃ = A₂ ++ s.marks
-
-  -- where each part ends, with so many marks
-  pub marks_long : length μ.marks ≡ n
-  marks_long = ap length x.marks_are ∙ x.shaped.sized.marks_length
 
   pub tallies_many : length μ.tallies ≡ tally_word_count * W
   tallies_many = ap length x.tallies_are ∙ tallies_count x.shaped

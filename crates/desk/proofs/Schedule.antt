@@ -1,25 +1,15 @@
 -- Check 9, entry by entry.
-use mathlib.Core.Path.{◌≡◌, refl, sym, ap, ◌∙◌}
+use mathlib.Core.Path.{◌≡◌, refl}
 use mathlib.Core.Bool.{Bool, true, false}
 use mathlib.Core.List.{List, [], ◌∷◌, ◌++◌}
-use Prim.Native.Nat.{ℕ, suc, ◌+◌, ◌-◌, ◌*◌, ◌/◌, ◌≤◌, ◌<◌}
-use native.Mathlib.Numerals.{add-one}
+use Prim.Native.Nat.{ℕ, suc, ◌-◌, ◌*◌, ◌/◌, ◌<◌}
 use native.Mathlib.Omega.{arith}
-use borrow.Author.Tests.{lt-ltb, le-ltb}
-use lib.ListN.{length, get_or, drop, drop_of_length-le}
+use lib.ListN.{length, get_or}
 use lib.Dec.{ltb}
-use lib.Seq.{drop-cons}
 use Rattle.laws.specs.Choice.{both}
 use Rattle.laws.proofs.Test.{both_true}
 use Rattle.graph.specs.Graph.{all_below}
 use Rattle.desk.specs.Checks.{schedule_fits}
-
--- the entry at i
-pub pair_is : (l : List ℕ) (i : ℕ) → i < length l → 2 ≤ length l - i → drop i l ≡ get_or l i 0 ∷ get_or l (i + 1) 0 ∷ drop (i + 2) l
-pair_is l i h room =
-    let n : i + 1 ≡ suc i = add-one i in
-    let m : i + 2 ≡ suc (suc i) = omega arith in
-    rw (n, m) (drop-cons l i 0 h ∙ ap (λ (t : List ℕ). get_or l i 0 ∷ t) (drop-cons l (suc i) 0 (omega arith)))
 
 -- a schedule of odd length
 pub fits_odd : (W : ℕ) (l : List ℕ) → ((k : ℕ) → 2 * k ≡ length l → ⊥) → schedule_fits W l ≡ false

@@ -2,7 +2,7 @@
 // sizes. Any marks, sizes and list may come in.
 #![tactic(auto)]
 
-ghost use Rattle.std.specs.Prelude.{◌≡◌, true, ◌+◌, ◌≤◌, length};
+ghost use Rattle.std.specs.Prelude.{◌≡◌, true, ◌≤◌, length};
 ghost use Rattle.sweep.specs.Sweep.{all_fit, Listable, Listed, LiveFor, At, row, sweeping, list_after};
 ghost use Rattle.sweep.specs.Collection.{Collection};
 

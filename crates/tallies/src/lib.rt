@@ -5,8 +5,7 @@
 ghost use Rattle.std.specs.Prelude.{◌≡◌, ◌+◌, ◌≤◌, ◌<◌, length};
 ghost use Rattle.laws.specs.Decides.{Decides};
 ghost use Rattle.graph.specs.Limits.{most_references};
-ghost use Rattle.desk.specs.Limits.{most_workers};
-ghost use Rattle.desk.specs.Lengths.{counts_number, tally_word_count, workers_place, marks_place};
+ghost use Rattle.desk.specs.Lengths.{counts_number, tally_word_count, workers_place};
 ghost use Rattle.saved.specs.Layout.{count_in, counts_in, tally_number};
 ghost use Rattle.tallies.specs.Counts.{TalliesThere, tally_sum, ClaimsSound, TalliesSound, CountsRight, CountsLow, RangesLow, SumsLow, Agree};
 
