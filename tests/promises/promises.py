@@ -82,11 +82,20 @@ class Repository:
         return self.files[crate, file]
 
     def has_item(self, crate: str, modules: list[str], name: str) -> bool:
-        """Whether the crate's code has a function, a type, a constant or a module of this name there."""
+        """Whether the crate's code has a function, a type, a trait, a constant or a module of this name there, or a type that method."""
+        owner = modules[-1] if modules and modules[-1][:1].isupper() else None
+        if owner:
+            modules = modules[:-1]
         source = self.top / "crates" / crate / "src"
         paths = [source / f"{'/'.join(modules)}.rt"] if modules else [source / "lib.rt", source / "main.rt"]
-        declared = re.compile(rf"\b(?:fn|struct|enum|const|mod)\s+{re.escape(name)}\b")
-        return any(path.is_file() and declared.search(COMMENT.sub("", path.read_text(encoding="utf-8"))) for path in paths)
+        declared = re.compile(rf"\b(?:fn|struct|enum|trait|const|mod)\s+{re.escape(name)}\b")
+        for path in paths:
+            if path.is_file():
+                text = COMMENT.sub("", path.read_text(encoding="utf-8"))
+                parts = re.findall(rf"^(?:impl|pub trait|trait)\b[^{{]*\b{owner}\b[^{{]*\{{.*?^\}}", text, re.M | re.S) if owner else [text]
+                if any(declared.search(part) for part in parts):
+                    return True
+        return False
 
 
 @dataclass

@@ -37,7 +37,7 @@ module _ {n : ℕ} (S : Sound n) where
 lemma : Sound 1
 """,
     "crates/one/proofs/Laws.antt": "pub record Law : Type 0 where\n  pub limit : ℕ\n",
-    "crates/one/src/lib.rt": "// pub fn ghost()\npub mod deep;\npub struct Answer {}\npub fn call(x: u8) -> u8\n{\n    x\n}\n",
+    "crates/one/src/lib.rt": "// pub fn ghost()\npub mod deep;\npub struct Answer {}\npub fn call(x: u8) -> u8\n{\n    x\n}\nimpl Answer {\n    pub fn told(&self) {\n    }\n}\npub trait Asks {\n    fn asked(&self);\n}\n",
     "crates/one/src/deep.rt": "fn inner() {\n}\n",
     "crates/one/must-fail/limit_off.edit": "",
     "crates/one/must-fail/kept_lost.edit": "",
@@ -75,7 +75,7 @@ class Promises(unittest.TestCase):
         for part in (
             "`one` `Sound.short`, `Kind`, `left`, `right`, `both`, `Sound.limit`, `exact?`, `Kind.left`, `kept`, `lemma`",
             "`one` `Sound.Sound.limit` and `Laws`, `Law`, `Law.limit`; `Sound.lemma`; `two` `Other.borrowed`",
-            "`one::call`, `one::Answer`, `one::deep`, `one::deep::inner`",
+            "`one::call`, `one::Answer`, `one::deep`, `one::deep::inner`, `one::Answer::told`, `one::Asks`, `one::Asks::asked`",
             "`requires`, `samples/a.txt`, `crates/one/src`, `one/specs/Sound.antt`",
             "`one/limit_off`, `kept_lost`; `two/other`; `one` `Laws`",
             "nothing at all",
@@ -99,6 +99,8 @@ class Promises(unittest.TestCase):
             ("`one::ghost`", "one::ghost", "is not in the crate's src"),
             ("`one::inner`", "one::inner", "is not in the crate's src"),
             ("`one::deep::call`", "one::deep::call", "is not in the crate's src"),
+            ("`one::Answer::call`", "one::Answer::call", "is not in the crate's src"),
+            ("`one::Answer::asked`", "one::Answer::asked", "is not in the crate's src"),
             ("`three::call`", "three::call", "is not in the crate's src"),
             ("`one/limit_on`", "one/limit_on", "is no edit"),
             ("`one/limit_off`, `other`", "other", "is no edit of one"),
