@@ -13,7 +13,6 @@ use Rattle.laws.specs.Every.{Every}
 use Rattle.laws.specs.Sum.{sum}
 use Rattle.laws.proofs.Sum.{either_positive}
 use Rattle.laws.proofs.Test.{tested}
-use Rattle.std.specs.Prelude.{Ok}
 use Rattle.refusal.proofs.None.{first_none}
 use Rattle.graph.specs.Graph.{Graph, graph, objects, references_of}
 use Rattle.graph.specs.Formed.{Formed}
@@ -135,7 +134,7 @@ module _ {n : ℕ} {Ns : List Names} {T : Texts} {pf pt starts list said : List 
   G = graph_of x.c
 
   ready : AddReady (replicate (suc n) 0) [] (x.from ++ pf) (x.to ++ pt) x.bounds x.places x.ms x.work
-  ready = found_ready x.bounds x.places x.ms x.work {v = Ok tt} (record { number_is = x.adds.answers }) refl
+  ready = found_ready x.bounds x.places x.ms x.work {x = tt} (record { number_is = x.adds.answers })
 
   n_is : objects empty ≡ n
   n_is = omega (arith, length-replicate {A = ℕ} (suc n) 0)

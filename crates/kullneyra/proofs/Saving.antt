@@ -10,7 +10,7 @@ use Rattle.desk.specs.Kept.{unless_refused}
 use Rattle.machine.specs.Row.{Row}
 use Rattle.machine.specs.Machine.{State}
 use Rattle.machine.specs.Call.{Call, graph_of, setting_of}
-use Rattle.std.specs.Prelude.{Result, Ok}
+use Rattle.std.specs.Prelude.{Result}
 use Rattle.refusal.specs.declared.Refusal.{Refusal}
 use Rattle.marker.specs.declared.Marked.{Marked}
 use Rattle.marker.specs.Answer.{row}

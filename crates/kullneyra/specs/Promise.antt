@@ -1,6 +1,6 @@
 -- What users are promised of the calls that they link: the numbers and words of `Calls`, and of the words that a call leaves the demands
 -- and what the notes say. deal and export cite the promise of the call below, and hops, add and remove have it in `Calls`.
-use Rattle.std.specs.Prelude.{◌≡◌, Bool, true, List, ◌++◌, ◌↔◌, ℕ, ◌<◌, length, get_or, take}
+use Rattle.std.specs.Prelude.{◌≡◌, Bool, true, List, ◌++◌, ◌↔◌, ℕ, ◌<◌, Ok, length, get_or, take}
 use Rattle.graph.specs.Graph.{objects}
 use Rattle.graph.specs.Chain.{Reach}
 use Rattle.catalogue.specs.Answer.{Row as HeadRow, ReadRow}

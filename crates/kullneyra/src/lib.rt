@@ -56,12 +56,14 @@ pub fn give_found(answer: Result<Found, Refusal>, res: &mut [u32]) -> u32
     ensures res_after { res.new ≡ unless_refused (found_row answer).refusal (read_words (found_row answer)) res.old }
 {
     match answer {
-        Ok(Found {
-            n,
-            m,
-            index,
-            starts,
-        }) => {
+        Ok(
+            Found {
+                n,
+                m,
+                index,
+                starts,
+            },
+        ) => {
             res.copy_from_slice(&[n, m, index, starts]);
             0
         }
