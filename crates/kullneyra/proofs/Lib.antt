@@ -1,7 +1,6 @@
 pub mod Promise
 pub mod Results
 pub mod Saving
-pub mod Seeds
 pub mod Hops
 pub mod Updates
 pub mod Mentioning

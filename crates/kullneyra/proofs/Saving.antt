@@ -1,6 +1,6 @@
 -- The calls that save, by the length of the result words: with another one nothing is made, and with the right one what the call promises is told.
 use mathlib.Core.Path.{◌≡◌, refl, sym, ap, ◌∙◌}
-use mathlib.Core.Bool.{Bool, true, false}
+use mathlib.Core.Bool.{Bool, true}
 use mathlib.Core.List.{List}
 use Prim.Native.Nat.{ℕ, zero, suc}
 use lib.ListN.{length}
@@ -30,11 +30,6 @@ words_by zero s result {t} {sound} h l w =
 words_by (suc k) s result {t} {sound} h l w = w ∙ ap (λ (x : Row). unless_refused x.number (stop_words x sound) result) h
 
 module _ {c : Call} {k : ℕ} {s : State} {marks work tallies w result : List ℕ} where
-  pub not_made : eqb (length result) stop_word_count ≡ false
-      → SavesIn c k s marks work tallies w result marks work tallies w result 7
-  not_made f =
-      record { answers = rw f; fills_marks = rw f; fills_work = rw f; fills_tallies = rw f; fills_saved = rw f; fills_result = rw f }
-
   made : {r : Result Marked Refusal} {sound : Bool} {marks' work' tallies' w' result' : List ℕ} {answer : ℕ}
       → eqb (length result) stop_word_count ≡ true
       → Answers c k s marks work tallies w r marks' work' tallies' w'
