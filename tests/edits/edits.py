@@ -35,7 +35,6 @@ WITHOUT_EDITS = {
     "ffi_store": "passes on to `catalogue`, `graph` and `market`",
     "ffi_update": "passes on to `hops` and `updates`",
     "laws": "has no word of the product",
-    "marker": "its definitions are those of `machine` and `desk`",
     "market": "its definitions are those of `matrix`, its leaves `parse` and `print`",
     "report": "its definitions are those of `program`, its leaf `lines`",
     "saved_theorems": "its definitions are those of `saved`, whose edits the drawings refuse",
