@@ -63,22 +63,21 @@ impl Bag {
         size: 0,
     };
 
-    // Adds an object: a pennant of one object, which is united with those in its way. Out of line, so that what tests
-    // whether an object is new stays small enough to be compiled into the loops that test.
-    #[inline(never)]
+    // Adds an object: a pennant of one object, which is united with those in its way.
+    // Stays (3): `for slot in &mut self.slots`, tried, is unrolled and takes twice as long on a star, since slot k is nearly always a low one.
     pub fn add(&mut self, links: &mut [u32], x: u32)
         requires { Addable links.old self.old x }
         ensures { Adds links.old self.old x links.new self.new }
     {
         let mut root = x;
-        for slot in &mut self.slots {
-            let Some(other) = slot.take() else {
-                *slot = Some(root);
-                break;
-            };
+        let mut k: usize = 0;
+        while let Some(other) = self.slots[k] {
+            self.slots[k] = None;
             unite(links, other, root);
             root = other;
+            k += 1;
         }
+        self.slots[k] = Some(root);
         self.size += 1;
     }
 

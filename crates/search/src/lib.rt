@@ -84,7 +84,7 @@ fn begin(starts: &[u32], hops: &mut [u32], links: &mut [u32], bag: &mut Bag)
     }
 }
 
-// The hop counts: layer after layer, until one is empty.
+// The hop counts: layer after layer, until one is empty. Two bags take turns, so that none is copied.
 pub fn search(offsets: &[u32], targets: &[u32], starts: &[u32], hops: &mut [u32], links: &mut [u32])
     requires { Searchable (graph offsets.now targets.now) starts.now hops.old links.old }
     ensures { HopsOf (graph offsets.now targets.now) starts.now hops.new
@@ -93,11 +93,17 @@ pub fn search(offsets: &[u32], targets: &[u32], starts: &[u32], hops: &mut [u32]
     hops.fill(NONE);
     let mut layer = Bag::EMPTY;
     begin(starts, hops, links, &mut layer);
+    let mut next = Bag::EMPTY;
     let mut hop: u32 = 0;
     while layer.size != 0 {
         hop += 1;
-        let mut next = Bag::EMPTY;
         pass(offsets, targets, hops, links, &layer, &mut next, hop);
-        layer = next;
+        layer = Bag::EMPTY;
+        if next.size == 0 {
+            return;
+        }
+        hop += 1;
+        pass(offsets, targets, hops, links, &next, &mut layer, hop);
+        next = Bag::EMPTY;
     }
 }
