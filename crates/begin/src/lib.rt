@@ -57,7 +57,7 @@ pub fn begin(
     let setup = marker::accept(offsets, targets, starts, settings, schedule, lengths)?;
     let mut registers = [0u32; registers::ALL];
     let regs = &mut registers[..registers::BLOCK * setup.workers as usize];
-    let begun = start::start(offsets, targets, starts, setup, marks, work, tallies, regs);
+    let begun = start::afresh(offsets, targets, starts, setup, marks, work, tallies, regs);
     let p = marker::take_turns(
         offsets, targets, setup, schedule, marks, work, tallies, regs, begun,
     );

@@ -1,7 +1,7 @@
 // The checks of the whole catalogue, record by record.
 ghost use Rattle.std.specs.Prelude.{◌≡◌, true, ◌||◌, ◌+◌, ◌*◌, ◌≤◌, length, drop, eqb};
 ghost use Rattle.records.specs.Reading.{due_at, dues, leases_at, record_fault, surplus_fault, lease_faults, faults, Clear, catalogue_fault};
-ghost use Rattle.records.specs.Kinds.{kind_number, due_number};
+ghost use Rattle.records.specs.Kinds.{kind_number};
 ghost use Rattle.records.specs.Store.{most_leases};
 ghost use Rattle.refusal.specs.Number.{number_of};
 ghost use Rattle.graph.specs.Limits.{most_objects, most_references};
@@ -9,7 +9,7 @@ ghost use Rattle.records.specs.Fill.{Listed};
 
 use faults::{header_of, record_fault};
 use graph::LARGEST_SIZE;
-use records::{HEADER_LENGTH, Kind, LEASE_LENGTH, RECORD_LENGTH};
+use records::{HEADER_LENGTH, Kind, LEASE_LENGTH, NOTHING, RECORD_LENGTH};
 use refusal::Checked;
 use slices::{word4, word8};
 
@@ -27,7 +27,7 @@ const SUBJECT_HEAD: u32 = 327692;
 pub fn catalogue_fault(bytes: &[u8]) -> Checked
     ensures { number_of result ≡ catalogue_fault bytes.now }
 {
-    record_fault(bytes, Some(Kind::Header), 0)?;
+    record_fault(bytes, u16::from(Kind::Header), 0)?;
     let head = header_of(bytes);
     records_fault(bytes, head.n, head.m)
 }
@@ -114,7 +114,7 @@ fn first_fault(bytes: &[u8], n: u32, m: u32) -> Checked
 {
     let mut at = HEADER_LENGTH;
     for i in 0..n + m {
-        fault_at(bytes, at, Some(due_at(i, n)), n)?;
+        fault_at(bytes, at, u16::from(due_at(i, n)), n)?;
         at += RECORD_LENGTH;
     }
     leases_fault(bytes, at, n)
@@ -137,7 +137,7 @@ fn leases_fault(bytes: &[u8], from: usize, n: u32) -> Checked
         if at == bytes.len() {
             return Ok(());
         }
-        fault_at(bytes, at, Some(Kind::Lease), n)?;
+        fault_at(bytes, at, u16::from(Kind::Lease), n)?;
         at += LEASE_LENGTH;
     }
     surplus_fault(bytes, at, n)
@@ -151,13 +151,13 @@ fn surplus_fault(bytes: &[u8], at: usize, n: u32) -> Checked
     if at == bytes.len() {
         return Ok(());
     }
-    fault_at(bytes, at, None, n)
+    fault_at(bytes, at, NOTHING, n)
 }
 
 // The fault of the record at a place.
-fn fault_at(bytes: &[u8], at: usize, due: Option<Kind>, n: u32) -> Checked
+fn fault_at(bytes: &[u8], at: usize, due: u16, n: u32) -> Checked
     requires { at ≤ length bytes.now }
-    ensures { number_of result ≡ record_fault (due_number due) n (drop at bytes.now) }
+    ensures { number_of result ≡ record_fault due n (drop at bytes.now) }
 {
     record_fault(&bytes[at..], due, n)
 }

@@ -28,7 +28,7 @@ pub struct Found {
 pub fn header(bytes: &[u8]) -> Result<Header, Refusal>
     ensures { row result ≡ header_row bytes.now }
 {
-    faults::record_fault(bytes, Some(Kind::Header), 0)?;
+    faults::record_fault(bytes, u16::from(Kind::Header), 0)?;
     Ok(faults::header_of(bytes))
 }
 

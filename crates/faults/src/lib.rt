@@ -4,12 +4,11 @@
 ghost use Rattle.std.specs.Prelude.{◌≡◌, ◌≤◌, length};
 ghost use Rattle.records.specs.Reading.{kind_of, header_kind, object_kind, reference_kind, lease_kind, length_field, Heads};
 ghost use Rattle.records.specs.Reading.{misplaced, overfull, miscounted, misnamed, oversized, contents_fault, record_fault};
-ghost use Rattle.records.specs.Kinds.{due_number};
 ghost use Rattle.refusal.specs.Order.{raise};
 ghost use Rattle.refusal.specs.Number.{number_of};
 
 use graph::{LARGEST_SIZE, MOST_OBJECTS, MOST_REFERENCES};
-use records::{HEADER_LENGTH, Kind, LEASE_LENGTH, RECORD_LENGTH};
+use records::{HEADER_LENGTH, Kind, LEASE_LENGTH, NOTHING, RECORD_LENGTH};
 use refusal::{Checked, Refusal};
 use slices::{word2, word4, word8};
 
@@ -33,10 +32,10 @@ pub fn header_of(bytes: &[u8]) -> Header
     }
 }
 
-// The fault of the record with which the bytes begin, where such a one is due.
+// The fault of the record with which the bytes begin, where the kind with this number is due, or NOTHING.
 #[tactic(auto, unfolding(records::specs::Reading::record_fault))]
-pub fn record_fault(bytes: &[u8], due: Option<Kind>, n: u32) -> Checked
-    ensures { number_of result ≡ record_fault (due_number due) n bytes.now }
+pub fn record_fault(bytes: &[u8], due: u16, n: u32) -> Checked
+    ensures { number_of result ≡ record_fault due n bytes.now }
 {
     if bytes.len() < 4 {
         return Err(Refusal::Short);
@@ -50,16 +49,16 @@ pub fn record_fault(bytes: &[u8], due: Option<Kind>, n: u32) -> Checked
 
 // 2 and later of a record that is there as far as its length says. The kind decides which length it
 // must have, where it may stand, and what its contents must be.
-fn kind_fault(bytes: &[u8], long: usize, number: u16, due: Option<Kind>, n: u32) -> Checked
+fn kind_fault(bytes: &[u8], long: usize, number: u16, due: u16, n: u32) -> Checked
     requires { (long ≡ length_field bytes.now) × (long ≤ length bytes.now) }
-    ensures { number_of result ≡ contents_fault (kind_of number) (due_number due) n bytes.now }
+    ensures { number_of result ≡ contents_fault (kind_of number) due n bytes.now }
 {
     match Kind::try_from(number) {
         Ok(Kind::Header) => {
             if long != HEADER_LENGTH {
                 return Err(Refusal::Kind);
             }
-            if due != Some(Kind::Header) {
+            if due != u16::from(Kind::Header) {
                 return Err(Refusal::Place);
             }
             header_fault(bytes)
@@ -68,7 +67,7 @@ fn kind_fault(bytes: &[u8], long: usize, number: u16, due: Option<Kind>, n: u32)
             if long != RECORD_LENGTH {
                 return Err(Refusal::Kind);
             }
-            if due != Some(Kind::Object) {
+            if due != u16::from(Kind::Object) {
                 return Err(Refusal::Place);
             }
             object_fault(bytes)
@@ -77,7 +76,7 @@ fn kind_fault(bytes: &[u8], long: usize, number: u16, due: Option<Kind>, n: u32)
             if long != RECORD_LENGTH {
                 return Err(Refusal::Kind);
             }
-            if due != Some(Kind::Reference) {
+            if due != u16::from(Kind::Reference) {
                 return Err(Refusal::Place);
             }
             reference_fault(bytes, n)
@@ -131,15 +130,16 @@ fn reference_fault(bytes: &[u8], n: u32) -> Checked
 }
 
 // 3, 13 and 5 of a lease. Behind the most leases one more is too many, and not out of its place.
-fn lease_fault(bytes: &[u8], due: Option<Kind>, n: u32) -> Checked
+fn lease_fault(bytes: &[u8], due: u16, n: u32) -> Checked
     requires { 8 ≤ length bytes.now }
-    ensures { number_of result ≡ raise (misplaced (due_number due) lease_kind) 3
-        (raise (overfull (due_number due) lease_kind) 13 (raise (misnamed lease_kind n bytes.now) 5 0)) }
+    ensures { number_of result ≡ raise (misplaced due lease_kind) 3
+        (raise (overfull due lease_kind) 13 (raise (misnamed lease_kind n bytes.now) 5 0)) }
 {
-    match due {
-        None => return Err(Refusal::Starts),
-        Some(Kind::Lease) => {}
-        Some(_) => return Err(Refusal::Place),
+    if due == NOTHING {
+        return Err(Refusal::Starts);
+    }
+    if due != u16::from(Kind::Lease) {
+        return Err(Refusal::Place);
     }
     if word4(bytes, 4) >= n {
         return Err(Refusal::Object);

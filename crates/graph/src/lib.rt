@@ -5,8 +5,6 @@
 ghost use Rattle.std.specs.Prelude.{◌≡◌, List, ℕ, ◌+◌, length};
 ghost use Rattle.graph.specs.Graph.{rising, all_below, well_formed, references_of, IsPart, graph};
 
-use std::ops::Range;
-
 // The most objects of a store (SPECIFICATION 1).
 pub const MOST_OBJECTS: usize = 65536;
 
@@ -77,29 +75,37 @@ pub fn well_formed(offsets: &[u32], targets: &[u32]) -> bool
     is_below(n, targets)
 }
 
+// A part of the targets: from `start` up to `end`.
+#[derive(Clone, Copy, Debug, PartialEq, Eq)]
+pub struct Part {
+    pub start: usize,
+    pub end: usize,
+}
+
 // Where object v's references stand among so many targets; the empty part at 0 for none.
-pub fn part_of(offsets: &[u32], count: usize, v: u32) -> Range<usize>
+pub fn part_of(offsets: &[u32], count: usize, v: u32) -> Part
     ensures { (ts : List ℕ) → length ts ≡ count → IsPart (graph offsets.now ts) v result.start result.end }
 {
     let i = v as usize;
     // The last offset begins no object's part.
     if offsets.len() <= i || offsets.len() - i <= 1 {
-        return 0..0;
+        return Part { start: 0, end: 0 };
     }
     let start = offsets[i] as usize;
     let end = offsets[i + 1] as usize;
     if end < start {
-        return 0..0;
+        return Part { start: 0, end: 0 };
     }
     if count < end {
-        return 0..0; // past the targets
+        return Part { start: 0, end: 0 }; // past the targets
     }
-    start..end
+    Part { start, end }
 }
 
 // The call `references`: those of object v as that part of the targets, or the empty part.
 pub fn references<'a>(offsets: &[u32], targets: &'a [u32], v: u32) -> &'a [u32]
     ensures { result.now ≡ references_of (graph offsets.now targets.now) v }
 {
-    &targets[part_of(offsets, targets.len(), v)]
+    let part = part_of(offsets, targets.len(), v);
+    &targets[part.start..part.end]
 }

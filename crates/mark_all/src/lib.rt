@@ -100,7 +100,7 @@ pub fn mark_all(
     let setup = marker::accept(offsets, targets, starts, settings, &[], lengths)?;
     let mut registers = [0u32; registers::ALL];
     let regs = &mut registers[..registers::BLOCK * setup.workers as usize];
-    let progress = start::start(offsets, targets, starts, setup, marks, work, tallies, regs);
+    let progress = start::afresh(offsets, targets, starts, setup, marks, work, tallies, regs);
     let begun = Begun { setup, progress };
     let p = take_all(offsets, targets, marks, work, tallies, regs, begun);
     marker::settle(setup, work, regs);

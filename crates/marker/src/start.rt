@@ -99,8 +99,25 @@ fn start_stretch(
     counts::begun(starts, 1, setup.workers as u64)
 }
 
-// The start of a checked call in its lent memories, whose registers are all zero.
+// The start of a checked call in its lent memories, whose registers are all zero. The tallies are cleared by the caller.
 pub fn start(
+    offsets: &[u32],
+    targets: &[u32],
+    starts: &[u32],
+    setup: Setup,
+    marks: &mut [u8],
+    work: &mut [u32],
+    regs: &mut [u32],
+) -> Progress
+    requires { Startable offsets.now targets.now starts.now setup marks.old regs.old × (length work.old ≡ setup.workers * setup.stretch) }
+    ensures { Started offsets.now targets.now starts.now setup marks.new work.new regs.new result }
+{
+    let s = &mut work[..setup.stretch];
+    start_stretch(offsets, targets, starts, setup, marks, s, regs)
+}
+
+// The same, and the tallies are cleared here.
+pub fn afresh(
     offsets: &[u32],
     targets: &[u32],
     starts: &[u32],
@@ -115,6 +132,5 @@ pub fn start(
     ensures tallies_after { tallies.new ≡ replicate (length tallies.old) 0 }
 {
     tallies.fill(0);
-    let s = &mut work[..setup.stretch];
-    start_stretch(offsets, targets, starts, setup, marks, s, regs)
+    start(offsets, targets, starts, setup, marks, work, regs)
 }

@@ -1,11 +1,10 @@
 -- SPECIFICATION 1 and 2: the kinds of records in the code, and their numbers.
-use Rattle.std.specs.Prelude.{ℕ, zero, suc, Option, None, Some, Result, Ok, Err}
+use Rattle.std.specs.Prelude.{ℕ, zero, suc, Result, Ok, Err}
 use Rattle.refusal.specs.declared.Refusal.{Refusal}
 use Rattle.refusal.specs.declared.Refusal.TheVariants.{Kind as kind_refusal}
 use Rattle.records.specs.declared.Kind.{Kind}
 use Rattle.records.specs.declared.Kind.TheVariants.{Header, Object, Reference, Lease, Subject}
 use Rattle.records.specs.Layout.{header, object, reference, lease, subject}
-use Rattle.records.specs.Reading.{nothing}
 
 -- the number of a kind
 abbrev pub kind_number : Kind → ℕ
@@ -24,8 +23,3 @@ decoded (suc (suc (suc zero))) = Ok Reference
 decoded (suc (suc (suc (suc zero)))) = Ok Lease
 decoded (suc (suc (suc (suc (suc zero))))) = Ok Subject
 decoded (suc (suc (suc (suc (suc (suc k)))))) = Err kind_refusal
-
--- the number of what is due: a kind, or nothing more
-abbrev pub due_number : Option Kind → ℕ
-due_number None = nothing
-due_number (Some kind) = kind_number kind

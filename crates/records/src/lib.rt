@@ -18,6 +18,10 @@ pub enum Kind {
     Subject,
 }
 
+// What is due behind the most leases: no kind.
+// Stays (1): it is the number of no kind, and what is due may be any number.
+pub const NOTHING: u16 = 0;
+
 // The length of a header's record, of an object's, a reference's or a subject's, and of a lease's.
 pub const HEADER_LENGTH: usize = 16;
 

@@ -17,8 +17,8 @@ slice_bounds-registers-end c = let e = c.in_ok-setup.ensures in registers_room e
 pub slice_bounds-regs-end : goal.slice_bounds-regs-end
 slice_bounds-regs-end c = let e = c.in_ok-setup.ensures in registers_long e.setup_is (passed e.finds)
 
-pub start-begun-requires : goal.start-begun-requires
-start-begun-requires c =
+pub afresh-begun-requires : goal.afresh-begun-requires
+afresh-begun-requires c =
     let e = c.in_ok-setup.ensures in
     let f = rw c.lent-lengths.ensures at e.finds in
     let x = runnable e.setup_is c.args.marks.now c.args.work.now c.args.tallies.now (passed f) in
@@ -29,14 +29,14 @@ take_turns-p-requires c =
     let e = c.in_ok-setup.ensures in
     let f = rw c.lent-lengths.ensures at e.finds in
     let x = runnable e.setup_is c.args.marks.now c.args.work.now c.args.tallies.now (passed f) in
-    turns_ready x e.setup_is c.start-begun.ensures.started c.start-begun.ensures.tallies_after (omega arith)
+    turns_ready x e.setup_is c.afresh-begun.ensures.started c.afresh-begun.ensures.tallies_after (omega arith)
 
 pub settle-requires : goal.settle-requires
 settle-requires c =
     let e = c.in_ok-setup.ensures in
     let f = rw c.lent-lengths.ensures at e.finds in
     let x = runnable e.setup_is c.args.marks.now c.args.work.now c.args.tallies.now (passed f) in
-    let r = turns_ready x e.setup_is c.start-begun.ensures.started c.start-begun.ensures.tallies_after (omega arith) in
+    let r = turns_ready x e.setup_is c.afresh-begun.ensures.started c.afresh-begun.ensures.tallies_after (omega arith) in
     settle_ready r (c.take_turns-p.ensures r)
 
 pub save-requires : goal.save-requires
@@ -45,7 +45,7 @@ save-requires c =
     let e = c.in_ok-setup.ensures in
     let f = rw c.lent-lengths.ensures at e.finds in
     let x = runnable e.setup_is c.args.marks.now c.args.work.now c.args.tallies.now (passed f) in
-    let r = turns_ready x e.setup_is c.start-begun.ensures.started c.start-begun.ensures.tallies_after (omega arith) in
+    let r = turns_ready x e.setup_is c.afresh-begun.ensures.started c.afresh-begun.ensures.tallies_after (omega arith) in
     rw e.setup_is (begin_savable (passed f) (run_leaves x e.setup_is (leaves r (c.take_turns-p.ensures r) c.settle.ensures)))
 
 pub answer-requires : goal.answer-requires
@@ -54,7 +54,7 @@ answer-requires c =
     let e = c.in_ok-setup.ensures in
     let f = rw c.lent-lengths.ensures at e.finds in
     let x = runnable e.setup_is c.args.marks.now c.args.work.now c.args.tallies.now (passed f) in
-    let r = turns_ready x e.setup_is c.start-begun.ensures.started c.start-begun.ensures.tallies_after (omega arith) in
+    let r = turns_ready x e.setup_is c.afresh-begun.ensures.started c.afresh-begun.ensures.tallies_after (omega arith) in
     (leaves r (c.take_turns-p.ensures r) c.settle.ensures).countable
 
 pub returns : goal.returns
@@ -63,5 +63,5 @@ returns c =
     let e = c.in_ok-setup.ensures in
     let f = rw c.lent-lengths.ensures at e.finds in
     let x = runnable e.setup_is c.args.marks.now c.args.work.now c.args.tallies.now (passed f) in
-    let r = turns_ready x e.setup_is c.start-begun.ensures.started c.start-begun.ensures.tallies_after (omega arith) in
+    let r = turns_ready x e.setup_is c.afresh-begun.ensures.started c.afresh-begun.ensures.tallies_after (omega arith) in
     begun_fine f (run_leaves x e.setup_is (leaves r (c.take_turns-p.ensures r) c.settle.ensures)) e.setup_is c.save.ensures c.answer.ensures

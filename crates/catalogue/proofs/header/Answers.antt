@@ -13,14 +13,14 @@ returns-in_err-record_fault c =
     let b = c.args.bytes.now in
     let r = c.in_err-record_fault.field-0.0 in
     rw (passed_on c.from_residual.result r c.from_residual.ensures.1)
-    (header_refused r (record_fault header_kind (n_field b) b) b (c.in_err-record_fault.ensures ∙ header_any 0 (n_field b) b))
+    (header_refused r (record_fault header_kind (n_field b) b) b ((rw c.from.ensures at c.in_err-record_fault.ensures) ∙ header_any 0 (n_field b) b))
 
 pub header_of-requires : goal.header_of-requires
-header_of-requires c = (good_header_record 0 _ (sym c.in_ok-record_fault.ensures)).frame.long
+header_of-requires c = (good_header_record 0 _ (sym (rw c.from.ensures at c.in_ok-record_fault.ensures))).frame.long
 
 pub returns : goal.returns
 unfolding header_row
 returns c =
     let b = c.args.bytes.now in
     let h = c.header_of.ensures in
-    rw (header_any (n_field b) 0 b ∙ sym c.in_ok-record_fault.ensures, h.n_is, h.m_is, h.index_is)
+    rw (header_any (n_field b) 0 b ∙ sym (rw c.from.ensures at c.in_ok-record_fault.ensures), h.n_is, h.m_is, h.index_is)

@@ -3,4 +3,4 @@ use Rattle.graph.proofs.View.{view_found}
 use Rattle.graph.proofs.references.Goals as goal
 
 pub returns : goal.returns
-returns c = view_found (c.part_of.ensures c.args.targets.now refl)
+returns c = view_found (c.part_of-part.ensures c.args.targets.now refl)

@@ -19,8 +19,8 @@ slice_bounds-registers-end c = let e = c.in_ok-setup.ensures in registers_room e
 pub slice_bounds-regs-end : goal.slice_bounds-regs-end
 slice_bounds-regs-end c = let e = c.in_ok-setup.ensures in registers_long e.setup_is (passed e.finds)
 
-pub start-progress-requires : goal.start-progress-requires
-start-progress-requires c =
+pub afresh-progress-requires : goal.afresh-progress-requires
+afresh-progress-requires c =
     let a = c.args in
     let e = c.in_ok-setup.ensures in
     let f = finds_whole (call_of a.offsets.now a.targets.now a.starts.now a.settings []) e.finds in
@@ -33,7 +33,7 @@ take_all-p-requires c =
     let e = c.in_ok-setup.ensures in
     let call = call_of a.offsets.now a.targets.now a.starts.now a.settings [] in
     let x = runnable e.setup_is a.marks.now a.work.now a.tallies.now (passed (finds_whole call e.finds)) in
-    begun_ready call x e.setup_is c.start-progress.ensures.started c.start-progress.ensures.tallies_after
+    begun_ready call x e.setup_is c.afresh-progress.ensures.started c.afresh-progress.ensures.tallies_after
 
 pub settle-requires : goal.settle-requires
 settle-requires c =
@@ -41,7 +41,7 @@ settle-requires c =
     let e = c.in_ok-setup.ensures in
     let call = call_of a.offsets.now a.targets.now a.starts.now a.settings [] in
     let x = runnable e.setup_is a.marks.now a.work.now a.tallies.now (passed (finds_whole call e.finds)) in
-    whole_settle call x e.setup_is c.start-progress.ensures.started c.start-progress.ensures.tallies_after c.take_all-p.ensures
+    whole_settle call x e.setup_is c.afresh-progress.ensures.started c.afresh-progress.ensures.tallies_after c.take_all-p.ensures
 
 pub answer-requires : goal.answer-requires
 answer-requires c =
@@ -49,7 +49,7 @@ answer-requires c =
     let e = c.in_ok-setup.ensures in
     let call = call_of a.offsets.now a.targets.now a.starts.now a.settings [] in
     let x = runnable e.setup_is a.marks.now a.work.now a.tallies.now (passed (finds_whole call e.finds)) in
-    let r = whole_runs call x e.setup_is c.start-progress.ensures.started c.start-progress.ensures.tallies_after c.take_all-p.ensures c.settle.ensures in
+    let r = whole_runs call x e.setup_is c.afresh-progress.ensures.started c.afresh-progress.ensures.tallies_after c.take_all-p.ensures c.settle.ensures in
     rw e.setup_is r.countable
 
 pub returns : goal.returns
@@ -58,5 +58,5 @@ returns c =
     let e = c.in_ok-setup.ensures in
     let call = call_of a.offsets.now a.targets.now a.starts.now a.settings [] in
     let x = runnable e.setup_is a.marks.now a.work.now a.tallies.now (passed (finds_whole call e.finds)) in
-    let r = whole_runs call x e.setup_is c.start-progress.ensures.started c.start-progress.ensures.tallies_after c.take_all-p.ensures c.settle.ensures in
+    let r = whole_runs call x e.setup_is c.afresh-progress.ensures.started c.afresh-progress.ensures.tallies_after c.take_all-p.ensures c.settle.ensures in
     all_fine call e.finds r e.setup_is c.answer.ensures

@@ -10,8 +10,8 @@ slice_bounds-registers-end c = let e = c.in_ok-setup.ensures in registers_room e
 pub slice_bounds-regs-end : goal.slice_bounds-regs-end
 slice_bounds-regs-end c = let e = c.in_ok-setup.ensures in registers_long e.setup_is (passed e.finds)
 
-pub start-begun-requires : goal.start-begun-requires
-start-begun-requires c =
+pub afresh-begun-requires : goal.afresh-begun-requires
+afresh-begun-requires c =
     let e = c.in_ok-setup.ensures in
     let x = runnable e.setup_is c.args.marks.now c.args.work.now c.args.tallies.now (passed e.finds) in
     (start_ready x e.setup_is, work_long x e.setup_is)
@@ -20,13 +20,13 @@ pub take_turns-p-requires : goal.take_turns-p-requires
 take_turns-p-requires c =
     let e = c.in_ok-setup.ensures in
     let x = runnable e.setup_is c.args.marks.now c.args.work.now c.args.tallies.now (passed e.finds) in
-    turns_ready x e.setup_is c.start-begun.ensures.started c.start-begun.ensures.tallies_after (omega arith)
+    turns_ready x e.setup_is c.afresh-begun.ensures.started c.afresh-begun.ensures.tallies_after (omega arith)
 
 pub settle-requires : goal.settle-requires
 settle-requires c =
     let e = c.in_ok-setup.ensures in
     let x = runnable e.setup_is c.args.marks.now c.args.work.now c.args.tallies.now (passed e.finds) in
-    let r = turns_ready x e.setup_is c.start-begun.ensures.started c.start-begun.ensures.tallies_after (omega arith) in
+    let r = turns_ready x e.setup_is c.afresh-begun.ensures.started c.afresh-begun.ensures.tallies_after (omega arith) in
     settle_ready r (c.take_turns-p.ensures r)
 
 pub answer-requires : goal.answer-requires
@@ -34,7 +34,7 @@ unfolding turns_ready
 answer-requires c =
     let e = c.in_ok-setup.ensures in
     let x = runnable e.setup_is c.args.marks.now c.args.work.now c.args.tallies.now (passed e.finds) in
-    let r = turns_ready x e.setup_is c.start-begun.ensures.started c.start-begun.ensures.tallies_after (omega arith) in
+    let r = turns_ready x e.setup_is c.afresh-begun.ensures.started c.afresh-begun.ensures.tallies_after (omega arith) in
     (leaves r (c.take_turns-p.ensures r) c.settle.ensures).countable
 
 pub returns : goal.returns
@@ -42,5 +42,5 @@ unfolding turns_ready
 returns c =
     let e = c.in_ok-setup.ensures in
     let x = runnable e.setup_is c.args.marks.now c.args.work.now c.args.tallies.now (passed e.finds) in
-    let r = turns_ready x e.setup_is c.start-begun.ensures.started c.start-begun.ensures.tallies_after (omega arith) in
+    let r = turns_ready x e.setup_is c.afresh-begun.ensures.started c.afresh-begun.ensures.tallies_after (omega arith) in
     answered_fine e.finds (run_leaves x e.setup_is (leaves r (c.take_turns-p.ensures r) c.settle.ensures)) e.setup_is c.answer.ensures

@@ -12,12 +12,12 @@ returns-in_err-fault_at c =
     let r = c.in_err-fault_at.field-0.0 in
     rw (passed_on c.from_residual.result r c.from_residual.ensures.1)
     (checking_fault c.loop-i.invariant c.loop-i-test.true r
-    (c.in_err-fault_at.ensures ∙ ap (λ (due : ℕ). record_fault due c.args.n (drop c.loop-i.at c.args.bytes.now)) c.due_at.ensures))
+    (c.in_err-fault_at.ensures ∙ ap (λ (due : ℕ). record_fault due c.args.n (drop c.loop-i.at c.args.bytes.now)) (c.from.ensures ∙ c.due_at.ensures)))
 
 pub loop-i-preserved : goal.loop-i-preserved
 loop-i-preserved c =
     checking_next c.loop-i.invariant c.loop-i-test.true
-    (sym (c.in_ok-fault_at.ensures ∙ ap (λ (due : ℕ). record_fault due c.args.n (drop c.loop-i.at c.args.bytes.now)) c.due_at.ensures))
+    (sym (c.in_ok-fault_at.ensures ∙ ap (λ (due : ℕ). record_fault due c.args.n (drop c.loop-i.at c.args.bytes.now)) (c.from.ensures ∙ c.due_at.ensures)))
 
 pub returns : goal.returns
 returns c = c.leases_fault.ensures ∙ checking_end c.loop-i.invariant c.loop-i-test.false
