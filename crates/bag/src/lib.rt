@@ -87,10 +87,9 @@ impl Bag {
         requires { Joinable links.old self.old other.old }
         ensures { Joins links.old self.old other.old links.new self.new other.new }
     {
-        let theirs = std::mem::replace(other, Bag::EMPTY);
         let mut carry = None;
-        let mut rest = theirs.size;
-        for (k, slot) in theirs.slots.iter().enumerate() {
+        let mut rest = other.size;
+        for (k, slot) in other.slots.iter().enumerate() {
             if rest == 0 && carry.is_none() {
                 break;
             }
@@ -99,6 +98,7 @@ impl Bag {
             carry = sum.carry;
             rest /= 2;
         }
-        self.size += theirs.size;
+        self.size += other.size;
+        *other = Bag::EMPTY;
     }
 }
