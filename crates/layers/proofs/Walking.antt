@@ -11,7 +11,6 @@ use lib.Seq.{get_or-set_same, get_or-set_other}
 use Rattle.laws.specs.Sum.{sum, hit}
 use Rattle.laws.proofs.Sum.{hit_same, sum_append}
 use Rattle.graph.specs.Graph.{Graph}
-use Rattle.graph.specs.Limits.{most_objects}
 use Rattle.bag.specs.declared.Bag.{Bag}
 use Rattle.bag.specs.Bag.{slot_count, Same, times, left_of, right_of, tree_of}
 use Rattle.layers.specs.Search.{leads_to, Grown, Walkable, Apart}
@@ -114,9 +113,6 @@ module _ {G : Graph} {hop height x : ℕ} {H₀ L₀ : List ℕ} {S₀ : Bag}
     among : 0 < times at (tree_of height L₀ x)
     unfolding left
     among = omega (arith, p.all (hit at), in_hand (hit at), hit_same at)
-
-    pub at_low : at < most_objects
-    at_low = omega (arith, pre.1.inside at among, pre.0.growable.few)
 
     pub at_links : 2 * at + 1 < length L
     at_links = omega (arith, pre.1.inside at among, p.grown.links_long, pre.0.growable.linked)

@@ -147,3 +147,20 @@ printed o at w v stop {k} {left} {out} e h b none =
       fits = omega arith;
       holds = p ∙ rw (take-set-le at o (at + w) stop (omega arith), d, j, append_assoc (decimal v));
     }
+
+-- ---- a number whose width is known, without a loop
+
+-- the last k digits of a number, written before the place at + k
+unfoldable pub down_from : ℕ → ℕ → ℕ → List ℕ → List ℕ
+down_from zero at left out = out
+down_from (suc k) at left out = down_from k at (left / 10) (set out (at + k) (48 + left % 10))
+
+down_printed : (o : List ℕ) (at w v stop k : ℕ) {left : ℕ} {out : List ℕ} → length (decimal v) ≡ w → at + w < length o
+    → Printing (set o (at + w) stop) at w v k left out → Put o at (stopped (decimal v) stop) (down_from k at left out) (at + w + 1)
+unfolding down_from
+down_printed o at w v stop zero e h a = printed o at w v stop e h a (omega arith)
+down_printed o at w v stop (suc k) e h a = down_printed o at w v stop k e h (printing_suc a)
+
+pub straight : (w : ℕ) (o : List ℕ) (at v stop : ℕ) → length (decimal v) ≡ w → at + w < length o
+    → Put o at (stopped (decimal v) stop) (down_from w at v (set o (at + w) stop)) (at + w + 1)
+straight w o at v stop e h = down_printed o at w v stop w e h (printing_start (set o (at + w) stop) at w v e (rw length-set h))

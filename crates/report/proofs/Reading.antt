@@ -2,9 +2,9 @@
 -- what it accepts passes the marker's checks and the sweep's.
 use mathlib.Core.Path.{◌≡◌, refl, sym, ap, subst, ◌∙◌}
 use mathlib.Core.List.{List}
-use Prim.Native.Nat.{ℕ, zero, suc, ◌+◌, ◌-◌, ◌<◌}
+use Prim.Native.Nat.{ℕ, zero, suc, ◌+◌, ◌-◌, ◌≤◌, ◌<◌}
 use native.Mathlib.Omega.{arith}
-use lib.ListN.{length, take, replicate}
+use lib.ListN.{length, take, replicate, length-append}
 use lib.Seq.{take-append_seam}
 use borrow.Author.Tests.{eq-eqb}
 use Rattle.refusal.specs.declared.Refusal.{Refusal}
@@ -69,6 +69,11 @@ module _ {b order o t s w : List ℕ} {page : Page} (ready : Readable b order o 
           let es = d.sizes_are ∙ ap (λ (y : Reading). sizes_after y s) whole in
           let ew = d.starts_are ∙ ap (λ (y : Reading). starts_after y w) whole in
           rw (eo, et, es, ew, clean.1, take-append_seam (starts_of (store_of b)) (replicate (most_starts - length (starts_of (store_of b))) 0))
+
+      pub starts_fit : x.starts ≤ length w'
+      starts_fit =
+          let ew = d.starts_are ∙ ap (λ (y : Reading). starts_after y w) whole in
+          rw (ew, clean.1, length-append) (omega arith)
 
       pub due_read : order_text (contents o' t' s' (take x.starts w')) order ≡ later_text b order
       due_read = ap (λ (y : Contents). order_text y order) same ∙ rw clean.0

@@ -69,11 +69,11 @@ module _ {N : Names} {T : Texts} {k start i : ℕ} (c : CountingTexts N T k star
     pub texts_few : k + m ≤ get_or T.ends i 0
     texts_few = omega (arith, c.few, few, text_long T.bytes T.ends start i c.right h, text_order T.bytes T.ends start i c.right h)
 
-    pub texts_on : m ≡ length (mentions N (text_at T.bytes T.ends start i)) → CountingTexts N T (k + m) (get_or T.ends i 0) (i + 1)
-    texts_on x =
+    pub texts_on : {k' : ℕ} → m ≡ length (mentions N (text_at T.bytes T.ends start i)) → k' ≡ k + m → CountingTexts N T k' (get_or T.ends i 0) (i + 1)
+    texts_on x y =
         let e = ap (λ (l : List (List ℕ)). targets N l) (texts_at T.bytes T.ends start i h) ∙ targets_cons N _ _ in
         record {
-          few = texts_few;
+          few = omega (arith, texts_few);
           right = (ends_at T.ends start (length T.bytes) i h c.right).1;
           left =
               omega (

@@ -59,8 +59,8 @@ pub record PuttingTexts (N : Names) (T : Texts) (fs ts fs' ts' : List ℕ) (top 
   pub fput : Put fs 0 fdone fs' top
   pub tput : Put ts 0 tdone ts' top
 
-module _ {N : Names} {T : Texts} {fs ts fs' ts' : List ℕ} {top start i : ℕ} (c : PuttingTexts N T fs ts fs' ts' top start i) (p : Puttable N T fs ts) where
-  module _ (h : i < length T.ends) where
+module _ {N : Names} {T : Texts} {fs ts fs' ts' : List ℕ} {top start i : ℕ} (c : PuttingTexts N T fs ts fs' ts' top start i) where
+  module _ (p : Puttable N T fs ts) (h : i < length T.ends) where
     abbrev text : List ℕ
     text = text_at T.bytes T.ends start i
 
@@ -109,8 +109,8 @@ module _ {N : Names} {T : Texts} {fs ts fs' ts' : List ℕ} {top start i : ℕ} 
           tput = then c.tput (as_text whole x.targets);
         }
 
-  pub texts_put : length T.ends ≤ i → PutAll N T fs' ts'
-  texts_put h =
+  pub texts_put : length fs ≡ length (to N T) → length ts ≡ length (to N T) → length T.ends ≤ i → PutAll N T fs' ts'
+  texts_put kf kt h =
       let e = texts_end T.bytes T.ends start i h in
       let f : c.fdone ≡ from N T =
       sym (append-nil c.fdone)
@@ -126,7 +126,7 @@ module _ {N : Names} {T : Texts} {fs ts fs' ts' : List ℕ} {top start i : ℕ} 
       let a = c.fput.ends in
       let b = c.tput.ends in
       let k = ap length t in
-      record { sources = whole c.fput (omega (arith, p.room)) ∙ f; targets = whole c.tput (omega (arith, p.alike)) ∙ t }
+      record { sources = whole c.fput (omega arith) ∙ f; targets = whole c.tput (omega arith) ∙ t }
     where
       -- a list that is written whole is what was written
       whole : {before text after : List ℕ} {end : ℕ} → Put before 0 text after end → end ≡ length before → after ≡ text

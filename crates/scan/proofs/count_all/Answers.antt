@@ -18,7 +18,7 @@ loop-end-preserved c =
     let m = c.mentions.ensures in
     let n : c.count-count.result ≡ length c.mentions.result =
     count_from_yields_List c.mentions.result c.count-count.result c.count-count.ensures.ran (YieldsList-from_first (λ x. x) (λ m. m) _ refl) in
-    texts_on c.loop-end.invariant c.loop-end-test.true (omega (arith, n, m.few)) (n ∙ ap length m.all)
+    texts_on c.loop-end.invariant c.loop-end-test.true (omega (arith, n, m.few)) (n ∙ ap length m.all) (omega arith)
 
 pub returns : goal.returns
 returns c = texts_done c.loop-end.invariant c.loop-end-test.false

@@ -66,4 +66,4 @@ returns c =
     zip_end c.args.texts.now.ends.now c.args.texts.now.owners.now c.loop-end.yielded c.into_iter-end-iterator.result c.loop-end.end-iterator c.next.new.self c.next.result (cc) (cc)
     c.loop-end.yielded_by c.in-None.is c.next.ensures.steps
     in
-    texts_put c.loop-end.invariant c.requires (omega (arith, e, c.requires.owned))
+    texts_put c.loop-end.invariant c.requires.room c.requires.alike (omega (arith, e, c.requires.owned))
