@@ -1,4 +1,5 @@
 -- `parse::head_of`: one law of `Heads` for each way out.
+use Rattle.std.proofs.Common.{arith}
 use Rattle.matrix.specs.Layout.{banner}
 use Rattle.matrix.proofs.Heads.{begun, head_banner, head_rows, head_columns, head_entries, head_square, head_of}
 use Rattle.parse.proofs.head_of.Goals as goal
@@ -20,8 +21,8 @@ returns-in_err-entries c =
 
 pub returns-then-rows-columns : goal.returns-then-rows-columns
 returns-then-rows-columns c =
-    head_square _ _ (begun banner _ c.starts_with.ensures.value c.if-not-starts_with.false) c.skip_lines-counts.ensures.text_value c.in_ok-rows.ensures c.in_ok-columns.ensures c.in_ok-entries.ensures c.if-rows-columns.true
+    head_square _ _ (begun banner _ c.starts_with.ensures.value c.if-not-starts_with.false) c.skip_lines-counts.ensures.text_value c.in_ok-rows.ensures c.in_ok-columns.ensures c.in_ok-entries.ensures (omega (arith, c.if-rows-columns.true))
 
 pub returns : goal.returns
 returns c =
-    head_of _ _ (begun banner _ c.starts_with.ensures.value c.if-not-starts_with.false) c.skip_lines-counts.ensures.text_value c.in_ok-rows.ensures c.in_ok-columns.ensures c.in_ok-entries.ensures c.if-rows-columns.false
+    head_of _ _ (begun banner _ c.starts_with.ensures.value c.if-not-starts_with.false) c.skip_lines-counts.ensures.text_value c.in_ok-rows.ensures c.in_ok-columns.ensures c.in_ok-entries.ensures (omega (arith, c.if-rows-columns.false))
