@@ -37,6 +37,7 @@ impl<const N: usize> Rounds for [[u8; N]; 720] {
 
     ghost right = { λ all. all ≡ rounds (N / 2) };
 
+    #[tactic(auto, using(crate::proofs::Rounds::row_long))]
     fn put_round(&self, card: u32, schedule: &mut [u8], at: usize) -> usize {
         text::put(schedule, at, &self[card as usize])
     }

@@ -1,8 +1,7 @@
-use Rattle.cards.proofs.Rounds.{row_room, row_put}
+-- A round is written whole, or in two parts: either serves.
+use Rattle.std.proofs.Common.{rules}
+use Rattle.cards.proofs.Rounds.{row_put, parts}
 use Rattle.cards.proofs.hand.ArrayArrayU8720Rounds.put_round.Goals as goal
 
-pub put-requires : goal.put-requires
-put-requires g c = row_room c.requires.roomy c.requires.right
-
 pub returns : goal.returns
-returns g c = row_put c.requires.roomy c.requires.right c.put.ensures
+returns g c = search (rules, row_put, parts)
