@@ -7,7 +7,6 @@ use native.Mathlib.Decide.{dec_lt}
 use Rattle.laws.proofs.Sum.{hit_same}
 use Rattle.laws.proofs.Test.{tested}
 use Rattle.slices.specs.Bits.{bit, Inserts, word_bits}
-use Rattle.names.specs.Names.{Names}
 use Rattle.names.specs.Call.{work_word_count}
 use Rattle.lookup.specs.Index.{tail_bytes, tail_values, tail_at, Indexed, KeepsSet}
 use Rattle.lookup.proofs.Tails.{tail_low}
@@ -62,38 +61,38 @@ keeps_part index hints n e l =
 -- ---- the tails
 
 -- those of the first k names
-pub record IndexedTo (N : Names) (k : ℕ) (index : List ℕ) : Type 0 where
+pub record IndexedTo (names : List ℕ) (w k : ℕ) (index : List ℕ) : Type 0 where
   pub long : length index ≡ work_word_count
-  pub kept : (j : ℕ) → j < k → bit index (tail_at N.bytes (j * N.width + N.width - tail_bytes)) ≡ 1
+  pub kept : (j : ℕ) → j < k → bit index (tail_at names (j * w + w - tail_bytes)) ≡ 1
 
-pub indexed_next : {N : Names} {k : ℕ} {index : List ℕ} → IndexedTo N k index → {v : ℕ} {r : Bool} {index' : List ℕ}
-    → v ≡ tail_at N.bytes (k * N.width + N.width - tail_bytes) → Inserts index v r index' → length index' ≡ length index → IndexedTo N (k + 1) index'
-indexed_next {N} {k} g {v} e x l =
+pub indexed_next : {names : List ℕ} {w k : ℕ} {index : List ℕ} → IndexedTo names w k index → {v : ℕ} {r : Bool} {index' : List ℕ}
+    → v ≡ tail_at names (k * w + w - tail_bytes) → Inserts index v r index' → length index' ≡ length index → IndexedTo names w (k + 1) index'
+indexed_next {names} {w} {k} g {v} e x l =
     record {
       long = omega (arith, l, g.long);
       kept = λ (j : ℕ) (h : j < k + 1).
           by_cases (dec_lt j k)
-          (λ (q : j < k). stays x (tail_at N.bytes (j * N.width + N.width - tail_bytes)) (g.kept j q))
+          (λ (q : j < k). stays x (tail_at names (j * w + w - tail_bytes)) (g.kept j q))
           (λ (q : ¬ (j < k)). let s : j ≡ k = omega arith in rw (s, ← e) (inserted x));
     }
 
 -- what is behind the set may change
-pub indexed_kept : {N : Names} {k : ℕ} {index : List ℕ} → IndexedTo N k index → {index' : List ℕ} → KeepsSet index index'
-    → IndexedTo N k index'
-indexed_kept {N} g s =
+pub indexed_kept : {names : List ℕ} {w k : ℕ} {index : List ℕ} → IndexedTo names w k index → {index' : List ℕ} → KeepsSet index index'
+    → IndexedTo names w k index'
+indexed_kept {names} {w} g s =
     record {
       long = s.long ∙ g.long;
-      kept = λ j h. let p = j * N.width + N.width - tail_bytes in s.same (tail_at N.bytes p) (tail_low N.bytes p) ∙ g.kept j h;
+      kept = λ j h. let p = j * w + w - tail_bytes in s.same (tail_at names p) (tail_low names p) ∙ g.kept j h;
     }
 
-pub hinted : {N : Names} {k : ℕ} {index : List ℕ} → IndexedTo N k index → (i x : ℕ) → tail_values ≤ word_bits * i
-    → IndexedTo N k (set index i x)
+pub hinted : {names : List ℕ} {w k : ℕ} {index : List ℕ} → IndexedTo names w k index → (i x : ℕ) → tail_values ≤ word_bits * i
+    → IndexedTo names w k (set index i x)
 hinted {index = index} g i x h = indexed_kept g (keeps_set index i x h)
 
 -- so is an index once the hints are filled in
-pub filled : {N : Names} {index index' : List ℕ} → Indexed N index → KeepsSet index index' → Indexed N index'
-filled {N} g s =
+pub filled : {names : List ℕ} {w count : ℕ} {index index' : List ℕ} → Indexed names w count index → KeepsSet index index' → Indexed names w count index'
+filled {names} {w} g s =
     record {
       long = s.long ∙ g.long;
-      kept = λ f j h. let p = j * N.width + N.width - tail_bytes in s.same (tail_at N.bytes p) (tail_low N.bytes p) ∙ g.kept f j h;
+      kept = λ f j h. let p = j * w + w - tail_bytes in s.same (tail_at names p) (tail_low names p) ∙ g.kept f j h;
     }

@@ -1,7 +1,6 @@
 -- Tails: below 2^22, moved on by a byte, and those of equal windows.
-use Rattle.std.proofs.Common.{◌≡◌, ℕ, ◌+◌, ◌-◌, ◌*◌, ◌%◌, ◌<◌, ◌≤◌, List, get_or, drop, sym, ap, ◌∙◌, arith, get_or-drop, get_or-take, length-take}
-use Rattle.std.proofs.lemmas.List.{take_all}
-use Rattle.names.specs.Names.{Names, window, name_at}
+use Rattle.std.proofs.Common.{◌≡◌, ℕ, ◌+◌, ◌-◌, ◌*◌, ◌%◌, ◌<◌, ◌≤◌, List, get_or, drop, sym, ap, ◌∙◌, arith, get_or-drop, get_or-take}
+use Rattle.names.specs.Names.{window}
 use Rattle.lookup.specs.Index.{tail_at, tail_bytes, tail_values}
 
 pub tail_low : (bytes : List ℕ) (p : ℕ) → tail_at bytes p < tail_values
@@ -69,9 +68,3 @@ tail_same w a p b q f e =
         let s : p + (w - tail_bytes) + i ≡ p + (w - tail_bytes + i) = omega arith in
         let t : q + (w - tail_bytes) + i ≡ q + (w - tail_bytes + i) = omega arith in
         rw (s, t) (window_at w a p b q e (w - tail_bytes + i) (omega arith))
-
--- the tail of a name, in it and where it stands
-pub tail_name : (N : Names) (k : ℕ) → tail_bytes ≤ N.width → tail_at (name_at N k) (N.width - tail_bytes) ≡ tail_at N.bytes (k * N.width + N.width - tail_bytes)
-tail_name N k h =
-    let z : 0 + N.width - tail_bytes ≡ N.width - tail_bytes = omega arith in
-    rw z at (tail_same N.width (name_at N k) 0 N.bytes (k * N.width) h (take_all N.width (name_at N k) (omega (arith, length-take N.width (drop (k * N.width) N.bytes)))))

@@ -4,7 +4,6 @@ use Rattle.std.specs.Prelude.{◌≡◌, ℕ, ◌+◌, ◌-◌, ◌*◌, ◌/◌
 use Rattle.std.specs.Int.{from_be_bytes, w64}
 use Rattle.laws.specs.Choice.{pick}
 use Rattle.slices.specs.Bits.{bit}
-use Rattle.names.specs.Names.{Names, count}
 use Rattle.names.specs.Call.{work_word_count}
 
 -- how many bytes
@@ -24,10 +23,10 @@ tail_at bytes p =
     + slice_index bytes (p + 7))
     % tail_values
 
--- the tail of each name is in the set, where names have so many bytes
-pub record Indexed (N : Names) (index : List ℕ) : Type 0 where
+-- the tail of each of so many names is in the set, where names have so many bytes
+pub record Indexed (names : List ℕ) (w count : ℕ) (index : List ℕ) : Type 0 where
   pub long : length index ≡ work_word_count
-  pub kept : tail_bytes ≤ N.width → (k : ℕ) → k < count N → bit index (tail_at N.bytes (k * N.width + N.width - tail_bytes)) ≡ 1
+  pub kept : tail_bytes ≤ w → (k : ℕ) → k < count → bit index (tail_at names (k * w + w - tail_bytes)) ≡ 1
 
 -- what is written behind the set changes nothing in it
 pub record KeepsSet (index index' : List ℕ) : Type 0 where

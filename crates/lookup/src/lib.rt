@@ -6,12 +6,10 @@ ghost use Rattle.std.specs.Prelude.{◌≡◌, ◌+◌, ◌*◌, ◌<◌, ◌≤
 ghost use Rattle.laws.specs.Test.{all};
 ghost use Rattle.names.specs.Names.{is_digit, order};
 ghost use Rattle.names.specs.Call.{work_word_count};
-ghost use Rattle.names.specs.Lent.{names_in};
 ghost use Rattle.lookup.specs.Index.{nibble, tail_at, lead_of, Indexed, KeepsSet};
 ghost use Rattle.lookup.specs.Places.{LastOther, Slides, NextPlace};
 ghost use Rattle.lookup.specs.Search.{Searchable, FoundIs};
 
-use names::LentNames;
 use slices::bits;
 use std::cmp::Ordering;
 
@@ -151,18 +149,19 @@ fn stride(before: Option<Turn>, now: Turn, step: usize, left: usize) -> usize {
 
 // The number of the name that a window is.
 // Stays (6): names are lent as bytes end to end, so `binary_search_by` has no slice of names; and the index says where to begin.
-pub fn find(names: &LentNames, index: &[u32], window: &[u8]) -> Option<usize>
-    requires { Searchable (names_in names.now) index.now window.now }
-    ensures { FoundIs (names_in names.now) window.now result }
+pub fn find(names: &[u8], width: usize, count: usize, index: &[u32], window: &[u8]) -> Option<usize>
+    requires { Searchable names.now width count index.now window.now }
+    ensures { FoundIs names.now width count window.now result }
 {
     let mut low: usize = 0;
-    let mut high = names.objects.len();
+    let mut high = count;
     let mut step = guess(index, window);
     let mut turn = None;
     let head = lead(window);
     while low < high {
         let middle = between(low, high, step, turn);
-        let now = match look(window, head, names.name(middle)) {
+        let start = middle * width;
+        let now = match look(window, head, &names[start..start + width]) {
             Ordering::Equal => return Some(middle),
             Ordering::Less => {
                 high = middle;
@@ -260,25 +259,25 @@ fn fill_hints(index: &mut [u32])
 }
 
 // Puts the tails of the names in, and where those that begin alike end.
-fn put_names(names: &LentNames, index: &mut [u32])
-    requires { (length names.now.bytes.now ≡ names.now.width * length names.now.objects.now) × (length index.old ≡ work_word_count) × (8 ≤ names.now.width) }
-    ensures { Indexed (names_in names.now) index.new }
+fn put_names(names: &[u8], width: usize, count: usize, index: &mut [u32])
+    requires { (length names.now ≡ width * count) × (length index.old ≡ work_word_count) × (8 ≤ width) }
+    ensures { Indexed names.now width count index.new }
 {
-    for k in 0..names.objects.len() {
-        let name = names.name(k);
-        let at = BITS + 1 + three(name, 0) as usize;
+    for k in 0..count {
+        let start = k * width;
+        let at = BITS + 1 + three(names, start) as usize;
         index[at] = ((k + 1) % 4294967296) as u32;
-        bits::insert(index, tail(name, name.len() - TAIL));
+        bits::insert(index, tail(names, start + width - TAIL));
     }
 }
 
 // The index of names.
-pub fn put_index(names: &LentNames, index: &mut [u32])
-    requires { (length names.now.bytes.now ≡ names.now.width * length names.now.objects.now) × (length index.old ≡ work_word_count) }
-    ensures { Indexed (names_in names.now) index.new }
+pub fn put_index(names: &[u8], width: usize, count: usize, index: &mut [u32])
+    requires { (length names.now ≡ width * count) × (length index.old ≡ work_word_count) }
+    ensures { Indexed names.now width count index.new }
 {
-    if TAIL <= names.width {
-        put_names(names, index);
+    if TAIL <= width {
+        put_names(names, width, count, index);
         fill_hints(index);
     }
 }

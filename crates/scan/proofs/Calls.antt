@@ -40,7 +40,7 @@ module _ (N : Names) (h : ascending N ≡ true) where
       (later_below i d (omega arith)) (next_below (i + suc d) (omega arith)))
 
   -- each name is below every later one
-  ascending_all : Ascends N
+  ascending_all : Ascends N.bytes N.width (count N)
   ascending_all i j l g = let e : i + suc (j - suc i) ≡ j = omega arith in rw e at (later_below i (j - suc i) (omega arith))
 
 digits_at_lem : (l : List ℕ) → all is_digit l ≡ true → (i : ℕ) → i < length l → is_digit (get_or l i 0) ≡ true
@@ -51,7 +51,7 @@ digits_at_lem (b ∷ l) h (suc i) g = digits_at_lem l (both_true (is_digit b) (a
 
 -- ---- no check fails
 
-pub ready : {N : Names} {T : Texts} → Sound N T → {index : List ℕ} → Indexed N index → Ready N index
+pub ready : {N : Names} {T : Texts} → Sound N T → {index : List ℕ} → Indexed N.bytes N.width (count N) index → Ready N index
 ready {N} s x =
     record {
       some = s.some;

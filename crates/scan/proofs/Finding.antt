@@ -20,7 +20,7 @@ module _ {N : Names} {index : List ℕ} (r : Ready N index) where
       let some = r.some in
       let fits = name_fits k w (count N) h r.long in
       record {
-        inside = omega (arith, ap length e, name_long N k h r.long, length-take w (drop p text), length-drop p text);
+        inside = omega (arith, ap length e, name_long k w (count N) N.bytes h r.long, length-take w (drop p text), length-drop p text);
         digits = λ (q : ℕ) (a : p ≤ q) (b : q < p + N.width).
             let s : p + (q - p) ≡ q = omega arith in
             let f = window_at N.width text p N.bytes (k * N.width) e (q - p) (omega arith) in
@@ -70,7 +70,7 @@ module _ {N : Names} {index : List ℕ} (r : Ready N index) {text : List ℕ} {f
     there : mentions N (drop from text) ≡ named N (window N.width text p) ++ mentions N (drop (suc p) text)
     there = let f = x.fits in let w = r.some in passed x.low (omega arith) x.barren ∙ mentions_at N text p (omega arith)
 
-    pub seek_one : (k : ℕ) → FoundIs N (take (p + N.width - p) (drop p text)) (Some k) → Is N text from (record { place = p; object = get_or N.objects k 0 })
+    pub seek_one : (k : ℕ) → FoundIs N.bytes N.width (count N) (take (p + N.width - p) (drop p text)) (Some k) → Is N text from (record { place = p; object = get_or N.objects k 0 })
     seek_one k f =
         let e : p + N.width - p ≡ N.width = omega arith in
         record {
@@ -79,7 +79,7 @@ module _ {N : Names} {index : List ℕ} (r : Ready N index) {text : List ℕ} {f
           some = there ∙ rw (found_one r (window N.width text p) k f.0 (rw e at f.1));
         }
 
-    pub seek_on : FoundIs N (take (p + N.width - p) (drop p text)) None → Seeking N text from (p + 1) (p + N.width)
+    pub seek_on : FoundIs N.bytes N.width (count N) (take (p + N.width - p) (drop p text)) None → Seeking N text from (p + 1) (p + N.width)
     seek_on f =
         let e : p + N.width - p ≡ N.width = omega arith in
         let w = r.some in

@@ -13,9 +13,9 @@ use Rattle.scan.specs.declared.passes.Mention.{Mention}
 pub record Ready (N : Names) (index : List ℕ) : Type 0 where
   pub some : 0 < N.width
   pub long : length N.bytes ≡ N.width * count N
-  pub ascends : Ascends N
+  pub ascends : Ascends N.bytes N.width (count N)
   pub digits : (i : ℕ) → i < length N.bytes → is_digit (get_or N.bytes i 0) ≡ true
-  pub indexed : Indexed N index
+  pub indexed : Indexed N.bytes N.width (count N) index
 
 -- the first mention of a text from a place on
 pub record Is (N : Names) (text : List ℕ) (at : ℕ) (m : Mention) : Type 0 where

@@ -139,7 +139,7 @@ pub fn scan_length(
     ensures work_unchanged { work.new ≡ work.old }
 {
     check(objects, &names, &texts, work)?;
-    lookup::put_index(&names, work);
+    lookup::put_index(names.bytes, names.width, names.objects.len(), work);
     let count = count_all(&Finder::new(names, work), &texts);
     lookup::clear_index(work);
     Ok(count as u64)
@@ -160,7 +160,7 @@ pub fn scan(
     ensures to_after { to.new ≡ to_after objects (names_in names.entry) (texts_in texts.entry) (blank work.old) from.old to.old }
 {
     check(objects, &names, &texts, work)?;
-    lookup::put_index(&names, work);
+    lookup::put_index(names.bytes, names.width, names.objects.len(), work);
     let filled = fill(&Finder::new(names, work), &texts, from, to);
     lookup::clear_index(work);
     filled

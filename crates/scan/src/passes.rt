@@ -58,14 +58,17 @@ impl<'a> Finder<'a> {
         requires { (from ≤ length text.now) × (from ≤ sure) }
         ensures { NextIs self.now text.now from result }
     {
+        let names = &self.names;
+        let count = names.objects.len();
         let mut at = from;
         let mut known = sure;
-        while let Some(place) = lookup::next_place(text, at, known, self.names.width, self.index) {
-            let end = place + self.names.width;
-            if let Some(k) = lookup::find(&self.names, self.index, &text[place..end]) {
+        while let Some(place) = lookup::next_place(text, at, known, names.width, self.index) {
+            let end = place + names.width;
+            let window = &text[place..end];
+            if let Some(k) = lookup::find(names.bytes, names.width, count, self.index, window) {
                 return Some(Mention {
                     place,
-                    object: self.names.objects[k],
+                    object: names.objects[k],
                 });
             }
             at = place + 1;
