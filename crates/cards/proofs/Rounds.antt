@@ -1,5 +1,5 @@
 -- The round of a card, out of those of all cards and by its digits.
-use Rattle.std.proofs.Common.{◌≡◌, List, [], ℕ, ◌*◌, ◌≤◌, ◌<◌, length, get_or, take, drop, take-append-drop, ap, ◌∙◌, arith}
+use Rattle.std.proofs.Common.{◌≡◌, List, [], ℕ, ◌+◌, ◌*◌, ◌≤◌, ◌<◌, length, get_or, take, drop, take-append-drop, ap, ◌∙◌, arith}
 use Rattle.slices.specs.Put.{Put}
 use Rattle.slices.proofs.Written.{as_text, then}
 use Rattle.hands.specs.Deck.{deck, digits, card_workers, deck_size}
@@ -24,8 +24,15 @@ module _ {W c at long : ℕ} (r : Roomy W c at long) where
     row : get_or all c [] ≡ round_of W c
     row = ap (λ l. get_or l c []) e ∙ row_is W c r.known
 
+    long_is : length (get_or all c []) ≡ 2 * W
+    long_is = ap (λ l. length (get_or l c [])) e ∙ row_long W c r.few r.known
+
+    -- so a schedule that has room for a round has room for the row
+    pub row_room : at + length (get_or all c []) ≤ long
+    row_room = omega (arith, long_is, r.room)
+
     pub row_put : {before after : List ℕ} {end : ℕ} → Put before at (get_or all c []) after end → Rounded W c at before after end
-    row_put p = record { put = as_text row p; ends = omega (arith, p.ends, ap (λ l. length (get_or l c [])) e ∙ row_long W c r.few r.known) }
+    row_put p = record { put = as_text row p; ends = omega (arith, p.ends, long_is) }
 
   module _ {cards : List ℕ} (e : cards ≡ deck) where
     pub seatable : Seatable W (digits (get_or cards c 0)) at long
